@@ -1,0 +1,9 @@
+pub mod Difference
+pub mod Ring
+pub mod Order
+pub mod Size
+pub mod Floor
+pub mod Rounding
+pub mod Words
+pub mod Sums
+pub mod Powers
