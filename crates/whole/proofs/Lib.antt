@@ -1,3 +1,4 @@
+pub mod Cases
 pub mod Difference
 pub mod Ring
 pub mod Order

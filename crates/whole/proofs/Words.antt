@@ -2,13 +2,15 @@
 -- of an operation whose result fits is the result on the numbers.
 -- Assumes nothing.
 use mathlib.Core.Path.{_≡_}
+use mathlib.Core.Bool.{false, true≢false}
 use Prim.Native.Nat.{ℕ}
 use native.Mathlib.Nat.{lt-of-le-of-lt}
-use lib.IntN.{ℤ}
-use lib.Signed.{shrZ, mag-shr}
+use lib.Dec.{T, leb}
+use lib.IntN.{ℤ, pos, negsuc}
+use lib.Signed.{shrZ, ltZ, nonNeg, mag-shr}
 use mir.Syntax.{Width}
-use mir.Val.{SFits, toZ, ofZ}
-use mir.Facts.{toZ-ofZ}
+use mir.Val.{SFits, hbits, toZ, ofZ}
+use mir.Facts.{toZ-ofZ, sfits-widen}
 
 -- the bits p are the number x, which fits
 pub record Word (w : Width) (p : ℕ) (x : ℤ) : Type 0 where
@@ -30,3 +32,16 @@ module _ {w : Width} (op : ℤ → ℤ → ℤ) {p q : ℕ} {x y : ℤ} (a : Wor
 -- a shift to the right is the floor division, and always fits
 pub shifted : {w : Width} {p : ℕ} {x : ℤ} (m : ℕ) → Word w p x → Word w (ofZ w (shrZ (toZ w p) m)) (shrZ x m)
 shifted {x = x} m a = rw (a .is) (word (record { sfits = lt-of-le-of-lt (mag-shr x m) (a .fits .sfits) }))
+
+-- a cast to a wider word: what it asks, and what it gives
+module _ {w w′ : Width} (t : T (leb (hbits w) (hbits w′))) {p : ℕ} {x : ℤ} (a : Word w p x) where
+  pub widens : SFits w′ (toZ w p)
+  widens = rw (a .is) (sfits-widen t (a .fits))
+
+  pub widened : Word w′ (ofZ w′ (toZ w p)) x
+  widened = rw (a .is) (word (sfits-widen t (a .fits)))
+
+-- a test of the sign, as a cast to an unsigned word asks it (`fits-natAbs` of the library has the rest)
+pub not-negative : (x : ℤ) → ltZ x (pos 0) ≡ false → T (nonNeg x)
+not-negative (pos n) e = tt
+not-negative (negsuc n) e = true≢false e
