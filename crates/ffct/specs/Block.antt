@@ -1,0 +1,24 @@
+-- Document 01, "What the logger computes": blocks.
+use mathlib.Core.List.{List, [], _∷_}
+use Prim.Native.Nat.{ℕ, _^_, _<_, _≤_}
+use lib.IntN.{ℤ, natAbs}
+
+-- the samples of a block: x n, for n below its length N; x 0 is the sample at the start
+abbrev pub Samples : Type 0
+Samples = ℕ → ℤ
+
+-- "N is the block length: 1, 2, 4, .. 1,024". In the definitions below N is 2 ^ L, and L is the level, 0 .. 10
+abbrev pub lengths : List ℕ
+lengths = 1 ∷ 2 ∷ 4 ∷ 8 ∷ 16 ∷ 32 ∷ 64 ∷ 128 ∷ 256 ∷ 512 ∷ 1024 ∷ []
+
+abbrev pub topLevel : ℕ
+topLevel = 10
+
+-- "A sample x(n) is a whole number .., −1,000,000 to 1,000,000."
+abbrev pub largestSample : ℕ
+largestSample = 1000000
+
+-- "an accepted block": N is one of the eleven lengths, and each of its samples is in range
+pub record AcceptedBlock (L : ℕ) (x : Samples) : Type 0 where
+  pub length : L ≤ topLevel
+  pub range : (n : ℕ) → n < 2 ^ L → natAbs (x n) ≤ largestSample

@@ -1,0 +1,6 @@
+pub mod Block
+pub mod Exact
+pub mod Transforms
+pub mod Counts
+pub mod Limits
+pub mod Examples
