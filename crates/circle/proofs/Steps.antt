@@ -10,12 +10,13 @@ use native.Mathlib.Omega.{arith}
 use lib.Dec.{T}
 use lib.ListN.{length, getD}
 use lib.IntN.{ℤ, pos, negℤ, _+ℤ_, _-ℤ_, _*ℤ_}
+use Rattle.whole.proofs.Cases.{both, both-left, both-right}
 use Rattle.whole.proofs.Difference.{int}
 use Rattle.whole.proofs.Ring.{expand}
 use Rattle.whole.proofs.Size.{_within_, within-eq, within-neg}
 use Rattle.circle.specs.Circle.{B, step, K, sineAt}
 use Rattle.circle.proofs.Wave.{cosines, wave, wave-length, K-wave}
-use Rattle.circle.proofs.Tests.{both, both-left, both-right, small, small-within, entry}
+use Rattle.circle.proofs.Tests.{small, small-within, entry}
 use Rattle.circle.proofs.Places.{mirror, turns-on, half-turn-on}
 
 -- the step's error, in units of B

@@ -12,9 +12,10 @@ use lib.Signed.{shrZ, _<ℤ_}
 use Rattle.whole.proofs.Difference.{int}
 use Rattle.whole.proofs.Size.{within-size}
 use Rattle.whole.proofs.Floor.{nearest-floor, nearest-within}
+use Rattle.whole.proofs.Cases.{both}
 use Rattle.circle.specs.Circle.{step, K, T, IsQuarterWave}
 use Rattle.circle.specs.Laws.{AtEntry}
-use Rattle.circle.proofs.Tests.{both, entry, same, same-at, falls, falling}
+use Rattle.circle.proofs.Tests.{entry, same, same-at, falls, falling}
 use Rattle.circle.proofs.Wave.{cosines, wave, K-wave}
 
 -- the table's rule from K

@@ -9,21 +9,8 @@ use lib.Dec.{T, leb, leb→le, eqb, eqb→eq}
 use lib.ListN.{length, getD}
 use lib.IntN.{ℤ, pos, negsuc, natAbs}
 use lib.Signed.{ltZ, _<ℤ_, ltZ-yes}
+use Rattle.whole.proofs.Cases.{both, both-left, both-right}
 use Rattle.whole.proofs.Size.{_within_, size-within}
-
-unfoldable pub both : Bool → Bool → Bool
-both true b = b
-both false b = false
-
-pub both-left : (a b : Bool) → T (both a b) → T a
-unfolding both
-both-left true b t = tt
-both-left false b t = t
-
-pub both-right : (a b : Bool) → T (both a b) → T b
-unfolding both
-both-right true b t = t
-both-right false b t = absurd t
 
 unfoldable pub small : ℤ → ℕ → Bool
 small z m = leb (natAbs z) m

@@ -9,10 +9,10 @@ use lib.Dec.{T}
 use lib.ListN.{length, getD}
 use lib.IntN.{ℤ, pos, negℤ}
 use borrow.Author.Tests.{lt-ltb, le-ltb}
-use Rattle.whole.proofs.Cases.{le-or-lt}
+use Rattle.whole.proofs.Cases.{le-or-lt, both}
 use Rattle.whole.proofs.Size.{_within_, within-neg}
 use Rattle.circle.specs.Circle.{B, rootOf, halved, Pair, unitStep, step, stepped, quarter, K}
-use Rattle.circle.proofs.Tests.{both, small, entry, allSmall, all-small}
+use Rattle.circle.proofs.Tests.{small, entry, allSmall, all-small}
 use Rattle.circle.proofs.Places.{K-cases, K-quarter}
 
 -- the unit step in digits

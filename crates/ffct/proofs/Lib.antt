@@ -1,1 +1,10 @@
 pub mod Examples
+pub mod Lengths
+pub mod Steps
+pub mod Sums
+pub mod Splits
+pub mod Rotation
+pub mod Near
+pub mod Counts
+pub mod Tables
+pub mod Limits

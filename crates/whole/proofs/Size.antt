@@ -68,6 +68,10 @@ size-mul a b =
     let x = product-parts a b in
     omega (arith, size-parts (a *ℤ b), ap₂ _*_ (size-parts a) (size-parts b))
 
+pub size-int : (n : ℕ) → natAbs (int n) ≡ n
+unfolding int
+size-int n = refl
+
 pub within-mul : {a b : ℤ} {m k : ℕ} → a within m → b within k → a *ℤ b within m * k
 within-mul {a} {b} h l = size-within (a *ℤ b) (rw size-mul (mul-le-mul (within-size h) (within-size l)))
 
@@ -80,13 +84,11 @@ within-trans a b c h l =
 
 -- a common factor is taken out of a bound
 pub within-cancel : (b : ℕ) {z : ℤ} {m : ℕ} → 0 < b → int b *ℤ z within b * m → z within m
-unfolding int
-within-cancel b {z} {m} l h = size-within z (le-of-mul-le-mul-left {k = b} (rw size-mul at (within-size h)) l)
+within-cancel b {z} {m} l h = size-within z (le-of-mul-le-mul-left {k = b} (rw (size-mul, size-int) at (within-size h)) l)
 
 -- a multiple of b that is less than b is 0
 pub within-less : (b : ℕ) {z : ℤ} → 0 < b → int b *ℤ z within b - 1 → z within 0
-unfolding int
-within-less b {z} l h = size-within z (none (natAbs z) (rw size-mul at (within-size h)))
+within-less b {z} l h = size-within z (none (natAbs z) (rw (size-mul, size-int) at (within-size h)))
   where
     none : (n : ℕ) → b * n ≤ b - 1 → n ≤ 0
     none zero u = omega arith

@@ -1,7 +1,8 @@
 -- `circle::quarter_wave` meets its contract: its digits are the list that the rules of document 01 compute. Assumes nothing.
 use borrow.Fn.Function.{resV}
+use Rattle.whole.proofs.Cases.{both}
 use Rattle.circle.specs.Circle.{step}
-use Rattle.circle.proofs.Tests.{both, equal, same}
+use Rattle.circle.proofs.Tests.{equal, same}
 use Rattle.circle.proofs.Wave.{cosines, wave}
 use Rattle.circle.proofs.Stored.{ruled, stored, same-wave}
 use Rattle.circle.proofs.quarter_wave.Statement.{statement}

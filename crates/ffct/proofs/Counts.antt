@@ -1,0 +1,95 @@
+-- The counts that the recursion carries: the length alone decides them, and they are the published closed forms, at all levels and not only the eleven that are accepted
+-- (for Spectrum and Pair from N = 2; at N = 1 they are 0).
+-- Assumes nothing.
+use mathlib.Core.Path.{_≡_, refl, ap}
+use Prim.Native.Nat.{ℕ, zero, suc, _+_, _*_, _^_, _≤_}
+use native.Mathlib.Nat.{pow-succ', pow-le-pow-right}
+use native.Mathlib.Omega.{arith}
+use lib.Dec.{lit<}
+use lib.IntN.{ℤ, pos, _+ℤ_, _-ℤ_, _*ℤ_}
+use lib.Signed.{shrZ}
+use Rattle.whole.proofs.Difference.{parts, int, diff, ⊖-same}
+use Rattle.whole.proofs.Size.{near}
+use Rattle.whole.proofs.Floor.{Floor, floor}
+use Rattle.whole.proofs.Powers.{pow-pos}
+use Rattle.ffct.specs.Block.{Samples}
+use Rattle.ffct.specs.Transforms.{evens, foldedSums, foldedDifferences, rearranged, dctBy, cosineDft, sineDft, dct, spectrum, pair}
+use Rattle.ffct.specs.Counts.{dctProducts, dctSums, spectrumProducts, spectrumSums, pairProducts, pairSums}
+use Rattle.ffct.specs.Limits.{PublishedCounts}
+
+-- ---- the closed forms over ℕ: doubled and with the negative terms on the other side, so that nothing is halved or subtracted
+
+-- N L at the next level. omega reads 2 ^ suc L as twice 2 ^ L, but its product with suc L as an unknown
+next : (L : ℕ) → 2 ^ suc L * suc L ≡ 2 * (2 ^ L * L) + 2 * 2 ^ L
+next L = omega (arith, ap (λ n. n * suc L) (pow-succ' 2 L))
+
+-- the DCT of level L, with the cosine-DFT and the sine-DFT of the level above it: these three are made of the same three one level down
+record Closed (L : ℕ) (x : Samples) : Type 0 where
+  dctP : 2 * dct L x .products ≡ 2 ^ L * L
+  dctS : 2 * dct L x .sums + 2 * 2 ^ L ≡ 3 * (2 ^ L * L) + 2
+  cosineP : 2 * cosineDft (suc L) x .products + 2 * 2 ^ L ≡ 2 ^ L * L + 2
+  cosineS : 2 * cosineDft (suc L) x .sums + 2 * 2 ^ L ≡ 3 * (2 ^ L * L) + 2 * L + 6
+  sineP : 2 * sineDft (suc L) x .products + 2 * 2 ^ L ≡ 2 ^ L * L + 2
+  sineS : 2 * sineDft (suc L) x .sums + 2 * 2 ^ L + 2 * L ≡ 3 * (2 ^ L * L) + 2
+
+closed : (L : ℕ) (x : Samples) → Closed L x
+unfolding dctBy cosineDft dct
+closed zero x = omega arith
+closed (suc L) x =
+    let even = closed L (evens x) in
+    let oddSums = closed L (foldedSums (2 ^ suc (suc L)) x) in
+    let oddDifferences = closed L (foldedDifferences (2 ^ suc (suc L)) x) in
+    let moved = closed L (rearranged (2 ^ suc L) x) in
+    omega (arith, pow-pos L, next L)
+
+record ClosedSpectrum (L : ℕ) (x : Samples) : Type 0 where
+  products : 2 * spectrum L x .products + 3 * 2 ^ L ≡ 2 ^ L * L + 4
+  sums : 2 * spectrum L x .sums + 5 * 2 ^ L ≡ 3 * (2 ^ L * L) + 8
+
+closed-spectrum : (L : ℕ) (x : Samples) → 1 ≤ L → ClosedSpectrum L x
+unfolding spectrum
+closed-spectrum zero x h = omega arith
+closed-spectrum (suc L) x h = omega (arith, closed L x, next L)
+
+-- ---- "The length alone decides the counts": the closed forms do not mention the samples
+pub record SameCounts (L : ℕ) (x y : Samples) : Type 0 where
+  pub cosineP : cosineDft L x .products ≡ cosineDft L y .products
+  pub cosineS : cosineDft L x .sums ≡ cosineDft L y .sums
+  pub sineP : sineDft L x .products ≡ sineDft L y .products
+  pub sineS : sineDft L x .sums ≡ sineDft L y .sums
+  pub dctP : dct L x .products ≡ dct L y .products
+  pub dctS : dct L x .sums ≡ dct L y .sums
+
+pub same-counts : (L : ℕ) (x y : Samples) → SameCounts L x y
+same-counts zero x y = unfold dctBy cosineDft dct in omega arith
+same-counts (suc L) x y = omega (arith, closed L x, closed L y, closed (suc L) x, closed (suc L) y)
+
+-- ---- the closed forms as published, over ℤ: a count d that is N (a - b) + c, or N (a - b) / 2 + c
+module _ (N a b c d : ℕ) where
+  signed : d + N * b ≡ N * a + c → int d ≡ int N *ℤ (int a -ℤ int b) +ℤ int c
+  signed e = simp diff (omega near)
+
+  signed-half : 2 * d + N * b ≡ N * a + 2 * c → int d ≡ shrZ (int N *ℤ (int a -ℤ int b)) 2 +ℤ int c
+  signed-half e = go (shrZ (int N *ℤ (int a -ℤ int b)) 2) (floor _ 2 (lit< tt))
+    where
+      go : (q : ℤ) → Floor (int N *ℤ (int a -ℤ int b)) 2 q → int d ≡ q +ℤ int c
+      go q f =
+          let s = ⊖-same _ _ _ _ (simp diff at (rw (parts q) at (f .split))) in
+          let l = f .below in
+          rw (parts q) (simp diff (omega near))
+
+pub published : (L : ℕ) → PublishedCounts L
+unfolding int pair dctProducts dctSums spectrumProducts spectrumSums pairProducts pairSums
+published L = record {
+  dctP = λ x. ap pos (omega (arith, closed L x));
+  dctS = λ x. signed-half (2 ^ L) (3 * L) 2 1 _ (omega (arith, closed L x));
+  spectrumP = λ x h. signed-half (2 ^ L) L 3 2 _ (omega (arith, closed-spectrum L x h));
+  spectrumS = λ x h. signed-half (2 ^ L) (3 * L) 5 4 _ (omega (arith, closed-spectrum L x h));
+  pairP = λ a b h. signed (2 ^ L) L 3 4 _ (omega (arith, closed-spectrum L a h, closed-spectrum L b h));
+  pairS = λ a b h. signed (3 * 2 ^ L) L 1 4 _ (omega (arith, closed-spectrum L a h, closed-spectrum L b h, pow-le-pow-right {n = 2} (lit< tt) h));
+}
+
+-- "N = 1 costs nothing": here the published forms of Spectrum and Pair are wrong
+pub nothing-at-one : (a b : Samples) → (spectrum 0 a .products ≡ 0) × (spectrum 0 a .sums ≡ 0) × (pair 0 a b .products ≡ 0) × (pair 0 a b .sums ≡ 0)
+unfolding cosineDft spectrum pair
+nothing-at-one a b = (refl, refl, refl, refl)

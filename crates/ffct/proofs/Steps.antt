@@ -1,0 +1,108 @@
+-- The definitions of specs/Transforms taken apart, case by case, with lengths written 2 m and 4 m.
+-- Assumes nothing.
+use mathlib.Core.Path.{_≡_, refl, sym, _∙_, ap}
+use Prim.Native.Nat.{ℕ, zero, suc, _+_, _*_, _-_, _/_, _^_, _≤_, _<_}
+use native.Mathlib.Omega.{arith}
+use lib.IntN.{ℤ, pos, negℤ, _+ℤ_, _-ℤ_, _*ℤ_}
+use borrow.Author.Tests.{lt-ltb, le-ltb, le-leb, lt-leb, eq-eqb, ne-eqb}
+use Rattle.whole.specs.Round.{round}
+use Rattle.circle.specs.Circle.{T}
+use Rattle.ffct.specs.Block.{Samples}
+use Rattle.ffct.specs.Transforms.{Transform, evens, foldedSums, foldedDifferences, rearranged, cosineBeyond, sineBeyond, dctBeyond, apart, c, s, rotated, dctBy, cosineDft, sineDft, dct}
+use Rattle.ffct.proofs.Lengths.{len, pow-len, quotient}
+
+-- ---- coefficients out of range
+module _ (m : ℕ) (f : ℕ → ℤ) (k : ℕ) where
+  pub cosine-low : k ≤ m → cosineBeyond (2 * m) f k ≡ f k
+  unfolding cosineBeyond
+  cosine-low h = rw (le-leb k (2 * m / 2) (omega arith))
+
+  pub cosine-high : m < k → cosineBeyond (2 * m) f k ≡ f (2 * m - k)
+  unfolding cosineBeyond
+  cosine-high h = rw (lt-leb k (2 * m / 2) (omega arith))
+
+  pub sine-low : k ≤ m → sineBeyond (2 * m) f k ≡ f k
+  unfolding sineBeyond
+  sine-low h = rw (le-leb k (2 * m / 2) (omega arith))
+
+  pub sine-high : m < k → sineBeyond (2 * m) f k ≡ negℤ (f (2 * m - k))
+  unfolding sineBeyond
+  sine-high h = rw (lt-leb k (2 * m / 2) (omega arith))
+
+  pub dct-low : k < m → dctBeyond m f k ≡ f k
+  unfolding dctBeyond
+  dct-low h = rw (lt-ltb k m h)
+
+  pub dct-middle : k ≡ m → dctBeyond m f k ≡ pos 0
+  unfolding dctBeyond
+  dct-middle h = rw (le-ltb k m (omega arith), eq-eqb k m h)
+
+  pub dct-high : m < k → dctBeyond m f k ≡ negℤ (f (2 * m - k))
+  unfolding dctBeyond
+  dct-high h = rw (le-ltb k m (omega arith), ne-eqb k m (λ e. omega arith))
+
+-- ---- the samples in the order of (16)
+module _ (m : ℕ) (x : Samples) (i : ℕ) (h : i < m) where
+  pub rearranged-near : rearranged (2 * m) x i ≡ x (2 * i)
+  unfolding rearranged
+  rearranged-near = rw (lt-ltb i (2 * m / 2) (omega arith))
+
+  pub rearranged-far : rearranged (2 * m) x (2 * m - 1 - i) ≡ x (2 * i + 1)
+  unfolding rearranged
+  rearranged-far =
+      rw (le-ltb (2 * m - 1 - i) (2 * m / 2) (omega arith)) (ap x {x = 2 * (2 * m - (2 * m - 1 - i) - 1) + 1} {y = 2 * i + 1} (omega arith))
+
+-- ---- the rotation, with 2 m w = 1024
+module _ (m w : ℕ) (C S : ℕ → ℤ) (q : 2 * m * w ≡ 1024) (k : ℕ) where
+  -- the place 1024 k / N
+  place : (j : ℕ) → 1024 * j / (2 * m) ≡ j * w
+  place j = quotient (2 * m) w (j * w) (1024 * j) q (omega (arith, ap (λ n. n * j) q))
+
+  pub rotated-zero : k ≡ 0 → rotated (2 * m) C S k ≡ C 0
+  unfolding rotated
+  rotated-zero h = rw (eq-eqb k 0 h)
+
+  pub rotated-low : 0 < k → k < m → rotated (2 * m) C S k ≡ round (T (k * w) *ℤ C k -ℤ T (1024 - k * w) *ℤ S k)
+  unfolding rotated
+  rotated-low l h = rw (ne-eqb k 0 (λ e. omega arith), lt-ltb k (2 * m / 2) (omega arith), place k)
+
+  pub rotated-middle : 0 < k → k ≡ m → rotated (2 * m) C S k ≡ round (T 512 *ℤ C m)
+  unfolding rotated
+  rotated-middle l h =
+      rw (ne-eqb k 0 (λ e. omega arith), le-ltb k (2 * m / 2) (omega arith), eq-eqb k (2 * m / 2) (omega arith))
+      (ap (λ j. round (T 512 *ℤ C j)) {x = 2 * m / 2} {y = m} (omega arith))
+
+  pub rotated-high : m < k → rotated (2 * m) C S k ≡ round (T (1024 - (2 * m - k) * w) *ℤ C (2 * m - k) +ℤ T ((2 * m - k) * w) *ℤ S (2 * m - k))
+  unfolding rotated
+  rotated-high h =
+      rw (ne-eqb k 0 (λ e. omega arith), le-ltb k (2 * m / 2) (omega arith), ne-eqb k (2 * m / 2) (λ e. omega arith), place (2 * m - k))
+
+-- ---- the transforms
+four : (L : ℕ) → 2 ^ suc (suc L) ≡ 4 * len L
+four L = pow-len (suc (suc L)) ∙ omega arith
+
+half : (m : ℕ) → 4 * m / 2 ≡ 2 * m
+half m = omega arith
+
+fourth : (m : ℕ) → 4 * m / 4 ≡ m
+fourth m = omega arith
+
+module _ (L : ℕ) (x : Samples) (k : ℕ) where
+  pub cosine-step : cosineDft (suc (suc L)) x .at k
+      ≡ cosineBeyond (2 * len L) (cosineDft (suc L) (evens x) .at) k +ℤ dctBeyond (len L) (dct L (foldedSums (4 * len L) x) .at) k
+  unfolding cosineDft dct
+  cosine-step = rw (four L, half (len L), fourth (len L))
+
+  pub sine-step : sineDft (suc (suc L)) x .at k
+      ≡ sineBeyond (2 * len L) (sineDft (suc L) (evens x) .at) k +ℤ dctBeyond (len L) (dct L (foldedDifferences (4 * len L) x) .at) (apart (len L) k)
+  unfolding sineDft dct
+  sine-step = rw (four L, half (len L), fourth (len L))
+
+  pub dct-step : dct (suc L) x .at k
+      ≡ rotated (2 * len L) (cosineDft (suc L) (rearranged (2 * len L) x) .at) (sineDft (suc L) (rearranged (2 * len L) x) .at) k
+  unfolding dct dctBy
+  dct-step = rw (pow-len (suc L))
+
+  pub dct-one : dct 0 x .at k ≡ x 0
+  unfolding dct dctBy
+  dct-one = refl

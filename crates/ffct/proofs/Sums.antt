@@ -1,0 +1,95 @@
+-- The exact sums of a length n with n w = 1024, so that every place is a product of natural numbers; how they split by (12), (15) and (16), exactly,
+-- and their values out of range by (6) to (10).
+-- Assumes nothing.
+use mathlib.Core.Path.{_≡_, refl, sym, _∙_, ap, ap₂, subst}
+use Prim.Native.Nat.{ℕ, zero, suc, _+_, _*_, _-_, _/_, _^_, _<_, _≤_}
+use native.Mathlib.Omega.{arith}
+use lib.IntN.{ℤ, pos, negℤ, negℤ-negℤ, _+ℤ_, _-ℤ_, _*ℤ_}
+use Rattle.whole.specs.Sum.{sum}
+use Rattle.whole.proofs.Difference.{int, parts, diff, ⊖-same}
+use Rattle.whole.proofs.Ring.{expand, *ℤ-negℤ, negℤ-*ℤ}
+use Rattle.whole.proofs.Size.{near, _within_, size-within, within-eq, within-mul}
+use Rattle.whole.proofs.Sums.{sum-cong, sum-add, sum-sub, sum-neg, sum-scale, sum-split, sum-reverse, sum-even-odd, sum-within}
+use Rattle.circle.specs.Circle.{B, K, sineAt}
+use Rattle.circle.specs.Laws.{additionError}
+use Rattle.circle.proofs.Places.{mirror, opposite}
+use Rattle.circle.proofs.Wave.{K-within}
+use Rattle.circle.proofs.Addition.{addition}
+use Rattle.ffct.specs.Block.{Samples}
+use Rattle.ffct.specs.Exact.{exactCosine, exactSine, exactDct}
+use Rattle.ffct.specs.Transforms.{evens, foldedSums, foldedDifferences, alternate, rearranged}
+use Rattle.ffct.proofs.Lengths.{quotient}
+use Rattle.ffct.proofs.Steps.{rearranged-near, rearranged-far}
+
+unfoldable pub cosSum : ℕ → ℕ → Samples → ℕ → ℤ
+cosSum w n x k = sum n (λ i. x i *ℤ K (4 * w * i * k))
+
+unfoldable pub sinSum : ℕ → ℕ → Samples → ℕ → ℤ
+sinSum w n x k = sum n (λ i. x i *ℤ sineAt (4 * w * i * k))
+
+unfoldable pub dctSum : ℕ → ℕ → Samples → ℕ → ℤ
+dctSum w n x k = sum n (λ i. x i *ℤ K ((2 * i + 1) * k * w))
+
+-- ---- they are the exact sums of document 01
+module _ (w n : ℕ) (x : Samples) (k : ℕ) (q : n * w ≡ 1024) where
+  place : (i : ℕ) → i * k * 4096 / n ≡ 4 * w * i * k
+  place i = quotient n w (4 * w * i * k) (i * k * 4096) q (omega (arith, ap (λ t. 4 * t * (i * k)) q))
+
+  pub cos-exact : exactCosine n x k ≡ cosSum w n x k
+  unfolding exactCosine cosSum
+  cos-exact = sum-cong n _ _ (λ i h. ap (λ p. x i *ℤ K p) (place i))
+
+  pub sin-exact : exactSine n x k ≡ sinSum w n x k
+  unfolding exactSine sinSum
+  sin-exact = sum-cong n _ _ (λ i h. ap (λ p. x i *ℤ sineAt p) (place i))
+
+  pub dct-exact : exactDct n x k ≡ dctSum w n x k
+  unfolding exactDct dctSum
+  dct-exact =
+      sum-cong n _ _
+      (λ i h. ap (λ p. x i *ℤ K p) (quotient n w ((2 * i + 1) * k * w) ((2 * i + 1) * k * 1024) q (omega (arith, ap (λ t. t * ((2 * i + 1) * k)) q))))
+
+-- ---- their sizes
+module _ (w n : ℕ) (x : Samples) (k : ℕ) {X : ℕ} (b : (i : ℕ) → i < n → x i within X) where
+  pub cos-size : cosSum w n x k within n * (X * B)
+  unfolding cosSum
+  cos-size = sum-within n _ (λ i h. within-mul (b i h) (K-within _))
+
+  pub sin-size : sinSum w n x k within n * (X * B)
+  unfolding sinSum
+  sin-size = sum-within n _ (λ i h. within-mul (b i h) (K-within _))
+
+-- ---- out of range: (9), (10), (8), (6), and where a sine-DFT is zero
+module _ (w n : ℕ) (x : Samples) (q : n * w ≡ 1024) where
+  negated : (k l : ℕ) (place : ℕ → ℕ → ℕ) → ((i : ℕ) → K (place i k) ≡ negℤ (K (place i l))) →
+      sum n (λ i. x i *ℤ K (place i k)) ≡ negℤ (sum n (λ i. x i *ℤ K (place i l)))
+  negated k l place h =
+      sum-cong n _ (λ i. negℤ (x i *ℤ K (place i l))) (λ i b. ap (λ z. x i *ℤ z) (h i) ∙ *ℤ-negℤ (x i) (K (place i l)))
+      ∙ sum-neg n (λ i. x i *ℤ K (place i l))
+
+  pub cos-mirror : (k l : ℕ) → k + l ≡ n → cosSum w n x k ≡ cosSum w n x l
+  unfolding cosSum
+  cos-mirror k l h =
+      sum-cong n _ _ (λ i b. ap (λ z. x i *ℤ z) (mirror _ _ i (omega (arith, ap (λ t. 4 * w * i * t) h, ap (λ t. 4 * t * i) q))))
+
+  pub sin-mirror : (k l : ℕ) → k + l ≡ n → sinSum w n x k ≡ negℤ (sinSum w n x l)
+  unfolding sinSum
+  sin-mirror k l h =
+      negated k l (λ i k. 4 * w * i * k + 3072) (λ i. opposite _ _ (i + 1) (omega (arith, ap (λ t. 4 * w * i * t) h, ap (λ t. 4 * t * i) q)))
+
+  pub dct-mirror : (k l : ℕ) → k + l ≡ 2 * n → dctSum w n x k ≡ negℤ (dctSum w n x l)
+  unfolding dctSum
+  dct-mirror k l h =
+      negated k l (λ i k. (2 * i + 1) * k * w)
+      (λ i. opposite _ _ i (omega (arith, ap (λ t. (2 * i + 1) * w * t) h, ap (λ t. 2 * t * (2 * i + 1)) q)))
+
+  self-negated : (z : ℤ) → z ≡ negℤ z → z ≡ int 0
+  self-negated z e =
+      let e′ = ⊖-same _ _ _ _ (simp diff at (subst (λ t. t ≡ negℤ t) (parts z) e)) in
+      rw (parts z) (simp diff (omega near))
+
+  pub sin-middle : (k : ℕ) → 2 * k ≡ n → sinSum w n x k ≡ int 0
+  sin-middle k h = self-negated _ (sin-mirror k k (omega arith))
+
+  pub dct-end : dctSum w n x n ≡ int 0
+  dct-end = self-negated _ (dct-mirror n n (omega arith))
