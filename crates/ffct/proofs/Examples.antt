@@ -3,7 +3,7 @@
 use mathlib.Core.Path.{refl}
 use Rattle.whole.specs.Round.{round}
 use Rattle.circle.specs.Circle.{rootOf, halved, unitStep, step, stepped, quarter, half, K, T}
-use Rattle.ffct.specs.Transforms.{alternate, rearranged, cosineBeyond, sineBeyond, dctBeyond, apart, rotated, dctBy, cosineDft, sineDft, dct, spectrum}
+use Rattle.ffct.specs.Transforms.{alternate, rearranged, cosineBeyond, sineBeyond, dctBeyond, apart, rotated, dctBy, cosineDft, dct, spectrum}
 use Rattle.ffct.specs.Examples.{values, All, examples}
 
 pub all : All examples

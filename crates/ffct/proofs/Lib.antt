@@ -8,3 +8,4 @@ pub mod Near
 pub mod Counts
 pub mod Tables
 pub mod Limits
+pub mod Sizes

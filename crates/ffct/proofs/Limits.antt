@@ -1,23 +1,22 @@
 -- Demand 3 for every accepted block of every one of the eleven lengths.
 -- Assumes nothing.
-use mathlib.Core.Path.{_≡_, sym, _∙_, ap, subst}
-use Prim.Native.Nat.{ℕ, zero, suc, _+_, _*_, _/_, _^_, _<_, _≤_}
+use mathlib.Core.Path.{_≡_}
+use Prim.Native.Nat.{ℕ, zero, suc, _+_, _*_, _<_, _≤_}
 use native.Mathlib.Nat.{le-trans, mul-le-mul-left}
 use native.Mathlib.Omega.{arith}
 use lib.Dec.{T, leb, leb→le}
-use lib.IntN.{ℤ, negℤ, _+ℤ_, _-ℤ_, _*ℤ_}
-use Rattle.whole.specs.Sum.{sum}
+use lib.IntN.{ℤ}
 use Rattle.whole.proofs.Cases.{both, below, below-at}
 use Rattle.whole.proofs.Difference.{int}
-use Rattle.whole.proofs.Size.{_within_, size-within, within-size}
-use Rattle.whole.proofs.Sums.{sum-add, sum-sub}
+use Rattle.whole.proofs.Size.{size-within, within-size}
 use Rattle.circle.specs.Circle.{B}
 use Rattle.ffct.specs.Block.{Samples, topLevel, largestSample, AcceptedBlock}
-use Rattle.ffct.specs.Exact.{exactCosine, exactSine, exactReal, exactImaginary, Limit, eighth, quarterOfNext, quarter, Within}
+use Rattle.ffct.specs.Exact.{Limit, eighth, quarterOfNext, quarter, Within}
 use Rattle.ffct.specs.Transforms.{cosineBeyond, sineBeyond, cosineDft, sineDft, dct, spectrum, pair}
 use Rattle.ffct.specs.Limits.{Limits, PairLimits}
 use Rattle.ffct.proofs.Lengths.{len, pow-len, per, len-per}
-use Rattle.ffct.proofs.Sums.{cosSum, sinSum, cos-exact, sin-exact, dct-exact}
+use Rattle.ffct.proofs.Steps.{cosine-low, sine-low}
+use Rattle.ffct.proofs.Sums.{cosSum, sinSum, cos-exact, sin-exact, dct-exact, real-exact, imaginary-exact}
 use Rattle.ffct.proofs.Near.{Near, Bounded, near-neg, near-add, cosine-beyond, sine-beyond, dctError, dftError, dft-near, dct-near}
 
 -- an error e is below a limit
@@ -63,3 +62,29 @@ limits L x a = record {
     dft : (k : ℕ) → 2 * k ≤ len L →
         Near (cosineDft L x .at k) (cosSum (per L) (len L) x k) (dftError L largestSample) × Near (sineDft L x .at k) (sinSum (per L) (len L) x k) (dftError L largestSample)
     dft = dft-near L (per L) x largestSample w (bounded L x a)
+
+-- ---- Pair: cosine- and sine-DFT at every k below N, by (9) and (10), and their sum or difference
+everywhere : (L w : ℕ) (x : Samples) (X : ℕ) → len L * w ≡ 1024 → Bounded (len L) x X → (k : ℕ) → k < len L →
+    Near (cosineBeyond (len L) (cosineDft L x .at) k) (cosSum w (len L) x k) (dftError L X) × Near (sineBeyond (len L) (sineDft L x .at) k) (sinSum w (len L) x k) (dftError L X)
+everywhere zero w x X q b k h = rw (cosine-low 1 (cosineDft 0 x .at) k (omega arith), sine-low 1 (sineDft 0 x .at) k (omega arith)) (dft-near 0 w x X q b k (omega arith))
+everywhere (suc L) w x X q b k h = (
+  cosine-beyond w (len L) x _ k _ (omega arith) q (λ j l. dft-near (suc L) w x X q b j (omega arith) .0),
+  sine-beyond w (len L) x _ k _ (omega arith) q (λ j l. dft-near (suc L) w x X q b j (omega arith) .1),
+)
+
+pub pair-limits : (L : ℕ) (a b : Samples) → AcceptedBlock L a → AcceptedBlock L b → PairLimits L a b
+unfolding pair spectrum
+pair-limits L a b A B = record {
+  real = λ k h. rw (pow-len L, real-exact (per L) (len L) a b k w)
+      (near-within (quarter (len L)) (near-add (near a A k (omega (arith, pow-len L)) .0) (near b B k (omega (arith, pow-len L)) .1)) (pair-small L (A .length)));
+  imaginary = λ k h. rw (pow-len L, imaginary-exact (per L) (len L) a b k w)
+      (near-within (quarter (len L)) (near-add (near b B k (omega (arith, pow-len L)) .0) (near-neg (near a A k (omega (arith, pow-len L)) .1))) (pair-small L (A .length)));
+}
+  where
+    w : len L * per L ≡ 1024
+    w = len-per L (A .length)
+
+    near : (x : Samples) → AcceptedBlock L x → (k : ℕ) → k < len L →
+        Near (cosineBeyond (len L) (cosineDft L x .at) k) (cosSum (per L) (len L) x k) (dftError L largestSample)
+        × Near (sineBeyond (len L) (sineDft L x .at) k) (sinSum (per L) (len L) x k) (dftError L largestSample)
+    near x X = everywhere L (per L) x largestSample w (bounded L x X)

@@ -1,6 +1,6 @@
 -- How near the transforms are to the exact sums: one induction for all lengths and for cosine-DFT, sine-DFT and DCT together.
 -- Assumes nothing.
-use mathlib.Core.Path.{_≡_, refl, sym, _∙_, ap, subst}
+use mathlib.Core.Path.{_≡_, refl, _∙_, ap, subst}
 use mathlib.Core.Logic.{⊎-elim}
 use Prim.Native.Nat.{ℕ, zero, suc, _+_, _*_, _-_, _/_, _^_, _<_, _≤_}
 use native.Mathlib.Nat.{mul-le-mul-right}
@@ -59,15 +59,15 @@ module _ (w m : ℕ) (x f : ℕ → ℤ) (k e : ℕ) (l : k ≤ 2 * m) where
   pub cosine-beyond : 2 * m * w ≡ 1024 → ((j : ℕ) → j ≤ m → Near (f j) (cosSum w (2 * m) x j) e) →
       Near (cosineBeyond (2 * m) f k) (cosSum w (2 * m) x k) e
   cosine-beyond q h = ⊎-elim
-      (λ g. rw (cosine-low m f k g) (h k g))
-      (λ g. rw (cosine-high m f k g, cos-mirror w (2 * m) x q k (2 * m - k) (omega arith)) (h (2 * m - k) (omega arith)))
+      (λ g. rw (cosine-low (2 * m) f k (omega arith)) (h k g))
+      (λ g. rw (cosine-high (2 * m) f k (omega arith), cos-mirror w (2 * m) x q k (2 * m - k) (omega arith)) (h (2 * m - k) (omega arith)))
       (le-or-lt k m)
 
   pub sine-beyond : 2 * m * w ≡ 1024 → ((j : ℕ) → j ≤ m → Near (f j) (sinSum w (2 * m) x j) e) →
       Near (sineBeyond (2 * m) f k) (sinSum w (2 * m) x k) e
   sine-beyond q h = ⊎-elim
-      (λ g. rw (sine-low m f k g) (h k g))
-      (λ g. rw (sine-high m f k g, sin-mirror w (2 * m) x q k (2 * m - k) (omega arith)) (near-neg (h (2 * m - k) (omega arith))))
+      (λ g. rw (sine-low (2 * m) f k (omega arith)) (h k g))
+      (λ g. rw (sine-high (2 * m) f k (omega arith), sin-mirror w (2 * m) x q k (2 * m - k) (omega arith)) (near-neg (h (2 * m - k) (omega arith))))
       (le-or-lt k m)
 
   dct-beyond : m * w ≡ 1024 → ((j : ℕ) → j < m → Near (f j) (dctSum w m x j) e) → Near (dctBeyond m f k) (dctSum w m x k) e
@@ -85,7 +85,7 @@ module _ (w m : ℕ) (x f : ℕ → ℤ) (k e : ℕ) (l : k ≤ 2 * m) where
 rearranged-within : (m : ℕ) (y : Samples) {X : ℕ} → Bounded (2 * m) y X → Bounded (2 * m) (rearranged (2 * m) y) X
 rearranged-within m y {X} b i h = ⊎-elim
     (λ g. subst (λ j. rearranged (2 * m) y j within X) {x = 2 * m - 1 - (2 * m - 1 - i)} {y = i} (omega arith)
-        (rw (rearranged-far m y (2 * m - 1 - i) (omega arith)) (b _ (omega arith))))
+    (rw (rearranged-far m y (2 * m - 1 - i) (omega arith)) (b _ (omega arith))))
     (λ g. rw (rearranged-near m y i g) (b _ (omega arith)))
     (le-or-lt m i)
 

@@ -1,10 +1,10 @@
 -- The error of one rotation, for all lengths together: design constants as variables, so that the checker never multiplies digits.
 -- Assumes nothing.
 use mathlib.Core.Path.{_≡_, subst}
-use Prim.Native.Nat.{ℕ, _+_, _*_, _/_, _<_, _≤_}
+use Prim.Native.Nat.{ℕ, _+_, _*_, _/_, _<_}
 use native.Mathlib.Nat.{le-div-iff-mul-le}
 use native.Mathlib.Omega.{arith}
-use lib.IntN.{ℤ, natAbs, _+ℤ_, _-ℤ_, _*ℤ_}
+use lib.IntN.{ℤ, _+ℤ_, _-ℤ_, _*ℤ_}
 use Rattle.whole.proofs.Difference.{int, parts, diff}
 use Rattle.whole.proofs.Ring.{expand}
 use Rattle.whole.proofs.Size.{near, _within_, size-within, within-size, within-int, within-eq, within-le, within-add, within-sub, within-mul, within-trans, within-cancel, size-mul, size-int}

@@ -1,45 +1,45 @@
 -- The definitions of specs/Transforms taken apart, case by case, with lengths written 2 m and 4 m.
 -- Assumes nothing.
-use mathlib.Core.Path.{_≡_, refl, sym, _∙_, ap}
-use Prim.Native.Nat.{ℕ, zero, suc, _+_, _*_, _-_, _/_, _^_, _≤_, _<_}
+use mathlib.Core.Path.{_≡_, refl, _∙_, ap}
+use Prim.Native.Nat.{ℕ, suc, _+_, _*_, _-_, _/_, _^_, _≤_, _<_}
 use native.Mathlib.Omega.{arith}
 use lib.IntN.{ℤ, pos, negℤ, _+ℤ_, _-ℤ_, _*ℤ_}
 use borrow.Author.Tests.{lt-ltb, le-ltb, le-leb, lt-leb, eq-eqb, ne-eqb}
 use Rattle.whole.specs.Round.{round}
 use Rattle.circle.specs.Circle.{T}
 use Rattle.ffct.specs.Block.{Samples}
-use Rattle.ffct.specs.Transforms.{Transform, evens, foldedSums, foldedDifferences, rearranged, cosineBeyond, sineBeyond, dctBeyond, apart, c, s, rotated, dctBy, cosineDft, sineDft, dct}
+use Rattle.ffct.specs.Transforms.{evens, foldedSums, foldedDifferences, rearranged, cosineBeyond, sineBeyond, dctBeyond, apart, rotated, dctBy, cosineDft, sineDft, dct}
 use Rattle.ffct.proofs.Lengths.{len, pow-len, quotient}
 
 -- ---- coefficients out of range
-module _ (m : ℕ) (f : ℕ → ℤ) (k : ℕ) where
-  pub cosine-low : k ≤ m → cosineBeyond (2 * m) f k ≡ f k
+module _ (N : ℕ) (f : ℕ → ℤ) (k : ℕ) where
+  pub cosine-low : k ≤ N / 2 → cosineBeyond N f k ≡ f k
   unfolding cosineBeyond
-  cosine-low h = rw (le-leb k (2 * m / 2) (omega arith))
+  cosine-low h = rw (le-leb k (N / 2) h)
 
-  pub cosine-high : m < k → cosineBeyond (2 * m) f k ≡ f (2 * m - k)
+  pub cosine-high : N / 2 < k → cosineBeyond N f k ≡ f (N - k)
   unfolding cosineBeyond
-  cosine-high h = rw (lt-leb k (2 * m / 2) (omega arith))
+  cosine-high h = rw (lt-leb k (N / 2) h)
 
-  pub sine-low : k ≤ m → sineBeyond (2 * m) f k ≡ f k
+  pub sine-low : k ≤ N / 2 → sineBeyond N f k ≡ f k
   unfolding sineBeyond
-  sine-low h = rw (le-leb k (2 * m / 2) (omega arith))
+  sine-low h = rw (le-leb k (N / 2) h)
 
-  pub sine-high : m < k → sineBeyond (2 * m) f k ≡ negℤ (f (2 * m - k))
+  pub sine-high : N / 2 < k → sineBeyond N f k ≡ negℤ (f (N - k))
   unfolding sineBeyond
-  sine-high h = rw (lt-leb k (2 * m / 2) (omega arith))
+  sine-high h = rw (lt-leb k (N / 2) h)
 
-  pub dct-low : k < m → dctBeyond m f k ≡ f k
+  pub dct-low : k < N → dctBeyond N f k ≡ f k
   unfolding dctBeyond
-  dct-low h = rw (lt-ltb k m h)
+  dct-low h = rw (lt-ltb k N h)
 
-  pub dct-middle : k ≡ m → dctBeyond m f k ≡ pos 0
+  pub dct-middle : k ≡ N → dctBeyond N f k ≡ pos 0
   unfolding dctBeyond
-  dct-middle h = rw (le-ltb k m (omega arith), eq-eqb k m h)
+  dct-middle h = rw (le-ltb k N (omega arith), eq-eqb k N h)
 
-  pub dct-high : m < k → dctBeyond m f k ≡ negℤ (f (2 * m - k))
+  pub dct-high : N < k → dctBeyond N f k ≡ negℤ (f (2 * N - k))
   unfolding dctBeyond
-  dct-high h = rw (le-ltb k m (omega arith), ne-eqb k m (λ e. omega arith))
+  dct-high h = rw (le-ltb k N (omega arith), ne-eqb k N (λ e. omega arith))
 
 -- ---- the samples in the order of (16)
 module _ (m : ℕ) (x : Samples) (i : ℕ) (h : i < m) where

@@ -1,25 +1,21 @@
 -- The exact sums of a length n with n w = 1024, so that every place is a product of natural numbers; how they split by (12), (15) and (16), exactly,
 -- and their values out of range by (6) to (10).
 -- Assumes nothing.
-use mathlib.Core.Path.{_≡_, refl, sym, _∙_, ap, ap₂, subst}
-use Prim.Native.Nat.{ℕ, zero, suc, _+_, _*_, _-_, _/_, _^_, _<_, _≤_}
+use mathlib.Core.Path.{_≡_, _∙_, ap, ap₂, subst}
+use Prim.Native.Nat.{ℕ, _+_, _*_, _/_, _<_}
 use native.Mathlib.Omega.{arith}
-use lib.IntN.{ℤ, pos, negℤ, negℤ-negℤ, _+ℤ_, _-ℤ_, _*ℤ_}
+use lib.IntN.{ℤ, negℤ, _+ℤ_, _-ℤ_, _*ℤ_}
 use Rattle.whole.specs.Sum.{sum}
 use Rattle.whole.proofs.Difference.{int, parts, diff, ⊖-same}
-use Rattle.whole.proofs.Ring.{expand, *ℤ-negℤ, negℤ-*ℤ}
-use Rattle.whole.proofs.Size.{near, _within_, size-within, within-eq, within-mul}
-use Rattle.whole.proofs.Sums.{sum-cong, sum-add, sum-sub, sum-neg, sum-scale, sum-split, sum-reverse, sum-even-odd, sum-within}
+use Rattle.whole.proofs.Ring.{*ℤ-negℤ}
+use Rattle.whole.proofs.Size.{near, _within_, within-mul}
+use Rattle.whole.proofs.Sums.{sum-cong, sum-add, sum-sub, sum-neg, sum-within}
 use Rattle.circle.specs.Circle.{B, K, sineAt}
-use Rattle.circle.specs.Laws.{additionError}
 use Rattle.circle.proofs.Places.{mirror, opposite}
 use Rattle.circle.proofs.Wave.{K-within}
-use Rattle.circle.proofs.Addition.{addition}
 use Rattle.ffct.specs.Block.{Samples}
-use Rattle.ffct.specs.Exact.{exactCosine, exactSine, exactDct}
-use Rattle.ffct.specs.Transforms.{evens, foldedSums, foldedDifferences, alternate, rearranged}
+use Rattle.ffct.specs.Exact.{exactCosine, exactSine, exactDct, exactReal, exactImaginary}
 use Rattle.ffct.proofs.Lengths.{quotient}
-use Rattle.ffct.proofs.Steps.{rearranged-near, rearranged-far}
 
 unfoldable pub cosSum : ℕ → ℕ → Samples → ℕ → ℤ
 cosSum w n x k = sum n (λ i. x i *ℤ K (4 * w * i * k))
@@ -49,6 +45,16 @@ module _ (w n : ℕ) (x : Samples) (k : ℕ) (q : n * w ≡ 1024) where
       sum-cong n _ _
       (λ i h. ap (λ p. x i *ℤ K p) (quotient n w ((2 * i + 1) * k * w) ((2 * i + 1) * k * 1024) q (omega (arith, ap (λ t. t * ((2 * i + 1) * k)) q))))
 
+-- Pair's exact sums, from those of its recordings
+module _ (w n : ℕ) (a b : Samples) (k : ℕ) (q : n * w ≡ 1024) where
+  pub real-exact : exactReal n a b k ≡ cosSum w n a k +ℤ sinSum w n b k
+  unfolding exactReal exactCosine exactSine
+  real-exact = sum-add n _ _ ∙ ap₂ _+ℤ_ (cos-exact w n a k q) (sin-exact w n b k q)
+
+  pub imaginary-exact : exactImaginary n a b k ≡ cosSum w n b k -ℤ sinSum w n a k
+  unfolding exactImaginary exactCosine exactSine
+  imaginary-exact = sum-sub n _ _ ∙ ap₂ _-ℤ_ (cos-exact w n b k q) (sin-exact w n a k q)
+
 -- ---- their sizes
 module _ (w n : ℕ) (x : Samples) (k : ℕ) {X : ℕ} (b : (i : ℕ) → i < n → x i within X) where
   pub cos-size : cosSum w n x k within n * (X * B)
@@ -58,6 +64,10 @@ module _ (w n : ℕ) (x : Samples) (k : ℕ) {X : ℕ} (b : (i : ℕ) → i < n 
   pub sin-size : sinSum w n x k within n * (X * B)
   unfolding sinSum
   sin-size = sum-within n _ (λ i h. within-mul (b i h) (K-within _))
+
+  pub dct-size : dctSum w n x k within n * (X * B)
+  unfolding dctSum
+  dct-size = sum-within n _ (λ i h. within-mul (b i h) (K-within _))
 
 -- ---- out of range: (9), (10), (8), (6), and where a sine-DFT is zero
 module _ (w n : ℕ) (x : Samples) (q : n * w ≡ 1024) where
