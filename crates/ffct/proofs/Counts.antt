@@ -2,17 +2,19 @@
 -- (for Spectrum and Pair from N = 2; at N = 1 they are 0).
 -- Assumes nothing.
 use mathlib.Core.Path.{_≡_, refl, ap}
+use mathlib.Core.Bool.{Bool}
 use Prim.Native.Nat.{ℕ, zero, suc, _+_, _*_, _^_, _≤_}
 use native.Mathlib.Nat.{pow-succ', pow-le-pow-right}
 use native.Mathlib.Omega.{arith}
-use lib.Dec.{lit<}
+use lib.Dec.{T, leb, leb→le, lit<}
 use lib.IntN.{ℤ, pos, _+ℤ_, _-ℤ_, _*ℤ_}
 use lib.Signed.{shrZ}
+use Rattle.whole.proofs.Cases.{both, both-left, both-right, below, below-at}
 use Rattle.whole.proofs.Difference.{parts, int, diff, ⊖-same}
 use Rattle.whole.proofs.Size.{near}
 use Rattle.whole.proofs.Floor.{Floor, floor}
 use Rattle.whole.proofs.Powers.{pow-pos}
-use Rattle.ffct.specs.Block.{Samples}
+use Rattle.ffct.specs.Block.{Samples, topLevel}
 use Rattle.ffct.specs.Transforms.{evens, foldedSums, foldedDifferences, rearranged, dctBy, cosineDft, sineDft, dct, spectrum, pair}
 use Rattle.ffct.specs.Counts.{dctProducts, dctSums, spectrumProducts, spectrumSums, pairProducts, pairSums}
 use Rattle.ffct.specs.Limits.{PublishedCounts}
@@ -93,3 +95,34 @@ published L = record {
 pub nothing-at-one : (a b : Samples) → (spectrum 0 a .products ≡ 0) × (spectrum 0 a .sums ≡ 0) × (pair 0 a b .products ≡ 0) × (pair 0 a b .sums ≡ 0)
 unfolding cosineDft spectrum pair
 nothing-at-one a b = (refl, refl, refl, refl)
+
+-- ---- no count of an accepted length overflows a word: a computed test at one block, which says it of all
+pub record FewOperations (L : ℕ) (x : Samples) : Type 0 where
+  pub cosine : cosineDft L x .products + cosineDft L x .sums ≤ 2 ^ 16
+  pub sine : sineDft L x .products + sineDft L x .sums ≤ 2 ^ 16
+  pub dct : dct L x .products + dct L x .sums ≤ 2 ^ 16
+
+zeros : Samples
+zeros n = pos 0
+
+few : ℕ → Bool
+few L =
+    both (leb (cosineDft L zeros .products + cosineDft L zeros .sums) (2 ^ 16))
+    (both (leb (sineDft L zeros .products + sineDft L zeros .sums) (2 ^ 16)) (leb (dct L zeros .products + dct L zeros .sums) (2 ^ 16)))
+
+few-all : T (below 11 few)
+unfolding both below few dctBy cosineDft dct
+few-all = tt
+
+few-at-zeros : (L : ℕ) → L ≤ topLevel → FewOperations L zeros
+unfolding few
+few-at-zeros L h =
+    let t = below-at 11 few few-all L (omega arith) in
+    record {
+      cosine = leb→le _ _ (both-left _ _ t);
+      sine = leb→le _ _ (both-left _ _ (both-right _ _ t));
+      dct = leb→le _ _ (both-right _ _ (both-right _ _ t));
+    }
+
+pub few-operations : (L : ℕ) (x : Samples) → L ≤ topLevel → FewOperations L x
+few-operations L x h = omega (arith, same-counts L x zeros, few-at-zeros L h)

@@ -9,3 +9,4 @@ pub mod Counts
 pub mod Tables
 pub mod Limits
 pub mod Sizes
+pub mod Blocks

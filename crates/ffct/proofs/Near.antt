@@ -23,7 +23,7 @@ use Rattle.circle.proofs.Stored.{at-entry}
 use Rattle.ffct.specs.Block.{Samples}
 use Rattle.ffct.specs.Transforms.{evens, foldedSums, foldedDifferences, alternate, rearranged, cosineBeyond, sineBeyond, dctBeyond, apart, rotated, cosineDft, sineDft, dct}
 use Rattle.ffct.proofs.Lengths.{len}
-use Rattle.ffct.proofs.Steps.{cosine-low, cosine-high, sine-low, sine-high, dct-low, dct-middle, dct-high, rearranged-near, rearranged-far, rotated-zero, rotated-low, rotated-middle, rotated-high, cosine-step, sine-step, dct-step, dct-one}
+use Rattle.ffct.proofs.Steps.{cosine-low, cosine-high, sine-low, sine-high, dct-low, dct-middle, dct-high, rearranged-source, rotated-zero, rotated-low, rotated-middle, rotated-high, cosine-step, sine-step, dct-step, dct-one}
 use Rattle.ffct.proofs.Sums.{cosSum, sinSum, dctSum, cos-size, sin-size, cos-mirror, sin-mirror, dct-mirror, sin-middle, dct-end}
 use Rattle.ffct.proofs.Splits.{cos-split, sin-split, dct-rearranged, turned}
 use Rattle.ffct.proofs.Rotation.{rotation-error}
@@ -83,11 +83,9 @@ module _ (w m : ℕ) (x f : ℕ → ℤ) (k e : ℕ) (l : k ≤ 2 * m) where
 
 -- ---- the DCT of 2 m samples, from a cosine-DFT and a sine-DFT within e
 rearranged-within : (m : ℕ) (y : Samples) {X : ℕ} → Bounded (2 * m) y X → Bounded (2 * m) (rearranged (2 * m) y) X
-rearranged-within m y {X} b i h = ⊎-elim
-    (λ g. subst (λ j. rearranged (2 * m) y j within X) {x = 2 * m - 1 - (2 * m - 1 - i)} {y = i} (omega arith)
-    (rw (rearranged-far m y (2 * m - 1 - i) (omega arith)) (b _ (omega arith))))
-    (λ g. rw (rearranged-near m y i g) (b _ (omega arith)))
-    (le-or-lt m i)
+rearranged-within m y b i h =
+    let s = rearranged-source m i h in
+    rw (s .2 y) (b (s .0) (s .1))
 
 -- the limit of a rotation's error: rounding, the table, the inputs, the circle
 abbrev rotationError : ℕ → ℕ → ℕ → ℕ
@@ -251,7 +249,7 @@ dct-near-of (suc L) H w x X q b k h =
 folded-sums-within : (m : ℕ) (x : Samples) {X : ℕ} → Bounded (2 * (2 * m)) x X → Bounded m (foldedSums (4 * m) x) (2 * X)
 folded-sums-within m x b i h = within-le (within-add (b (2 * i + 1) (omega arith)) (b (4 * m - 2 * i - 1) (omega arith))) (omega arith)
 
-alternate-within : (n : ℕ) {z : ℤ} {X : ℕ} → z within X → alternate n z within X
+pub alternate-within : (n : ℕ) {z : ℤ} {X : ℕ} → z within X → alternate n z within X
 unfolding alternate
 alternate-within zero h = h
 alternate-within (suc n) h = within-neg (alternate-within n h)
@@ -268,7 +266,7 @@ two-near : DftNear 1
 unfolding cosineDft dftError int
 two-near w x X q b k h = (subst (λ w. Near (cosineDft 1 x .at k) (cosSum w 2 x k) 0) {x = 512} {y = w} (omega arith) (cosine-two x k (omega arith)), sine-none w 1 2 x k (omega arith))
 
-apart-le : (m k : ℕ) → k ≤ 2 * m → apart m k ≤ 2 * m
+pub apart-le : (m k : ℕ) → k ≤ 2 * m → apart m k ≤ 2 * m
 unfolding apart
 apart-le m k h = omega arith
 

@@ -1,14 +1,16 @@
 -- The definitions of specs/Transforms taken apart, case by case, with lengths written 2 m and 4 m.
 -- Assumes nothing.
 use mathlib.Core.Path.{_≡_, refl, _∙_, ap}
+use mathlib.Core.Logic.{⊎-elim}
 use Prim.Native.Nat.{ℕ, suc, _+_, _*_, _-_, _/_, _^_, _≤_, _<_}
 use native.Mathlib.Omega.{arith}
 use lib.IntN.{ℤ, pos, negℤ, _+ℤ_, _-ℤ_, _*ℤ_}
 use borrow.Author.Tests.{lt-ltb, le-ltb, le-leb, lt-leb, eq-eqb, ne-eqb}
+use Rattle.whole.proofs.Cases.{le-or-lt}
 use Rattle.whole.specs.Round.{round}
 use Rattle.circle.specs.Circle.{T}
 use Rattle.ffct.specs.Block.{Samples}
-use Rattle.ffct.specs.Transforms.{evens, foldedSums, foldedDifferences, rearranged, cosineBeyond, sineBeyond, dctBeyond, apart, rotated, dctBy, cosineDft, sineDft, dct}
+use Rattle.ffct.specs.Transforms.{Transform, evens, foldedSums, foldedDifferences, rearranged, cosineBeyond, sineBeyond, dctBeyond, apart, rotated, dctBy, cosineDft, sineDft, dct}
 use Rattle.ffct.proofs.Lengths.{len, pow-len, quotient}
 
 -- ---- coefficients out of range
@@ -51,6 +53,17 @@ module _ (m : ℕ) (x : Samples) (i : ℕ) (h : i < m) where
   unfolding rearranged
   rearranged-far =
       rw (le-ltb (2 * m - 1 - i) (2 * m / 2) (omega arith)) (ap x {x = 2 * (2 * m - (2 * m - 1 - i) - 1) + 1} {y = 2 * i + 1} (omega arith))
+
+-- each of them is one of the samples, whatever these are
+pub rearranged-source : (m i : ℕ) → i < 2 * m → (j : ℕ) × (j < 2 * m) × ((x : Samples) → rearranged (2 * m) x i ≡ x j)
+rearranged-source m i h = ⊎-elim
+    (λ l. (
+      2 * (2 * m - 1 - i) + 1,
+      omega arith,
+      λ x. ap (rearranged (2 * m) x) {x = i} {y = 2 * m - 1 - (2 * m - 1 - i)} (omega arith) ∙ rearranged-far m x (2 * m - 1 - i) (omega arith),
+    ))
+    (λ l. (2 * i, omega arith, λ x. rearranged-near m x i l))
+    (le-or-lt m i)
 
 -- ---- the rotation, with 2 m w = 1024
 module _ (m w : ℕ) (C S : ℕ → ℤ) (q : 2 * m * w ≡ 1024) (k : ℕ) where
@@ -106,3 +119,44 @@ module _ (L : ℕ) (x : Samples) (k : ℕ) where
   pub dct-one : dct 0 x .at k ≡ x 0
   unfolding dct dctBy
   dct-one = refl
+
+-- ---- the counts of the steps
+module _ (L : ℕ) (x : Samples) where
+  abbrev cosineEven : Transform
+  cosineEven = cosineDft (suc L) (evens x)
+
+  abbrev cosineOdd : Transform
+  cosineOdd = dct L (foldedSums (4 * len L) x)
+
+  abbrev sineEven : Transform
+  sineEven = sineDft (suc L) (evens x)
+
+  abbrev sineOdd : Transform
+  sineOdd = dct L (foldedDifferences (4 * len L) x)
+
+  pub cosine-products : cosineDft (suc (suc L)) x .products ≡ cosineEven .products + cosineOdd .products
+  unfolding cosineDft dct
+  cosine-products = rw (four L)
+
+  pub cosine-sums : cosineDft (suc (suc L)) x .sums ≡ cosineEven .sums + cosineOdd .sums + (len L + 2 * len L)
+  unfolding cosineDft dct
+  cosine-sums = rw (four L, half (len L), fourth (len L))
+
+  pub sine-products : sineDft (suc (suc L)) x .products ≡ sineEven .products + sineOdd .products
+  unfolding sineDft dct
+  sine-products = rw (four L)
+
+  pub sine-sums : sineDft (suc (suc L)) x .sums ≡ sineEven .sums + sineOdd .sums + (len L + (2 * len L - 2))
+  unfolding sineDft dct
+  sine-sums = rw (four L, half (len L), fourth (len L))
+
+  abbrev moved : Samples
+  moved = rearranged (2 * len L) x
+
+  pub dct-products : dct (suc L) x .products ≡ cosineDft (suc L) moved .products + sineDft (suc L) moved .products + (3 * (len L - 1) + 1)
+  unfolding dct dctBy
+  dct-products = rw (pow-len (suc L)) (omega arith)
+
+  pub dct-sums : dct (suc L) x .sums ≡ cosineDft (suc L) moved .sums + sineDft (suc L) moved .sums + 3 * (len L - 1)
+  unfolding dct dctBy
+  dct-sums = rw (pow-len (suc L)) (omega arith)

@@ -1,0 +1,85 @@
+-- What follows from `Ready`: the level of n, the sizes of the samples and of the coefficients, and that the samples of each step are ready for the step.
+-- Assumes nothing.
+use mathlib.Core.Path.{_≡_, refl, sym, ap, _∙_, subst}
+use mathlib.Core.List.{List}
+use Prim.Native.Nat.{ℕ, zero, suc, _+_, _-_, _*_, _/_, _^_, _≤_, _<_}
+use native.Mathlib.Nat.{le-div-iff-mul-le, mul-div-le, mul-suc, mul-le-mul-right}
+use native.Mathlib.Omega.{arith}
+use lib.IntN.{ℤ, natAbs}
+use lib.ListN.{length}
+use Rattle.whole.proofs.Size.{_within_, size-within, within-size}
+use Rattle.ffct.specs.Block.{Samples}
+use Rattle.ffct.specs.Transforms.{Transform, cosineDft, sineDft, dct}
+use Rattle.ffct.proofs.Lengths.{len, pow-len, len-pos, per, len-per, quotient}
+use Rattle.ffct.proofs.Blocks.{Same, dft-same, dct-same}
+use Rattle.ffct.proofs.Sizes.{Inner, dft-size, dct-within}
+use Rattle.transforms.specs.Words.{word}
+use Rattle.transforms.specs.Steps.{top, Ready, Gives, Transformed}
+
+module _ {n room : ℕ} {words : List ℤ} (r : Ready n room words) where
+  pub as-len : n ≡ len (r .level)
+  as-len = r .is ∙ pow-len (r .level)
+
+  pub some : 1 ≤ n
+  some = omega (arith, as-len, len-pos (r .level))
+
+  -- the inner transform of ffct's laws
+  pub inner : Inner (r .level) (word words) (top / n)
+  inner = record {
+    level = r .small;
+    small = omega (arith, mul-div-le top n, ap (λ m. m * (top / n)) as-len);
+    bounded = λ i h. size-within _ (le-div-iff-mul-le some .1 (omega (arith, r .samples i (omega (arith, as-len)))));
+  }
+
+  -- n is at most 1,024 and divides it
+  pub divides : n * (1024 / n) ≡ 1024
+  divides =
+      let e : n * per (r .level) ≡ 1024 = omega (arith, len-per (r .level) (r .small), ap (λ m. m * per (r .level)) as-len) in
+      ap (λ q. n * q) (quotient n (per (r .level)) (per (r .level)) 1024 e (sym e)) ∙ e
+
+  pub at-most : n ≤ 1024
+  at-most = factor-le n (1024 / n) divides
+    where
+      factor-le : (a b : ℕ) → a * b ≡ 1024 → a ≤ 1024
+      factor-le a zero e = absurd (omega arith)
+      factor-le a (suc b) e = omega (arith, mul-suc a b)
+
+  -- each sample, whatever the length
+  pub sample-le : (i : ℕ) → i < n → natAbs (word words i) ≤ top
+  sample-le i h = omega (arith, mul-le-mul-right (natAbs (word words i)) some, r .samples i h)
+
+  -- the sizes of the coefficients of the samples x that n samples at the front are
+  module _ (x : Samples) (e : Same (r .level) (word words) x) where
+    pub cosine-le : (k : ℕ) → 2 * k ≤ n → natAbs (cosineDft (r .level) x .at k) ≤ top + 128
+    cosine-le k h = subst (λ t. natAbs (t .at k) ≤ top + 128) (dft-same (r .level) (word words) x e .0) (within-size (dft-size inner k (omega (arith, as-len)) .0))
+
+    pub sine-le : (k : ℕ) → 2 * k ≤ n → natAbs (sineDft (r .level) x .at k) ≤ top + 128
+    sine-le k h = subst (λ t. natAbs (t .at k) ≤ top + 128) (dft-same (r .level) (word words) x e .1) (within-size (dft-size inner k (omega (arith, as-len)) .1))
+
+    pub dct-le : (k : ℕ) → k < n → natAbs (dct (r .level) x .at k) ≤ top + 257
+    dct-le k h = subst (λ t. natAbs (t .at k) ≤ top + 257) (dct-same (r .level) (word words) x e) (within-size (dct-within inner k (omega (arith, as-len))))
+
+-- ---- the level of n
+pub len-injective : (L M : ℕ) → len L ≡ len M → L ≡ M
+len-injective zero zero e = refl
+len-injective zero (suc M) e = absurd (omega arith)
+len-injective (suc L) zero e = absurd (omega arith)
+len-injective (suc L) (suc M) e = ap suc (len-injective L M (omega arith))
+
+-- what is shown at the level that `Ready` has is shown
+pub at-level : {transform : ℕ → Samples → Transform} {n room m : ℕ} {before after : List ℤ} {p a : ℕ} (r : Ready n room before) →
+    Gives (transform (r .level) (word before)) m before after p a → Transformed transform n m before after p a
+at-level {transform} {m = m} {before} {after} {p} {a} r g = record {
+  gives = λ L e. subst (λ M. Gives (transform M (word before)) m before after p a)
+      (len-injective (r .level) L (omega (arith, as-len r, pow-len L))) g;
+}
+
+-- n is 1, or twice a length; 1, 2 or four times a length
+pub halves : (L n : ℕ) → n ≡ len L → (n ≡ 1 → ⊥) → (l : ℕ) × (L ≡ suc l) × (n ≡ 2 * len l)
+halves zero n e h = absurd (h e)
+halves (suc l) n e h = (l, refl, e)
+
+pub quarters : (L n : ℕ) → n ≡ len L → (n ≡ 1 → ⊥) → (n ≡ 2 → ⊥) → (l : ℕ) × (L ≡ suc (suc l)) × (n ≡ 4 * len l)
+quarters zero n e h g = absurd (h e)
+quarters (suc zero) n e h g = absurd (g e)
+quarters (suc (suc l)) n e h g = (l, refl, omega arith)

@@ -1,0 +1,11 @@
+pub mod Alternate
+pub mod Filling
+pub mod Folding
+pub mod Mirroring
+pub mod Joining
+pub mod Parts
+pub mod Levels
+pub mod Bases
+pub mod Runs
+pub mod DftRuns
+pub mod DctRuns
