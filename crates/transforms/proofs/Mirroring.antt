@@ -1,12 +1,13 @@
 -- What a loop has written that stores one word at k and one at t - k, for each k from `first` on (`Mirrored` of specs/Words).
 --     mirrored-none      before the first turn
 --     mirrored-more      one turn more
---     mirrored-high      a word above the middle, by its own place
 --     mirrored-read      a word that is read: at or above base all is as before
 --     mirrored-beside    after a store at a place that no turn has written; `mirrored-stored` and `mirrored-kept` have that word and the others
+--     mirrored-each      each word up to t, where the turns have come to the middle
 -- Assumes nothing.
 use mathlib.Core.Path.{_≡_, refl, _∙_}
 use mathlib.Core.List.{List}
+use mathlib.Core.Logic.{⊎-elim}
 use Prim.Native.Nat.{ℕ, _+_, _-_, _*_, _^_, _≤_, _<_}
 use native.Mathlib.Omega.{arith}
 use lib.IntN.{ℤ, pos}
@@ -18,6 +19,7 @@ use mir.Val.{SFits, ofZ}
 use mir.Facts.{toZ-ofZ}
 use borrow.Author.Count.{below-more}
 use borrow.Author.Needs.{sfits-of}
+use Rattle.whole.proofs.Cases.{le-or-lt}
 use Rattle.whole.proofs.Words.{Word}
 use Rattle.transforms.specs.Words.{word, Mirrored}
 
@@ -25,13 +27,14 @@ use Rattle.transforms.specs.Words.{word, Mirrored}
 pub held : {x y : ℤ} → mag x < 2 ^ 63 → x ≡ y → Word w64 (ofZ w64 x) y
 held {x} l e = let f : SFits w64 x = sfits-of l in record { is = toZ-ofZ f ∙ e; fits = rw e at f }
 
+-- a place is below m, at m, or above
+around : {A : Type 0} (m k : ℕ) → (k < m → A) → (k ≡ m → A) → (m < k → A) → A
+around m k low here high = ⊎-elim (λ l. ⊎-elim (λ g. here (omega arith)) low (le-or-lt m k)) high (le-or-lt k m)
+
 pub mirrored-none : {first t base : ℕ} {f g : ℕ → ℤ} {words : List ℤ} → Mirrored first first t base f g words words
 mirrored-none = record { len = refl; up = λ k h l. absurd (omega arith); down = λ k h l. absurd (omega arith); rest = λ k h. refl }
 
 module _ {first last t base : ℕ} {f g : ℕ → ℤ} {before after : List ℤ} (p : Mirrored first last t base f g before after) where
-  pub mirrored-high : (k : ℕ) → (k ≤ t) × (first ≤ t - k) × (t - k < last) → word after k ≡ g (t - k)
-  mirrored-high k h = let e : t - (t - k) ≡ k = omega arith in rw e at (p .down (t - k) (h .1) (h .2))
-
   pub mirrored-read : (k : ℕ) → base ≤ k → mag (word after k) < 2 ^ 63 → Word w64 (ofZ w64 (word after k)) (word before k)
   mirrored-read k h l = held l (p .rest k h)
 
@@ -50,6 +53,21 @@ module _ {first last t base : ℕ} {f g : ℕ → ℤ} {before after : List ℤ}
       down = λ k h l. mirrored-kept (t - k) (beside .1 k h l .1) ∙ p .down k h l;
       rest = λ k h. mirrored-kept k (λ e. omega arith) ∙ p .rest k h;
     }
+
+  -- the words that the turns wrote, the middle one, and, where the turns began at 1, the first and the last
+  pub mirrored-each : {v : ℤ} → (first ≤ 1) × (t ≡ 2 * last) → (k : ℕ) → k ≤ t
+      → (first ≡ 1 → k ≡ 0 → word after k ≡ v)
+      → (first ≤ k → k < last → f k ≡ v)
+      → (k ≡ last → word after k ≡ v)
+      → (last < k → first ≤ t - k → g (t - k) ≡ v)
+      → (first ≡ 1 → k ≡ t → word after k ≡ v)
+      → word after k ≡ v
+  mirrored-each h k l zero up middle down end =
+      let back : t - (t - k) ≡ k = omega arith in
+      around last k
+      (λ b. ⊎-elim (λ a. p .up k a b ∙ up a b) (λ a. zero (omega arith) (omega arith)) (le-or-lt first k))
+      middle
+      (λ a. ⊎-elim (λ b. rw back at (p .down (t - k) b (omega arith)) ∙ down a b) (λ b. end (omega arith) (omega arith)) (le-or-lt first (t - k)))
 
 pub mirrored-more : {first last t base : ℕ} {f g : ℕ → ℤ} {before after : List ℤ} {x y : ℤ} → (2 * last < t) × (t - last < base) × (base ≤ length before)
     → x ≡ f last → y ≡ g last → Mirrored first last t base f g before after → Mirrored first (last + 1) t base f g before (set (set after last x) (t - last) y)

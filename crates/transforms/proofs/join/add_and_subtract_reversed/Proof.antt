@@ -11,7 +11,7 @@ use Rattle.transforms.proofs.join.add_and_subtract_reversed.Statement.{
 use Rattle.transforms.proofs.join.add_and_subtract_reversed.Tie as tie
 
 abbrev Inv-loop : tie.InvT-loop
-Inv-loop w₀ n q h b sums₀ k₀ w sums k = (1 ≤ k) × (k ≤ q) × (sums ≡ 2 * (k - 1)) × SineRun n k w₀ w
+Inv-loop w₀ n q h b sums₀ k₀ w sums k = ((1 ≤ k) × (k ≤ q) × (sums ≡ 2 * (k - 1))) × SineRun n k w₀ w
 
 abbrev μ-loop : tie.MeasureT-loop
 μ-loop w₀ n q h b sums₀ k₀ w sums k = q - k
@@ -23,7 +23,7 @@ add-b-2 : tie.Need-add-b-2 Inv-loop μ-loop
 add-b-2 c = search needs
 
 loop-holds : tie.Need-loop-holds Inv-loop μ-loop
-loop-holds c = (omega arith, omega arith, omega arith, mirrored-none)
+loop-holds c = (omega arith, mirrored-none)
 
 add-e : tie.Need-add-e Inv-loop μ-loop
 add-e c = search needs
@@ -50,7 +50,7 @@ slice-copy-out-d c = search needs
 turn : (c : tie.After-d Inv-loop μ-loop) →
     let l = c .before .before .before in
     JoinTurn (l .before .args .n) (l .loop .k) (l .before .args .n / 4 - l .loop .k) (l .before .args .w .now) (l .loop .w)
-turn c = let l = c .before .before .before in join-turn (l .loop .inv .3) (l .before .pre .1) _ _ (omega arith) (c .before .e .given) (c .d .given)
+turn c = let l = c .before .before .before in join-turn (l .loop .inv .1) (l .before .pre .1) _ _ (omega arith) (c .before .e .given) (c .d .given)
 
 add-w : tie.Need-add-w Inv-loop μ-loop
 add-w c = turn c .sum .asked
@@ -86,12 +86,7 @@ loop-less : tie.Need-loop-less Inv-loop μ-loop
 loop-less c = search needs
 
 loop-again : tie.Need-loop-again Inv-loop μ-loop
-loop-again c = (
-  omega arith,
-  omega arith,
-  omega arith,
-  mirrored-more (omega arith) (turn c .sum .made) (turn c .reversed .made) (c .before .before .before .loop .inv .3),
-)
+loop-again c = (omega arith, mirrored-more (omega arith) (turn c .sum .made) (turn c .reversed .made) (c .before .before .before .loop .inv .1))
 
 same-length : tie.Need-same-length Inv-loop μ-loop
 same-length c = search needs
@@ -99,7 +94,7 @@ same-length c = search needs
 returns : tie.Need-returns Inv-loop μ-loop
 returns c =
     let end : c .before .loop .k ≡ c .before .before .args .n / 4 = omega arith in
-    (rw end at (c .before .loop .inv .3), omega arith)
+    (rw end at (c .before .loop .inv .1), omega arith)
 
 pub add-and-subtract-reversed-spec : {M : Type 1} → statement M
 add-and-subtract-reversed-spec =

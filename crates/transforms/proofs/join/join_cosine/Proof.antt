@@ -1,8 +1,7 @@
 -- `transforms::join::join_cosine` meets its contract: the loop's pairs and the middle word are (12). Assumes nothing.
-use mathlib.Core.Path.{refl}
 use native.Mathlib.Omega.{arith}
 use borrow.Author.Needs.{needs}
-use Rattle.transforms.proofs.Mirroring.{held}
+use Rattle.transforms.proofs.Mirroring.{mirrored-read}
 use Rattle.transforms.proofs.Joining.{cosine-joined}
 use Rattle.transforms.proofs.join.join_cosine.Statement.{statement}
 use Rattle.transforms.proofs.join.join_cosine.Tie as tie
@@ -31,7 +30,7 @@ same-length c = search needs
 returns : tie.Need-returns
 returns c =
     let pairs = c .before .before .add-and-subtract .ensures in
-    cosine-joined (omega arith) (pairs .0) (pairs .1) (held (c .e .given) refl .is)
+    cosine-joined (omega arith) (pairs .0) (pairs .1) (mirrored-read (pairs .0) _ (omega arith) (c .e .given) .is)
 
 pub join-cosine-spec : {M : Type 1} → statement M
 join-cosine-spec =

@@ -1,9 +1,8 @@
 -- `transforms::join::join_sine` meets its contract: the loop's pairs, the middle word and the two zeros are (15). Assumes nothing.
-use mathlib.Core.Path.{refl}
 use native.Mathlib.Omega.{arith}
 use lib.ListN.{length-set}
 use borrow.Author.Needs.{needs}
-use Rattle.transforms.proofs.Mirroring.{held}
+use Rattle.transforms.proofs.Mirroring.{mirrored-read}
 use Rattle.transforms.proofs.Joining.{sine-joined}
 use Rattle.transforms.proofs.join.join_sine.Statement.{statement}
 use Rattle.transforms.proofs.join.join_sine.Tie as tie
@@ -44,7 +43,7 @@ same-length c = search needs
 returns : tie.Need-returns
 returns c =
     let pairs = c .before .before .add-and-subtract-reversed .ensures in
-    sine-joined (omega arith) (c .before .before .before .before .pre .1 .0) (pairs .0) (pairs .1) (held (c .d .given) refl .is)
+    sine-joined (omega arith) (c .before .before .before .before .pre .1 .0) (pairs .0) (pairs .1) (mirrored-read (pairs .0) _ (omega arith) (c .d .given) .is)
 
 pub join-sine-spec : {M : Type 1} → statement M
 join-sine-spec =

@@ -1,4 +1,4 @@
--- `transforms::join::sum_and_difference` meets its contract. Assumes nothing.
+-- `transforms::join::sum_and_difference` meets its contract: the samples are small enough that both fit a word. Assumes nothing.
 use mathlib.Core.List.{List}
 use mathlib.Core.Path.{refl, _∙_}
 use Prim.Native.Nat.{ℕ, _*_, _<_}

@@ -1,5 +1,5 @@
--- `transforms::rotate::rotate_all` meets its contract: the loop's pairs, the first word and the rotated middle one are (18). Assumes nothing.
-use mathlib.Core.Path.{refl, _∙_, ap}
+-- `transforms::rotate::rotate_all` meets its contract: the loop's pairs, the first word and the middle one are (18) and (19). Assumes nothing.
+use mathlib.Core.Path.{_∙_, ap}
 use Prim.Native.Nat.{_+_, _/_}
 use native.Mathlib.Omega.{arith}
 use lib.IntN.{_*ℤ_}
@@ -64,8 +64,9 @@ same-length c = search needs
 
 returns : tie.Need-returns
 returns c =
-    dct-rotated (omega arith) (c .before .before .before .before .before .before .before .pre .0 .4) (c .before .before .before .before .before .rotate-pairs .ensures)
-    (held (c .before .before .before .first .given) refl .is)
+    let pairs = c .before .before .before .before .before .rotate-pairs .ensures in
+    dct-rotated (omega arith) (c .before .before .before .before .before .before .before .pre .0 .4) pairs
+    (mirrored-read (pairs .words) _ (omega arith) (c .before .before .before .first .given) .is)
     (held (c .before .rotate-middle .ok) (c .before .rotate-middle .ensures) .is ∙ ap (λ z. round (T 512 *ℤ z)) (middle (c .before .before) .is))
 
 pub rotate-all-spec : {M : Type 1} → statement M

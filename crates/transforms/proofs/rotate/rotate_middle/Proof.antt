@@ -1,4 +1,4 @@
--- `transforms::rotate::rotate_middle` meets its contract: the product is of 31 by 30 bits. Assumes nothing.
+-- `transforms::rotate::rotate_middle` meets its contract: the product of a table entry and a coefficient fits a word. Assumes nothing.
 use mathlib.Core.Path.{_∙_, ap}
 use lib.Dec.{lit<, lit≤}
 use lib.IntN.{_*ℤ_}

@@ -1,5 +1,4 @@
--- `transforms::rotate::rotate_pair` meets its contract: each step of (20) fits (ffct/proofs/Sizes), and the two differences before rounding are those of (19).
--- Assumes nothing.
+-- `transforms::rotate::rotate_pair` meets its contract: each step of (20) fits a word (ffct/proofs/Sizes), and what is rounded is (19). Assumes nothing.
 use mathlib.Core.Path.{refl, _∙_, ap}
 use Prim.Native.Nat.{ℕ}
 use lib.IntN.{ℤ, _+ℤ_, _-ℤ_, _*ℤ_}

@@ -22,7 +22,7 @@ use Rattle.transforms.proofs.rotate.rotate_pairs.Tie as tie
 
 abbrev Inv-loop : tie.InvT-loop
 Inv-loop wave w₀ n h step products₀ sums₀ k₀ w products sums k =
-    (1 ≤ k) × (k ≤ h) × (products ≡ 3 * (k - 1)) × (sums ≡ 3 * (k - 1)) × RotationRun n k w₀ w
+    ((1 ≤ k) × (k ≤ h) × (products ≡ 3 * (k - 1)) × (sums ≡ 3 * (k - 1))) × RotationRun n k w₀ w
 
 abbrev μ-loop : tie.MeasureT-loop
 μ-loop wave w₀ n h step products₀ sums₀ k₀ w products sums k = h - k
@@ -45,8 +45,8 @@ turn c =
     let l = c .before .before .before .before .before in
     let n = l .before .args .n in
     record {
-      cosine = mirrored-read (l .loop .inv .4) (n + l .loop .k) (omega arith) (c .before .x .given);
-      sine = mirrored-read (l .loop .inv .4) (n + n / 2 + 1 + l .loop .k) (omega arith) (c .y .given);
+      cosine = mirrored-read (l .loop .inv .1) (n + l .loop .k) (omega arith) (c .before .x .given);
+      sine = mirrored-read (l .loop .inv .1) (n + n / 2 + 1 + l .loop .k) (omega arith) (c .y .given);
       entry = held (c .before .before .before .wave-at .ok) (c .before .before .before .wave-at .ensures);
       mirror = held (c .before .before .wave-at2 .ok) (c .before .before .wave-at2 .ensures);
     }
@@ -55,7 +55,7 @@ div-step : tie.Need-div-step Inv-loop μ-loop
 div-step c = search needs
 
 loop-holds : tie.Need-loop-holds Inv-loop μ-loop
-loop-holds c = (omega arith, omega arith, omega arith, omega arith, mirrored-none)
+loop-holds c = (omega arith, mirrored-none)
 
 mul-j : tie.Need-mul-j Inv-loop μ-loop
 mul-j c = record { fits = omega (arith, place (c .before .before .args .n) (c .before .loop .k) (omega arith)) }
@@ -135,16 +135,10 @@ loop-less c = search needs
 loop-again : tie.Need-loop-again Inv-loop μ-loop
 loop-again c =
     let t = turn (c .before .before .before .before .before) in
-    let r = rw (t .cosine .is, t .sine .is, t .entry .is, t .mirror .is) at (c .before .before .before .before .rotate-pair .ensures) in (
-      omega arith,
-      omega arith,
-      omega arith,
-      omega arith,
-      mirrored-more (omega arith)
-          (held (c .before .before .before .struct-told .given .0 .1) (r .low) .is)
-          (held (c .before .before .struct-told2 .given .1 .0 .1) (r .high) .is)
-          (c .before .before .before .before .before .before .before .before .before .before .loop .inv .4),
-    )
+    let r = rw (t .cosine .is, t .sine .is, t .entry .is, t .mirror .is) at (c .before .before .before .before .rotate-pair .ensures) in
+    let low = held (c .before .before .before .struct-told .given .0 .1) (r .low) in
+    let high = held (c .before .before .struct-told2 .given .1 .0 .1) (r .high) in
+    (omega arith, mirrored-more (omega arith) (low .is) (high .is) (c .before .before .before .before .before .before .before .before .before .before .loop .inv .1))
 
 same-length : tie.Need-same-length Inv-loop μ-loop
 same-length c = search needs
@@ -152,7 +146,7 @@ same-length c = search needs
 returns : tie.Need-returns Inv-loop μ-loop
 returns c =
     let end : c .before .loop .k ≡ c .before .before .args .n / 2 = omega arith in
-    record { words = rw end at (c .before .loop .inv .4); products = omega arith; sums = omega arith }
+    record { words = rw end at (c .before .loop .inv .1); products = omega arith; sums = omega arith }
 
 pub rotate-pairs-spec : {M : Type 1} → statement M
 rotate-pairs-spec =
