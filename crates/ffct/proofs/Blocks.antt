@@ -1,6 +1,6 @@
 -- A transform of level L reads the first 2 ^ L samples and no others; the sine-DFT is zero at k = 0 and k = N/2; a step reads only the coefficients in range.
 -- Assumes nothing.
-use mathlib.Core.Path.{_≡_, refl, sym, _∙_, ap, ap₂, subst}
+use mathlib.Core.Path.{_≡_, refl, sym, _∙_, ap, ap₂}
 use mathlib.Core.Logic.{_⊎_, inl, inr, ⊎-elim}
 use mathlib.Core.Bool.{cond}
 use Prim.Native.Nat.{ℕ, zero, suc, _+_, _*_, _-_, _/_, _^_, _<_, _≤_}
@@ -11,7 +11,7 @@ use Rattle.whole.proofs.Cases.{le-or-lt}
 use Rattle.whole.specs.Round.{round}
 use Rattle.circle.specs.Circle.{T}
 use Rattle.ffct.specs.Block.{Samples}
-use Rattle.ffct.specs.Transforms.{Transform, evens, foldedSums, foldedDifferences, alternate, rearranged, cosineBeyond, sineBeyond, dctBeyond, apart, rotated, dctBy, cosineDft, sineDft, dct}
+use Rattle.ffct.specs.Transforms.{evens, foldedSums, foldedDifferences, alternate, rearranged, cosineBeyond, sineBeyond, dctBeyond, apart, rotated, dctBy, cosineDft, sineDft, dct}
 use Rattle.ffct.proofs.Lengths.{len, pow-len, len-pos}
 use Rattle.ffct.proofs.Steps.{rearranged-source, sine-step, cosine-low, cosine-high, sine-low, sine-high, dct-low, dct-middle, dct-high, rotated-zero, rotated-low, rotated-middle, rotated-high}
 

@@ -1,9 +1,9 @@
 -- A run of a DCT of n samples, n at least 2, after each of its calls.
 -- Assumes nothing.
-use mathlib.Core.Path.{_≡_, refl, sym, ap, ap₂, _∙_, subst}
+use mathlib.Core.Path.{_≡_, sym, ap, _∙_}
 use mathlib.Core.Logic.{⊎-elim}
 use mathlib.Core.List.{List}
-use Prim.Native.Nat.{ℕ, zero, suc, _+_, _-_, _*_, _/_, _^_, _≤_, _<_}
+use Prim.Native.Nat.{ℕ, suc, _+_, _-_, _*_, _/_, _^_, _≤_, _<_}
 use native.Mathlib.Omega.{arith}
 use lib.IntN.{ℤ, natAbs}
 use lib.ListN.{length}
@@ -11,7 +11,7 @@ use Rattle.whole.proofs.Cases.{le-or-lt}
 use Rattle.whole.proofs.Size.{within-size}
 use Rattle.ffct.specs.Block.{Samples}
 use Rattle.ffct.specs.Transforms.{rearranged, rotated, cosineDft, sineDft, dct}
-use Rattle.ffct.proofs.Lengths.{len, pow-len, len-pos, per, len-per}
+use Rattle.ffct.proofs.Lengths.{len, pow-len, len-pos}
 use Rattle.ffct.proofs.Counts.{few-operations}
 use Rattle.ffct.proofs.Sizes.{dft-size}
 use Rattle.ffct.proofs.Blocks.{Same, rearranged-same, dft-same, rotated-same}

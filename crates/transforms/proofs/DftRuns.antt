@@ -1,9 +1,9 @@
 -- A run of a cosine- or sine-DFT of n samples, n at least 4, after each of its calls. `transform` is cosineDft or sineDft, `fold` is foldedSums or foldedDifferences.
 -- Assumes nothing.
-use mathlib.Core.Path.{_≡_, refl, sym, ap, ap₂, _∙_, subst}
+use mathlib.Core.Path.{_≡_, sym, ap, ap₂, _∙_}
 use mathlib.Core.Logic.{⊎-elim}
 use mathlib.Core.List.{List}
-use Prim.Native.Nat.{ℕ, zero, suc, _+_, _-_, _*_, _/_, _^_, _≤_, _<_}
+use Prim.Native.Nat.{ℕ, suc, _+_, _-_, _*_, _/_, _^_, _≤_, _<_}
 use native.Mathlib.Nat.{le-refl, mul-le-mul-left, mul-le-mul-right}
 use native.Mathlib.Omega.{arith}
 use lib.IntN.{ℤ, pos, natAbs, _+ℤ_, _-ℤ_}
@@ -17,7 +17,7 @@ use Rattle.ffct.proofs.Counts.{few-operations}
 use Rattle.ffct.proofs.Near.{alternate-within, apart-le}
 use Rattle.ffct.proofs.Sizes.{Inner, dft-size, dct-within}
 use Rattle.ffct.proofs.Blocks.{Same, dft-same, dct-same, sine-first, sine-last, cosine-beyond-same, sine-beyond-same, dct-beyond-same}
-use Rattle.ffct.proofs.Steps.{cosine-low, cosine-high, sine-low, sine-high, dct-low, dct-middle, dct-high, cosine-step, sine-step, cosine-products, cosine-sums, sine-products, sine-sums}
+use Rattle.ffct.proofs.Steps.{cosine-step, sine-step, cosine-products, cosine-sums, sine-products, sine-sums}
 use Rattle.transforms.specs.Words.{word, Filled, FilledBySums}
 use Rattle.transforms.specs.Steps.{top, Ready, dftRoom, dctRoom, Gives, Transformed, evenAt, oddAt, CosineJoined, SineJoined}
 use Rattle.transforms.proofs.Parts.{part, back}

@@ -2,12 +2,11 @@
 -- Assumes nothing.
 use mathlib.Core.Path.{_≡_, refl, sym, ap, _∙_, subst}
 use mathlib.Core.List.{List}
-use Prim.Native.Nat.{ℕ, zero, suc, _+_, _-_, _*_, _/_, _^_, _≤_, _<_}
+use Prim.Native.Nat.{ℕ, zero, suc, _+_, _*_, _/_, _≤_, _<_}
 use native.Mathlib.Nat.{le-div-iff-mul-le, mul-div-le, mul-suc, mul-le-mul-right}
 use native.Mathlib.Omega.{arith}
 use lib.IntN.{ℤ, natAbs}
-use lib.ListN.{length}
-use Rattle.whole.proofs.Size.{_within_, size-within, within-size}
+use Rattle.whole.proofs.Size.{size-within, within-size}
 use Rattle.ffct.specs.Block.{Samples}
 use Rattle.ffct.specs.Transforms.{Transform, cosineDft, sineDft, dct}
 use Rattle.ffct.proofs.Lengths.{len, pow-len, len-pos, per, len-per, quotient}

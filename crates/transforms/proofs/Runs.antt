@@ -1,7 +1,7 @@
 -- A run of a transform: samples are put behind the input and transformed there, others are put behind the result and transformed there; then the two
 -- results are joined. What stands where after each call.
 -- Assumes nothing.
-use mathlib.Core.Path.{_≡_, sym, ap, _∙_, subst}
+use mathlib.Core.Path.{_≡_, ap, _∙_}
 use mathlib.Core.List.{List}
 use Prim.Native.Nat.{ℕ, _+_, _-_, _≤_, _<_}
 use native.Mathlib.Omega.{arith}

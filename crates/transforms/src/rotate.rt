@@ -8,7 +8,7 @@ ghost use lib.IntN.{natAbs, _*ℤ_};
 ghost use lib.ListN.{length};
 ghost use Rattle.whole.specs.Round.{round as rounded};
 ghost use Rattle.circle.specs.Circle.{T, IsQuarterWave};
-ghost use Rattle.transforms.specs.Words.{word, Mirrored};
+ghost use Rattle.transforms.specs.Words.{word};
 ghost use Rattle.transforms.specs.Steps.{top, PairRotated, PairsRotated, DctRotated};
 
 // DCT(k) and DCT(n - k), with the products and sums that they take.

@@ -1,13 +1,10 @@
 -- `transforms::cosine_dft`, `sine_dft` and `dct` meet their contracts: the rank 2 n, for the DCT 2 n + 1, falls at each call; what stands where after each call is
 -- kept in the records of DftRuns and DctRuns. Assumes nothing.
-use mathlib.Core.Path.{_≡_, refl, sym, ap, _∙_}
-use Prim.Native.Nat.{ℕ, _+_, _-_, _*_, _/_, _^_, _<_, _≤_}
+use Prim.Native.Nat.{ℕ, _+_, _*_, _<_}
 use native.Mathlib.Omega.{arith}
 use borrow.Author.Needs.{needs}
-use lib.IntN.{ℤ, pos, natAbs}
-use lib.ListN.{length, length-set}
+use lib.ListN.{length-set}
 use Rattle.ffct.specs.Transforms.{cosineDft, sineDft, foldedSums, foldedDifferences}
-use Rattle.transforms.specs.Steps.{Ready}
 use Rattle.transforms.proofs.Levels.{some, sample-le}
 use Rattle.transforms.proofs.Bases.{cosine-one, cosine-two, dct-one, sine-few}
 use Rattle.transforms.proofs.DftRuns.{Run₁, Run₂, Run₃, Run₄, room, four, ready-even, ready-fold, samples₂, ready-odd, joinable, small₄, spent-small, cosine-kind, sine-kind, cosine-ends, sine-ends, sine-zeros}

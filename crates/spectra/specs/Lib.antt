@@ -1,0 +1,4 @@
+pub mod Words
+pub mod Refusals
+pub mod Counts
+pub mod Blocks
