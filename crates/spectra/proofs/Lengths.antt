@@ -4,10 +4,10 @@ use mathlib.Core.Path.{_≡_, refl, sym, ap, _∙_, subst}
 use mathlib.Core.Logic.{_⊎_, inl, inr, ⊎-elim}
 use mathlib.Core.List.{List, [], _∷_}
 use mathlib.Core.Bool.{Bool, true, false, not, cond, _||_, false≢true}
-use Prim.Native.Nat.{ℕ, zero, suc, _+_, _*_, _/_, _%_, _^_, _≤_, _<_}
+use Prim.Native.Nat.{ℕ, zero, suc, _+_, _/_, _%_, _^_, _≤_, _<_}
 use native.Mathlib.Nat.{pow-succ'}
 use native.Mathlib.Omega.{arith}
-use lib.Count.{onesIn, ones, ones-step}
+use lib.Count.{onesIn, ones, ones-step, trailingZeros}
 use lib.Dec.{T, eqb, leb, eqb→eq, leb→le}
 use lib.Pow.{pow-pos, pow-mono}
 use borrow.Author.Tests.{eqb-true}
@@ -32,12 +32,12 @@ every-at p N (m ∷ ms) t e = ⊎-elim
     (λ h. every-at p N ms (both-right _ _ t) h)
     (either (eqb N m) (oneOf N ms) e)
 
--- ---- a length is 2 to the power of its level, which is at most 10
+-- ---- a length is 2 to the power of its level, which is at most 10 and the number of its trailing zeros
 levelled : ℕ → Bool
-levelled N = both (eqb N (2 ^ level N)) (leb (level N) topLevel)
+levelled N = both (eqb N (2 ^ level N)) (both (leb (level N) topLevel) (eqb (trailingZeros 64 N) (level N)))
 
 levelled-at : (N : ℕ) → isLength N ≡ true → T (levelled N)
-unfolding isLength level both every levelled
+unfolding isLength level trailingZeros both every levelled
 levelled-at N h = every-at levelled N lengths tt h
 
 pub is-power : (N : ℕ) → isLength N ≡ true → N ≡ 2 ^ level N
@@ -46,7 +46,11 @@ is-power N h = eqb→eq _ _ (both-left _ _ (levelled-at N h))
 
 pub level-le : (N : ℕ) → isLength N ≡ true → level N ≤ topLevel
 unfolding levelled
-level-le N h = leb→le _ _ (both-right _ _ (levelled-at N h))
+level-le N h = leb→le _ _ (both-left _ _ (both-right _ _ (levelled-at N h)))
+
+pub trailing : (N : ℕ) → isLength N ≡ true → trailingZeros 64 N ≡ level N
+unfolding levelled
+trailing N h = eqb→eq _ _ (both-right _ _ (both-right _ _ (levelled-at N h)))
 
 pub length-le : (N : ℕ) → isLength N ≡ true → N ≤ 1024
 length-le N h = omega (arith, is-power N h, pow-mono (level-le N h))
@@ -64,10 +68,6 @@ some-level N h l = exponent-lt 0 (level N) (omega (arith, is-power N h))
 
 pub from-two : (N : ℕ) → isLength N ≡ true → (N ≡ 1 → ⊥) → (isLength N ≡ true) × (2 ≤ N) × (N ≤ 1024)
 from-two N h l = (h, omega (arith, is-power N h, pow-pos (level N)), length-le N h)
-
--- a power of two below a length is at most half of it
-pub doubled-le : (L N : ℕ) → isLength N ≡ true → 2 ^ L < N → 2 * 2 ^ L ≤ N
-doubled-le L N h l = let e = is-power N h in omega (arith, pow-succ' 2 L, pow-mono (exponent-lt L (level N) (omega arith)))
 
 -- ---- up to 1,024 the lengths are the numbers of which one binary digit is 1
 digits : (k n : ℕ) → n < 2 ^ k → ones n ≡ onesIn k n

@@ -5,3 +5,5 @@ pub mod Writing
 pub mod Sines
 pub mod BlockRuns
 pub mod Parts
+pub mod Verdicts
+pub mod Accepted

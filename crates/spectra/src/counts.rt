@@ -73,16 +73,18 @@ fn next_level(level: Level, n: u64) -> Level
     }
 }
 
-// The level of n samples, n from 2 one of the eleven lengths.
-fn level_counts(n: u64) -> Level
-    requires { ⌜ (isLength n ≡ true) × (2 ≤ n) × (n ≤ 1024) ⌝ }
-    ensures { λ r. ⌜ LevelCosts n (r .cosine .products) (r .cosine .sums) (r .sine .products) (r .sine .sums) (r .dct .products) (r .dct .sums) ⌝ }
+// The counts of the level `top`, that of 2^top samples.
+fn level_counts(top: u32) -> Level
+    requires { ⌜ (1 ≤ top) × (top ≤ 10) ⌝ }
+    ensures { λ r. ⌜ LevelCosts (2 ^ top) (r .cosine .products) (r .cosine .sums) (r .sine .products) (r .sine .sums) (r .dct .products) (r .dct .sums) ⌝ }
 {
     let mut level = first_level();
-    let mut m: u64 = 2;
-    while m < n {
-        level = next_level(level, m);
-        m = 2 * m;
+    let mut n: u64 = 2;
+    let mut l: u32 = 1;
+    while l < top {
+        level = next_level(level, n);
+        n = 2 * n;
+        l += 1;
     }
     level
 }
@@ -126,5 +128,5 @@ pub fn counts_of(n: usize) -> Counts
         };
     }
     let m = n as u64;
-    six_counts(level_counts(m), m)
+    six_counts(level_counts(usize::trailing_zeros(n)), m)
 }

@@ -1,8 +1,8 @@
 -- `spectra::counts::counts_of` meets its contract: at one sample the definitions compute. Assumes nothing.
-use mathlib.Core.Path.{refl}
+use mathlib.Core.Path.{refl, sym}
 use borrow.Author.Needs.{needs}
 use Rattle.ffct.specs.Transforms.{dctBy, cosineDft, sineDft, dct, spectrum, pair}
-use Rattle.spectra.proofs.Lengths.{one-level, from-two}
+use Rattle.spectra.proofs.Lengths.{one-level, from-two, trailing, some-level, level-le, is-power}
 use Rattle.spectra.proofs.counts.counts_of.Statement.{statement}
 use Rattle.spectra.proofs.counts.counts_of.Tie as tie
 
@@ -13,10 +13,16 @@ returns c =
     (record { ofDct = record { products = λ x. refl; sums = λ x. refl }; ofSpectrum = λ x. (refl, refl); ofPair = λ x y. (refl, refl) })
 
 level-counts-requires : tie.Need-level-counts-requires
-level-counts-requires c κs = from-two _ (c .before .pre) (c .if1 .left)
+level-counts-requires c κs =
+    let h = c .before .pre in
+    let (length, two, most) = from-two _ h (c .if1 .left) in
+    rw (trailing (c .before .args .n) h) (some-level _ h two, level-le _ h)
 
 six-counts-requires : tie.Need-six-counts-requires
-six-counts-requires c κs = (c .level-counts .ensures, from-two _ (c .before .before .pre) (c .before .if1 .left))
+six-counts-requires c κs =
+    let h = c .before .before .pre in
+    let n = c .before .before .args .n in
+    (rw (trailing n h, sym (is-power n h)) at (c .level-counts .ensures), from-two n h (c .before .if1 .left))
 
 pub counts-of-spec : {M : Type 1} → statement M
 counts-of-spec = tie.close (tie.spec returns level-counts-requires six-counts-requires (λ c. search needs))

@@ -1,0 +1,181 @@
+"""Compare bench/plain.c with tests/reference.py: `python3 bench/check_plain.py`.
+
+plain.c is compiled as a shared library and called through ctypes.  For every
+call the answer, the counts, the place, every word of every buffer and a few
+words beyond each buffer must be as the reference and document 01 say.
+"""
+
+import collections
+import ctypes
+import pathlib
+import random
+import subprocess
+import sys
+import tempfile
+import time
+
+BENCH = pathlib.Path(__file__).resolve().parent
+sys.path.insert(0, str(BENCH.parent / "tests"))
+
+import make_table  # noqa: E402  (found through the path set above)
+import reference as ref  # noqa: E402
+import reference_self_test as self_test  # noqa: E402
+
+COMPILE = "gcc -O2 -Wall -Wextra -Werror -std=c99 -shared -fPIC".split()
+FILLER = 0x5A5A5A5A     # stands in every word before a call
+BEYOND = 4              # words after the end of each buffer that must stay
+
+REFERENCE = {"spectrum": ref.spectrum_call, "cosine": ref.cosine_call, "pair": ref.pair_call}
+RECORDINGS = {"spectrum": 1, "cosine": 1, "pair": 2}
+RESULTS = {"spectrum": 2, "cosine": 1, "pair": 2}
+tried = collections.Counter()
+
+
+def compiled(directory):
+    target = pathlib.Path(directory) / "libplain.so"
+    subprocess.run([*COMPILE, "-o", str(target), str(BENCH / "plain.c")], check=True)
+    return ctypes.CDLL(str(target))
+
+
+def result_words(kind, N):
+    return N // 2 + 1 if kind == "spectrum" else N
+
+
+def products(kind, N):
+    counts = ref.tallied_counts(N)
+    return {"spectrum": counts.spectrum_products, "cosine": counts.dct_products,
+            "pair": counts.pair_products}[kind]
+
+
+# --- One call ------------------------------------------------------------------
+
+def with_lengths(buffers, lens):
+    """The C arguments: each buffer followed by its length."""
+    for buffer, length in zip(buffers, lens):
+        yield buffer
+        yield ctypes.c_size_t(length)
+
+
+def call_plain(library, kind, recordings, start, N, allowance, result_lens, scratch_len):
+    """Call plain.c; return (refusal, place, counts, result buffers, scratch)."""
+    def filled(word, size): return (word * size)(*[FILLER] * size)
+    lent = [(ctypes.c_int32 * (len(r) + 1))(*r) for r in recordings]
+    results = [filled(ctypes.c_int32, size + BEYOND) for size in result_lens]
+    scratch = filled(ctypes.c_int64, scratch_len + BEYOND)
+    counts, place = filled(ctypes.c_uint64, 2), ctypes.c_uint64(FILLER)
+    refusal = getattr(library, "plain_" + kind)(
+        *with_lengths(lent, [len(r) for r in recordings]),
+        ctypes.c_size_t(start), ctypes.c_size_t(N), ctypes.c_uint64(allowance),
+        *with_lengths(results, result_lens), scratch, ctypes.c_size_t(scratch_len),
+        counts, ctypes.byref(place))
+    assert [r[:-1] for r in lent] == [list(r) for r in recordings]
+    return refusal, place.value, list(counts), [r[:] for r in results], scratch[:]
+
+
+def expected_words(answer, N, result_lens, scratch_len):
+    """What call_plain must return for a reference answer."""
+    results = [[FILLER] * (size + BEYOND) for size in result_lens]
+    scratch = [FILLER] * (scratch_len + BEYOND)
+    counts = [FILLER] * 2
+    if answer.refusal == 0:
+        for buffer, values in zip(results, answer.results):
+            buffer[:len(values)] = values
+        scratch[:8 * N + 64] = [0] * (8 * N + 64)
+        counts = list(answer.counts)
+    place = FILLER if answer.place is None else answer.place
+    return answer.refusal, place, counts, results, scratch
+
+
+def compare(library, kind, recordings, start, N, allowance, result_lens, scratch_len):
+    answer = REFERENCE[kind](*recordings, start, N, allowance, *result_lens, scratch_len)
+    expected = expected_words(answer, N, result_lens, scratch_len)
+    given = call_plain(library, kind, recordings, start, N, allowance, result_lens, scratch_len)
+    assert given == expected, (kind, recordings, start, N, allowance, result_lens, scratch_len)
+    tried[answer.refusal] += 1
+
+
+# --- Which calls ---------------------------------------------------------------
+
+def check_accepted(library):
+    """accepted blocks of all lengths, random, extreme and telling, in longer recordings"""
+    rng = random.Random(1)
+    for N in ref.LENGTHS:
+        blocks = [self_test.random_block(rng, N) for _ in range(30)]
+        blocks += list(self_test.extreme_blocks(N))
+        telling = [ref.DIFFERS_FROM_DIRECT, *[block for block, _, _ in ref.TIES]]
+        blocks += [list(block) for block in telling if len(block) == N]
+        for kind, block in [(kind, block) for kind in REFERENCE for block in blocks]:
+            before, after = rng.randrange(4), rng.randrange(4)
+            wild = rng.choice((0, 2 ** 31 - 1, -2 ** 31))   # outside the block: not examined
+            recordings = [[wild] * before + x + [wild] * after
+                          for x in (block, rng.choice(blocks))[:RECORDINGS[kind]]]
+            result_lens = [result_words(kind, N) + rng.randrange(3) for _ in range(RESULTS[kind])]
+            compare(library, kind, recordings, before, N, products(kind, N) + rng.randrange(2),
+                    result_lens, 8 * N + 64 + rng.randrange(3))
+
+
+def check_refusals_together(library):
+    """every set of refusals 1 to 6 of every call"""
+    for kind, function in REFERENCE.items():
+        for numbers in [(), *self_test.subsets((1, 2, 3, 4, 5, 6))]:
+            call = self_test.broken(self_test.CALLS[function], numbers)
+            recordings = [call[key] for key in call if key in self_test.RECORDINGS]
+            result_lens = [call[key] for key in call if key in self_test.RESULT_LENS]
+            compare(library, kind, recordings, call["start"], call["length"],
+                    call["allowance"], result_lens, call["scratch_len"])
+
+
+def check_far_numbers(library):
+    """lengths, starts and allowances at the far end of their words"""
+    far = (2 ** 31, 2 ** 32, 2 ** 63, 2 ** 63 + 8, 2 ** 64 - 8, 2 ** 64 - 4, 2 ** 64 - 1)
+    for kind in REFERENCE:
+        recordings, lens = [[1] * 8] * RECORDINGS[kind], [8] * RESULTS[kind]
+        for number in far:
+            compare(library, kind, recordings, 0, number, 100, lens, 128)
+            compare(library, kind, recordings, number, 8, 100, lens, 128)
+            compare(library, kind, recordings, number, 1, 100, lens, 128)
+            compare(library, kind, recordings, 0, 8, number, lens, 128)
+        for N in (0, 3, 5, 6, 7, 12, 1023, 1025, 1536, 2047, 2048):
+            compare(library, kind, [[1] * 2048] * RECORDINGS[kind], 0, N, 10 ** 6,
+                    [2048] * RESULTS[kind], 8 * 2048 + 64)
+
+
+def near(rng, number):
+    """The number itself mostly, else one less or one more, never below 0."""
+    return max(0, number + rng.choice((0, 0, 0, 0, 0, 0, -1, 1)))
+
+
+def check_random(library, how_many=3000):
+    """random calls with every size at its edge, mostly accepted, some refused"""
+    rng = random.Random(6)
+    for _ in range(how_many):
+        kind = rng.choice(list(REFERENCE))
+        N = rng.choice(ref.LENGTHS)
+        start = rng.randrange(5)
+        recordings = [self_test.random_block(rng, near(rng, start + N))
+                      for _ in range(RECORDINGS[kind])]
+        for recording in recordings:
+            if recording and rng.random() < 0.15:
+                limit = rng.choice((-1, 1)) * rng.choice((self_test.MOST, self_test.TOO_MUCH))
+                recording[rng.randrange(len(recording))] = limit
+        compare(library, kind, recordings, start, rng.choice((N,) * 20 + (N + 1,)),
+                near(rng, products(kind, N)),
+                [near(rng, result_words(kind, N)) for _ in range(RESULTS[kind])],
+                near(rng, 8 * N + 64))
+
+
+def main():
+    begun = time.perf_counter()
+    assert (BENCH / "table.h").read_text() == make_table.table_text(), "run make_table.py"
+    with tempfile.TemporaryDirectory() as directory:
+        library = compiled(directory)
+        for check in (check_accepted, check_refusals_together, check_far_numbers, check_random):
+            since = time.perf_counter()
+            check(library)
+            print("passed in %6.3f s: %s" % (time.perf_counter() - since, check.__doc__))
+    print("answers:", ", ".join("%d x %d" % (tried[n], n) for n in sorted(tried)))
+    print("%d calls in %.1f s" % (sum(tried.values()), time.perf_counter() - begun))
+
+
+if __name__ == "__main__":
+    main()

@@ -1,0 +1,125 @@
+-- What the calls promise, for every input: the verdict, what stays after a refusal, and all that an accepted call leaves behind. N is the length, L its level, x the samples of the
+-- block, x(0) being the sample at the start.
+use mathlib.Core.Bool.{true, false}
+use mathlib.Core.List.{List, [], _∷_}
+use mathlib.Core.Path.{_≡_}
+use Prim.Native.Nat.{ℕ, _+_, _/_, _≤_, _<_}
+use lib.IntN.{ℤ, pos}
+use Rattle.ffct.specs.Block.{Samples, AcceptedBlock}
+use Rattle.ffct.specs.Exact.{exactCosine, exactSine, exactDct, exactReal, exactImaginary, eighth, quarterOfNext, quarter, Within}
+use Rattle.ffct.specs.Transforms.{dct as dctOf, spectrum as spectrumOf, pair as pairOf}
+use Rattle.ffct.specs.Counts.{dctProducts, dctSums, spectrumProducts, spectrumSums, pairProducts, pairSums}
+use Rattle.transforms.specs.Words.{word}
+use Rattle.spectra.specs.declared.Answer.{Answer}
+use Rattle.spectra.specs.declared.CountsAnswer.{CountsAnswer}
+use Rattle.spectra.specs.declared.CountsAnswer.the-variants.{BadLength, Counted}
+use Rattle.spectra.specs.Words.{Written}
+use Rattle.spectra.specs.Refusals.{isLength, level, scratchWords, block, accepted, Call, verdict}
+use Rattle.spectra.specs.Counts.{SixCounts, SixPublished}
+use Rattle.spectra.specs.Answers.{verdictOf, products, sums}
+
+-- ---- Spectrum
+abbrev pub spectrumCall : List ℤ → ℕ → ℕ → ℕ → List ℤ → List ℤ → List ℤ → Call
+spectrumCall recording start N allowance cosine sine scratch =
+    record {
+      recordings = recording ∷ [];
+      start = start;
+      N = N;
+      allowance = allowance;
+      results = cosine ∷ sine ∷ [];
+      yields = N / 2 + 1;
+      scratch = scratch;
+      products = spectrumOf (level N) (block recording start) .products;
+    }
+
+-- an accepted call that spends p products and a sums; the buffers' words before, and after (marked ′)
+pub record SpectrumDone (N : ℕ) (x : Samples) (allowance : ℕ) (cosine sine scratch cosine′ sine′ scratch′ : List ℤ) (p a : ℕ) : Type 0 where
+  pub block : AcceptedBlock (level N) x
+  pub cosineWords : Written (N / 2 + 1) (spectrumOf (level N) x .cosine) cosine cosine′
+  pub sineWords : Written (N / 2 + 1) (spectrumOf (level N) x .sine) sine sine′
+  pub cosineNear : (k : ℕ) → k ≤ N / 2 → Within (eighth N) (word cosine′ k) (exactCosine N x k)
+  pub sineNear : (k : ℕ) → k ≤ N / 2 → Within (eighth N) (word sine′ k) (exactSine N x k)
+  pub scratchCleared : Written (scratchWords N) (λ k. pos 0) scratch scratch′
+  pub tallied : (p ≡ spectrumOf (level N) x .products) × (a ≡ spectrumOf (level N) x .sums)
+  pub published : 2 ≤ N → (pos p ≡ spectrumProducts (level N)) × (pos a ≡ spectrumSums (level N))
+  pub nothingAtOne : N ≡ 1 → (p ≡ 0) × (a ≡ 0)
+  pub allowed : p ≤ allowance
+
+pub record SpectrumPromise (recording : List ℤ) (start N allowance : ℕ) (cosine sine scratch cosine′ sine′ scratch′ : List ℤ) (answer : Answer) : Type 0 where
+  pub verdict : verdictOf answer ≡ verdict (spectrumCall recording start N allowance cosine sine scratch)
+  pub unchanged : (verdictOf answer ≡ accepted → ⊥) → (cosine′ ≡ cosine) × (sine′ ≡ sine) × (scratch′ ≡ scratch)
+  pub done : verdictOf answer ≡ accepted →
+      SpectrumDone N (block recording start) allowance cosine sine scratch cosine′ sine′ scratch′ (products answer) (sums answer)
+
+-- ---- Cosine
+abbrev pub cosineCall : List ℤ → ℕ → ℕ → ℕ → List ℤ → List ℤ → Call
+cosineCall recording start N allowance coefficients scratch =
+    record {
+      recordings = recording ∷ [];
+      start = start;
+      N = N;
+      allowance = allowance;
+      results = coefficients ∷ [];
+      yields = N;
+      scratch = scratch;
+      products = dctOf (level N) (block recording start) .products;
+    }
+
+pub record CosineDone (N : ℕ) (x : Samples) (allowance : ℕ) (coefficients scratch coefficients′ scratch′ : List ℤ) (p a : ℕ) : Type 0 where
+  pub block : AcceptedBlock (level N) x
+  pub words : Written N (dctOf (level N) x .at) coefficients coefficients′
+  pub near : (k : ℕ) → k < N → Within (quarterOfNext N) (word coefficients′ k) (exactDct N x k)
+  pub scratchCleared : Written (scratchWords N) (λ k. pos 0) scratch scratch′
+  pub tallied : (p ≡ dctOf (level N) x .products) × (a ≡ dctOf (level N) x .sums)
+  pub published : (pos p ≡ dctProducts (level N)) × (pos a ≡ dctSums (level N))
+  pub allowed : p ≤ allowance
+
+pub record CosinePromise (recording : List ℤ) (start N allowance : ℕ) (coefficients scratch coefficients′ scratch′ : List ℤ) (answer : Answer) : Type 0 where
+  pub verdict : verdictOf answer ≡ verdict (cosineCall recording start N allowance coefficients scratch)
+  pub unchanged : (verdictOf answer ≡ accepted → ⊥) → (coefficients′ ≡ coefficients) × (scratch′ ≡ scratch)
+  pub done : verdictOf answer ≡ accepted →
+      CosineDone N (block recording start) allowance coefficients scratch coefficients′ scratch′ (products answer) (sums answer)
+
+-- ---- Pair, recordings a and b
+abbrev pub pairCall : List ℤ → List ℤ → ℕ → ℕ → ℕ → List ℤ → List ℤ → List ℤ → Call
+pairCall a b start N allowance real imaginary scratch =
+    record {
+      recordings = a ∷ b ∷ [];
+      start = start;
+      N = N;
+      allowance = allowance;
+      results = real ∷ imaginary ∷ [];
+      yields = N;
+      scratch = scratch;
+      products = pairOf (level N) (block a start) (block b start) .products;
+    }
+
+pub record PairDone (N : ℕ) (x y : Samples) (allowance : ℕ) (real imaginary scratch real′ imaginary′ scratch′ : List ℤ) (p a : ℕ) : Type 0 where
+  pub blockA : AcceptedBlock (level N) x
+  pub blockB : AcceptedBlock (level N) y
+  pub realWords : Written N (pairOf (level N) x y .real) real real′
+  pub imaginaryWords : Written N (pairOf (level N) x y .imaginary) imaginary imaginary′
+  pub realNear : (k : ℕ) → k < N → Within (quarter N) (word real′ k) (exactReal N x y k)
+  pub imaginaryNear : (k : ℕ) → k < N → Within (quarter N) (word imaginary′ k) (exactImaginary N x y k)
+  pub scratchCleared : Written (scratchWords N) (λ k. pos 0) scratch scratch′
+  pub tallied : (p ≡ pairOf (level N) x y .products) × (a ≡ pairOf (level N) x y .sums)
+  pub published : 2 ≤ N → (pos p ≡ pairProducts (level N)) × (pos a ≡ pairSums (level N))
+  pub nothingAtOne : N ≡ 1 → (p ≡ 0) × (a ≡ 0)
+  pub allowed : p ≤ allowance
+
+pub record PairPromise (a b : List ℤ) (start N allowance : ℕ) (real imaginary scratch real′ imaginary′ scratch′ : List ℤ) (answer : Answer) : Type 0 where
+  pub verdict : verdictOf answer ≡ verdict (pairCall a b start N allowance real imaginary scratch)
+  pub unchanged : (verdictOf answer ≡ accepted → ⊥) → (real′ ≡ real) × (imaginary′ ≡ imaginary) × (scratch′ ≡ scratch)
+  pub done : verdictOf answer ≡ accepted →
+      PairDone N (block a start) (block b start) allowance real imaginary scratch real′ imaginary′ scratch′ (products answer) (sums answer)
+
+-- ---- the count query: it tests 1 alone, and gives all six counts, by the definitions and by the closed forms
+abbrev pub Counts : ℕ → CountsAnswer → Type 0
+Counts N BadLength = ⊥
+Counts N (Counted c) =
+    SixCounts (level N) (c .dct .products) (c .dct .sums) (c .spectrum .products) (c .spectrum .sums) (c .pair .products) (c .pair .sums)
+    × SixPublished N (c .dct .products) (c .dct .sums) (c .spectrum .products) (c .spectrum .sums) (c .pair .products) (c .pair .sums)
+
+pub record CountsPromise (N : ℕ) (answer : CountsAnswer) : Type 0 where
+  pub refused : isLength N ≡ false → answer ≡ BadLength
+  pub counted : isLength N ≡ true → Counts N answer

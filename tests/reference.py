@@ -1,0 +1,508 @@
+"""Reference implementation of docs/01-scope.md, for tests only.
+
+This module was written from the paper alone (document 01, and source document
+001 for the equations) and shares no code with the product.  It says what every
+call answers, in whole numbers of any size, with no thought for speed.
+
+  the cosine circle    UNIT_STEP, K(place), T
+  the rounding         round30(v)
+  the transforms       cosine_dft(x), sine_dft(x), dct(x), spectrum(x), pair(a, b)
+  the counts           closed_counts(N), tallied_counts(N)
+  the exact sums       exact_cosine(x, k) .. exact_imaginary(a, b, k), all times 2^80
+  the distances        within_eighth, within_quarter_more, within_quarter
+  the calls            spectrum_call, cosine_call, pair_call, count_query
+  the pair file        read_pair_file(data, a_len, b_len), pairspec(data)
+  telling blocks       DIFFERS_FROM_DIRECT, TIES
+
+N is always the length of a block, C a cosine-DFT, S a sine-DFT.  Numbers in
+round brackets, as (12), are the equations of source document 001.
+
+`python3 tests/reference.py --self-test` runs tests/reference_self_test.py.
+"""
+
+import functools
+import math
+import struct
+import sys
+from typing import NamedTuple, Optional
+
+LENGTHS = (1, 2, 4, 8, 16, 32, 64, 128, 256, 512, 1024)
+LARGEST_SAMPLE = 1_000_000
+MOST_FILE_SAMPLES = 4_096
+
+# A 0/1 block of 16 samples on which every kind of coefficient (cosine-DFT,
+# sine-DFT, DCT, and Pair's two parts with this block as both a and b) has some
+# k where the exact sum, rounded once to the nearest, is not the value of the
+# transform.  It is the first such block when the samples are counted up as a
+# binary number with x(0) as its lowest digit.
+DIFFERS_FROM_DIRECT = (0, 1, 1, 0, 0, 0, 0, 0, 0, 0, 0, 0, 0, 0, 0, 0)
+
+# Blocks of 4 samples on which DCT(k) is rounded from an exact tie, 8090.5 or
+# -8090.5, each with its k and the value that the rounding must give.
+TIES = (
+    ((13726, 0, 11996, 0), 1, 8091),
+    ((-13726, 0, -11996, 0), 1, -8090),
+    ((-11996, 0, 13726, 0), 3, 8091),
+    ((11996, 0, -13726, 0), 3, -8090),
+)
+
+
+# --- The cosine circle ---------------------------------------------------------
+
+B = 2 ** 80
+
+
+def make_unit_step():
+    """The pair (c, s) of one place: a right angle halved ten times."""
+    c, s = 0, B
+    for _ in range(10):
+        c, s = math.isqrt(B * (B + c) // 2), math.isqrt(B * (B - c) // 2)
+    return c, s
+
+
+UNIT_STEP = make_unit_step()
+
+
+def make_first_quarter():
+    """K(0) .. K(1024), by stepping from (B, 0)."""
+    c1, s1 = UNIT_STEP
+    c, s = B, 0
+    reached = []
+    for _ in range(1024):
+        reached.append(c)
+        c, s = (c * c1 - s * s1) // B, (s * c1 + c * s1) // B
+    return reached + [0]
+
+
+FIRST_QUARTER = make_first_quarter()
+
+
+def K(place):
+    """2^80 times the cosine at a place of the circle; any whole number is a place."""
+    place %= 4096
+    if place > 2048:
+        place = 4096 - place
+    if place > 1024:
+        return -FIRST_QUARTER[2048 - place]
+    return FIRST_QUARTER[place]
+
+
+T = [(K(j) + 2 ** 49) // 2 ** 50 for j in range(1025)]
+
+
+# --- The rounding --------------------------------------------------------------
+
+def round30(v):
+    """v / 2^30 to the nearest whole number, a tie going to the larger."""
+    return (v + 2 ** 29) // 2 ** 30
+
+
+# --- Tallies -------------------------------------------------------------------
+
+# A term that is zero for every block.  It is kept apart from a 0 that the
+# samples happen to give, because a sum with it is free.
+ALWAYS_ZERO = None
+
+
+def negative(term):
+    """The term with its sign changed; this is free."""
+    return ALWAYS_ZERO if term is ALWAYS_ZERO else -term
+
+
+class Tally:
+    """The products and sums made so far; each is counted where it is made."""
+
+    def __init__(self):
+        self.products = 0
+        self.sums = 0
+
+    def product(self, entry, value):
+        self.products += 1
+        return entry * value
+
+    def sum(self, left, right):
+        if left is ALWAYS_ZERO:
+            return right
+        if right is ALWAYS_ZERO:
+            return left
+        self.sums += 1
+        return left + right
+
+    def difference(self, left, right):
+        return self.sum(left, negative(right))
+
+
+# --- Coefficients at any k, by (6) to (10) -------------------------------------
+
+def dct_at(D, N, k):
+    """DCT(k) from the stored D(0) .. D(N-1)."""
+    if k < 0:
+        return dct_at(D, N, -k)                         # (7)
+    if k == N:
+        return ALWAYS_ZERO                              # (6)
+    if k > N:
+        return negative(dct_at(D, N, 2 * N - k))        # (8)
+    return D[k]
+
+
+def cosine_at(C, N, k):
+    """cosine-DFT(k), k = 0 .. N, from the stored C(0) .. C(N/2)."""
+    return C[k] if k <= N // 2 else C[N - k]            # (9)
+
+
+def sine_at(S, N, k):
+    """sine-DFT(k), k = 0 .. N, from the stored S(0) .. S(N/2)."""
+    return S[k] if k <= N // 2 else negative(S[N - k])  # (10)
+
+
+# --- The transforms as recursions on terms -------------------------------------
+
+def cosine_terms(x, tally):
+    """cosine-DFT(k), k = 0 .. N/2, by (12)."""
+    N = len(x)
+    if N == 1:
+        return [x[0]]
+    if N == 2:
+        return [tally.sum(x[0], x[1]), tally.difference(x[0], x[1])]
+    x1 = x[0::2]
+    x2 = [tally.sum(x[2 * n + 1], x[N - 2 * n - 1]) for n in range(N // 4)]
+    C = cosine_terms(x1, tally)
+    D = dct_terms(x2, tally)
+    return [tally.sum(cosine_at(C, N // 2, k), dct_at(D, N // 4, k))
+            for k in range(N // 2 + 1)]
+
+
+def sine_terms(x, tally):
+    """sine-DFT(k), k = 0 .. N/2, by (15)."""
+    N = len(x)
+    if N <= 2:
+        return [ALWAYS_ZERO] * N
+    x1 = x[0::2]
+    x3 = [tally.difference(x[2 * n + 1], x[N - 2 * n - 1]) for n in range(N // 4)]
+    x3 = [negative(term) if n % 2 == 1 else term for n, term in enumerate(x3)]
+    S = sine_terms(x1, tally)
+    D = dct_terms(x3, tally)
+    return [tally.sum(sine_at(S, N // 2, k), dct_at(D, N // 4, N // 4 - k))
+            for k in range(N // 2 + 1)]
+
+
+def rearranged(x):
+    """x4 of (16): even samples from the front, odd samples from the back."""
+    N = len(x)
+    x4 = [0] * N
+    for n in range(N // 2):
+        x4[n] = x[2 * n]
+        x4[N - n - 1] = x[2 * n + 1]
+    return x4
+
+
+def rotated(c, s, cosine, sine, tally):
+    """DCT(k) and DCT(N-k) from C(k) and S(k) by (20), each rounded once."""
+    p1 = c + s                                          # free: table entries alone
+    p2 = s - c                                          # free: table entries alone
+    s1 = tally.sum(cosine, sine)
+    m1 = tally.product(c, s1)
+    m2 = tally.product(p1, sine)
+    m3 = tally.product(p2, cosine)
+    low = round30(tally.difference(m1, m2))
+    high = round30(tally.sum(m1, m3))
+    assert low == round30(c * cosine - s * sine)        # (19)
+    assert high == round30(s * cosine + c * sine)       # (19)
+    return low, high
+
+
+def dct_terms(x, tally):
+    """DCT(k), k = 0 .. N-1, by (16), (18) and (19)."""
+    N = len(x)
+    if N == 1:
+        return [x[0]]
+    x4 = rearranged(x)
+    C = cosine_terms(x4, tally)
+    S = sine_terms(x4, tally)
+    D = [0] * N
+    D[0] = C[0]
+    for k in range(1, N // 2):
+        place = 1024 * k // N
+        D[k], D[N - k] = rotated(T[place], T[1024 - place], C[k], S[k], tally)
+    D[N // 2] = round30(tally.product(T[512], C[N // 2]))
+    return D
+
+
+def pair_terms(a, b, tally):
+    """Pair's real(k) and imaginary(k), k = 0 .. N-1."""
+    N = len(a)
+    C_a, S_a = cosine_terms(a, tally), sine_terms(a, tally)
+    C_b, S_b = cosine_terms(b, tally), sine_terms(b, tally)
+    real = [tally.sum(cosine_at(C_a, N, k), sine_at(S_b, N, k)) for k in range(N)]
+    imaginary = [tally.difference(cosine_at(C_b, N, k), sine_at(S_a, N, k))
+                 for k in range(N)]
+    return real, imaginary
+
+
+# --- The transforms as values and counts ---------------------------------------
+
+def numbers(terms):
+    return [0 if term is ALWAYS_ZERO else term for term in terms]
+
+
+def values_and_counts(recursion, x):
+    tally = Tally()
+    terms = recursion(list(x), tally)
+    return numbers(terms), tally.products, tally.sums
+
+
+def cosine_dft(x):
+    """(values for k = 0 .. N/2, products, sums)"""
+    return values_and_counts(cosine_terms, x)
+
+
+def sine_dft(x):
+    """(values for k = 0 .. N/2, products, sums)"""
+    return values_and_counts(sine_terms, x)
+
+
+def dct(x):
+    """(values for k = 0 .. N-1, products, sums)"""
+    return values_and_counts(dct_terms, x)
+
+
+def spectrum(x):
+    """(cosine-DFT, sine-DFT, products, sums), k = 0 .. N/2"""
+    tally = Tally()
+    C, S = cosine_terms(list(x), tally), sine_terms(list(x), tally)
+    return numbers(C), numbers(S), tally.products, tally.sums
+
+
+def pair(a, b):
+    """(real parts, imaginary parts, products, sums), k = 0 .. N-1"""
+    tally = Tally()
+    real, imaginary = pair_terms(list(a), list(b), tally)
+    return numbers(real), numbers(imaginary), tally.products, tally.sums
+
+
+# --- The counts ----------------------------------------------------------------
+
+class SixCounts(NamedTuple):
+    """Every count of one length."""
+    dct_products: int
+    dct_sums: int
+    spectrum_products: int
+    spectrum_sums: int
+    pair_products: int
+    pair_sums: int
+
+
+@functools.lru_cache(maxsize=None)
+def tallied_counts(N):
+    """The counts as the recursions make them; the length alone decides them."""
+    silence = [0] * N
+    return SixCounts(*dct(silence)[1:], *spectrum(silence)[2:], *pair(silence, silence)[2:])
+
+
+def closed_counts(N):
+    """The published closed forms (27), (28), (29); nothing at N = 1."""
+    L = LENGTHS.index(N)
+    if N == 1:
+        return SixCounts(N * L // 2, N * (3 * L - 2) // 2 + 1, 0, 0, 0, 0)
+    return SixCounts(
+        N * L // 2, N * (3 * L - 2) // 2 + 1,
+        N * (L - 3) // 2 + 2, N * (3 * L - 5) // 2 + 4,
+        N * (L - 3) + 4, 3 * N * (L - 1) + 4)
+
+
+# --- The exact sums, times 2^80, and the distances -----------------------------
+
+def exact_cosine(x, k):
+    step = k * (4096 // len(x))
+    return sum(sample * K(n * step) for n, sample in enumerate(x))
+
+
+def exact_sine(x, k):
+    step = k * (4096 // len(x))
+    return sum(sample * K(n * step - 1024) for n, sample in enumerate(x))
+
+
+def exact_dct(x, k):
+    step = k * (1024 // len(x))
+    return sum(sample * K((2 * n + 1) * step) for n, sample in enumerate(x))
+
+
+def exact_real(a, b, k):
+    return exact_cosine(a, k) + exact_sine(b, k)
+
+
+def exact_imaginary(a, b, k):
+    return exact_cosine(b, k) - exact_sine(a, k)
+
+
+def rounded_direct(exact):
+    """An exact sum over 2^80, rounded once, a tie going to the larger."""
+    return (exact + B // 2) // B
+
+
+def distance(y, exact):
+    return abs(y * B - exact)
+
+
+def within_eighth(y, exact, N):
+    """Within N/8: the limit of the cosine-DFT and the sine-DFT."""
+    return 8 * distance(y, exact) <= N * B
+
+
+def within_quarter_more(y, exact, N):
+    """Within (N + 1)/4: the limit of the DCT."""
+    return 4 * distance(y, exact) <= (N + 1) * B
+
+
+def within_quarter(y, exact, N):
+    """Within N/4: the limit of Pair's two parts."""
+    return 4 * distance(y, exact) <= N * B
+
+
+# --- The calls -----------------------------------------------------------------
+
+class Answer(NamedTuple):
+    """What a call gives back.
+
+    refusal is 0 for an accepted call, else the number of the table "When a call
+    is turned down"; place is given with refusal 6 only.  results and counts are
+    those of an accepted call.
+    """
+    refusal: int
+    place: Optional[int] = None
+    results: tuple = ()
+    counts: tuple = ()
+
+
+def first_out_of_range(recording, start, end):
+    """The first place from start, before end, whose sample is out of range."""
+    for place in range(start, end):
+        if not -LARGEST_SAMPLE <= recording[place] <= LARGEST_SAMPLE:
+            return place
+    return None
+
+
+def scratch_words(N):
+    return 8 * N + 64
+
+
+def turned_down(recordings, start, N, allowance, result_words, result_lens,
+                scratch_len, products):
+    """The Answer of a refused call, or None.
+
+    result_words and products give the words and products the call needs at a
+    length; they are asked only once the length is known to be one of the eleven.
+    """
+    if N not in LENGTHS:
+        return Answer(1)
+    if any(start + N > len(recording) for recording in recordings):
+        return Answer(2)
+    if any(result_len < result_words(N) for result_len in result_lens):
+        return Answer(3)
+    if scratch_len < scratch_words(N):
+        return Answer(4)
+    if allowance < products(N):
+        return Answer(5)
+    for recording in recordings:
+        place = first_out_of_range(recording, start, start + N)
+        if place is not None:
+            return Answer(6, place)
+    return None
+
+
+def spectrum_call(recording, start, length, allowance, cosine_len, sine_len, scratch_len):
+    refused = turned_down(
+        [recording], start, length, allowance,
+        lambda N: N // 2 + 1, [cosine_len, sine_len], scratch_len,
+        lambda N: tallied_counts(N).spectrum_products)
+    if refused:
+        return refused
+    cosine, sine, products, sums = spectrum(recording[start:start + length])
+    return Answer(0, None, (cosine, sine), (products, sums))
+
+
+def cosine_call(recording, start, length, allowance, result_len, scratch_len):
+    refused = turned_down(
+        [recording], start, length, allowance,
+        lambda N: N, [result_len], scratch_len,
+        lambda N: tallied_counts(N).dct_products)
+    if refused:
+        return refused
+    values, products, sums = dct(recording[start:start + length])
+    return Answer(0, None, (values,), (products, sums))
+
+
+def pair_call(a, b, start, length, allowance, real_len, imaginary_len, scratch_len):
+    refused = turned_down(
+        [a, b], start, length, allowance,
+        lambda N: N, [real_len, imaginary_len], scratch_len,
+        lambda N: tallied_counts(N).pair_products)
+    if refused:
+        return refused
+    end = start + length
+    real, imaginary, products, sums = pair(a[start:end], b[start:end])
+    return Answer(0, None, (real, imaginary), (products, sums))
+
+
+def count_query(length):
+    """An Answer whose counts are the SixCounts of the length."""
+    if length not in LENGTHS:
+        return Answer(1)
+    return Answer(0, None, (), tallied_counts(length))
+
+
+# --- The pair file and the program ---------------------------------------------
+
+class PairFile(NamedTuple):
+    """What reading a pair file gives back; a and b are the m words written to each
+    lent recording.  refusal and place are as in Answer."""
+    refusal: int
+    place: Optional[int] = None
+    m: Optional[int] = None
+    length: Optional[int] = None
+    a: tuple = ()
+    b: tuple = ()
+
+
+def read_pair_file(data, a_len, b_len):
+    if len(data) < 8:
+        return PairFile(7)
+    m, N = struct.unpack_from("<II", data)
+    if m == 0 or m > MOST_FILE_SAMPLES:
+        return PairFile(8)
+    if len(data) != 8 + 8 * m:
+        return PairFile(9)
+    if N not in LENGTHS:
+        return PairFile(1)
+    if a_len < m or b_len < m:
+        return PairFile(3)
+    samples = struct.unpack_from("<%di" % (2 * m), data, 8)
+    a, b = samples[:m], samples[m:]
+    for recording in (a, b):
+        place = first_out_of_range(recording, 0, m)
+        if place is not None:
+            return PairFile(6, place)
+    return PairFile(0, None, m, N, a, b)
+
+
+def pairspec(data):
+    """All that the program prints for these bytes on its standard input."""
+    file = read_pair_file(data, MOST_FILE_SAMPLES, MOST_FILE_SAMPLES)
+    if file.refusal:
+        return b"refused %d\n" % file.refusal
+    N = file.length
+    lines = ["block k re im"]
+    for block in range(file.m // N):
+        answer = pair_call(file.a, file.b, block * N, N, tallied_counts(N).pair_products,
+                           N, N, scratch_words(N))
+        assert answer.refusal == 0
+        for k, (re, im) in enumerate(zip(*answer.results)):
+            lines.append("%d %d %d %d" % (block, k, re, im))
+    return "".join(line + "\n" for line in lines).encode("ascii")
+
+
+if __name__ == "__main__":
+    if sys.argv[1:] != ["--self-test"]:
+        sys.exit("usage: python3 tests/reference.py --self-test")
+    import reference_self_test
+    reference_self_test.run()

@@ -1,0 +1,428 @@
+"""Self test of tests/reference.py; run by `python3 tests/reference.py --self-test`.
+
+Each check_ function is one check, and its docstring is the line printed for it.
+A failed check stops the run with an AssertionError.
+"""
+
+import itertools
+import math
+import random
+import struct
+import sys
+import time
+
+import reference as ref
+
+MOST = ref.LARGEST_SAMPLE
+TOO_MUCH = MOST + 1
+
+
+def random_block(rng, N):
+    """A block of samples, of small, middling or full size."""
+    size = rng.choice((1, 9, 1000, MOST))
+    return [rng.randint(-size, size) for _ in range(N)]
+
+
+def extreme_blocks(N):
+    """Blocks of the largest samples, constant, alternating, and like a cosine."""
+    yield [MOST] * N
+    yield [-MOST] * N
+    yield [MOST if n % 2 == 0 else -MOST for n in range(N)]
+    for k in (1, N // 4, N // 2 + 1):
+        yield [MOST if math.cos(2 * math.pi * n * k / N + 0.3) > 0 else -MOST
+               for n in range(N)]
+
+
+def some_k(rng, last, how_many=24):
+    """All of 0 .. last where they are few, else a sample that has both ends."""
+    if last <= 64:
+        return range(last + 1)
+    return sorted({0, 1, last // 2, last - 1, last, *rng.sample(range(last), how_many)})
+
+
+# --- The circle and the rounding -----------------------------------------------
+
+def check_circle():
+    """the circle: unit step, symmetries, negative places, T's fall and its nearness"""
+    assert len(ref.T) == 1025
+    assert (ref.T[0], ref.T[512], ref.T[1024]) == (1_073_741_824, 759_250_125, 0)
+    assert all(left > right for left, right in zip(ref.T, ref.T[1:]))
+    c1, s1 = ref.UNIT_STEP
+    assert math.isclose(c1 / ref.B, math.cos(2 * math.pi / 4096), abs_tol=1e-15)
+    assert math.isclose(s1 / ref.B, math.sin(2 * math.pi / 4096), abs_tol=1e-15)
+    for j in range(-5000, 9000):
+        assert ref.K(j) == ref.K(j + 4096) == ref.K(-j) == -ref.K(2048 - j)
+        assert math.isclose(ref.K(j) / ref.B, math.cos(2 * math.pi * j / 4096), abs_tol=1e-14)
+    for j, entry in enumerate(ref.T):
+        assert abs(ref.K(j) ** 2 + ref.K(1024 - j) ** 2 - ref.B ** 2) < 2 ** 18 * ref.B
+        assert abs(entry - 2 ** 30 * math.cos(2 * math.pi * j / 4096)) < 0.5001
+
+
+def check_rounding():
+    """the rounding: around zero and at ties, both signs"""
+    one, half = 2 ** 30, 2 ** 29
+    for v, expected in ((0, 0), (half - 1, 0), (half, 1), (half + 1, 1), (-half, 0),
+                        (-half - 1, -1), (one, 1), (-one, -1), (one + half, 2),
+                        (-one - half, -1), (-one - half - 1, -2), (-one - half + 1, -1)):
+        assert ref.round30(v) == expected, v
+
+
+def check_ties():
+    """TIES: the expressions before rounding are exact ties, and go to the larger"""
+    c, s = ref.T[256], ref.T[768]
+    for block, k, value in ref.TIES:
+        C, S = block[0] - block[3], block[2] - block[1]     # of the rearranged block, k = 1
+        before = c * C - s * S if k == 1 else s * C + c * S
+        assert 2 * before in (2 ** 30 * 16_181, 2 ** 30 * -16_181)
+        assert ref.dct(block)[0][k] == value
+
+
+# --- Blocks to try -------------------------------------------------------------
+
+def check_p1_to_p10():
+    """P1 to P10"""
+    def C(x): return ref.cosine_dft(x)[0]
+    def S(x): return ref.sine_dft(x)[0]
+    def D(x): return ref.dct(x)[0]
+    assert (C([7]), S([7]), D([7])) == ([7], [0], [7])                          # P1
+    assert C([1, 2, 3, 4]) == [10, -2, -2] and S([1, 2, 3, 4]) == [0, -2, 0]    # P2
+    assert D([1, 2, 3, 4]) == [10, -3, 0, 0]                                    # P3
+    assert D([3, 1]) == [4, 1]                                                  # P4
+    assert D([0, 1]) == [1, -1]                                                 # P5
+    assert D([-1, 1]) == [0, -1]                                                # P6
+    first, second = [MOST] + [0] * 7, [0, MOST] + [0] * 6
+    assert C(first) == [MOST] * 5 and S(first) == [0] * 5                       # P7
+    assert C(second) == [1000000, 707107, 0, -707107, -1000000]                 # P8
+    assert S(second) == [0, 707107, 1000000, 707107, 0]                         # P8
+    assert ref.dct([0] * 8)[1:] == (12, 29)                                     # P9
+    assert ref.spectrum([0] * 1024)[2:] == (3_586, 12_804)                      # P10
+
+
+def check_last_bullet():
+    '''the last bullet of "Blocks to try"'''
+    def cosine(recording, start, N, allowance):
+        return ref.cosine_call(recording, start, N, allowance, N, 8 * N + 64)
+    zeros = [0] * 8
+    assert cosine(zeros, 0, 8, 12).refusal == 0
+    assert cosine(zeros, 0, 8, 11) == ref.Answer(5)
+    assert cosine(zeros[:7] + [MOST], 0, 8, 12).refusal == 0
+    assert cosine(zeros[:7] + [TOO_MUCH], 0, 8, 12) == ref.Answer(6, 7)
+    for N in (0, 3, 2048):
+        assert cosine([0] * 4096, 0, N, 10 ** 6) == ref.Answer(1)
+        assert ref.count_query(N) == ref.Answer(1)
+    assert cosine(zeros, 7, 1, 0).refusal == 0
+    assert cosine(zeros, 7, 2, 1) == ref.Answer(2)
+
+
+# --- Counts --------------------------------------------------------------------
+
+def check_counts():
+    """tallied counts = closed forms at all lengths, and on every block alike"""
+    rng = random.Random(27)
+    for N in ref.LENGTHS:
+        counts = ref.closed_counts(N)
+        assert ref.tallied_counts(N) == counts == ref.count_query(N).counts
+        for x in [random_block(rng, N) for _ in range(3)] + list(extreme_blocks(N)):
+            assert ref.dct(x)[1:] == counts[0:2]
+            assert ref.spectrum(x)[2:] == counts[2:4]
+            assert ref.pair(x, random_block(rng, N))[2:] == counts[4:6]
+    assert ref.closed_counts(1) == (0, 0, 0, 0, 0, 0)
+
+
+def check_count_recursions():
+    """the steps (21) to (26): each transform's counts from those of the shorter"""
+    def counts(transform, N): return transform([0] * N)[1:]
+    assert counts(ref.cosine_dft, 2) == (0, 2) and counts(ref.sine_dft, 2) == (0, 0)
+    assert counts(ref.dct, 2) == (1, 2)
+    for N in ref.LENGTHS[2:]:
+        C, S, D = (counts(f, N) for f in (ref.cosine_dft, ref.sine_dft, ref.dct))
+        C_half, S_half = counts(ref.cosine_dft, N // 2), counts(ref.sine_dft, N // 2)
+        D_quarter = counts(ref.dct, N // 4)
+        assert C == (D_quarter[0] + C_half[0], D_quarter[1] + C_half[1] + 3 * N // 4)
+        assert S == (D_quarter[0] + S_half[0], D_quarter[1] + S_half[1] + 3 * N // 4 - 2)
+        assert D == (C[0] + S[0] + 3 * N // 2 - 2, C[1] + S[1] + 3 * N // 2 - 3)
+        assert ref.tallied_counts(N).pair_sums == 2 * (C[1] + S[1]) + 2 * N - 4
+
+
+# --- Distances -----------------------------------------------------------------
+
+def fits_word(values):
+    return all(-2 ** 31 <= y < 2 ** 31 for y in values)
+
+
+def assert_distances(rng, a, b):
+    """All limits of "Distances" on one pair of blocks, and the size of each result."""
+    N = len(a)
+    C, S, D = ref.cosine_dft(a)[0], ref.sine_dft(a)[0], ref.dct(a)[0]
+    real, imaginary = ref.pair(a, b)[:2]
+    assert len(C) == len(S) == N // 2 + 1 and len(D) == len(real) == len(imaginary) == N
+    assert all(map(fits_word, (C, S, D, real, imaginary)))
+    for k in some_k(rng, N // 2):
+        assert ref.within_eighth(C[k], ref.exact_cosine(a, k), N)
+        assert ref.within_eighth(S[k], ref.exact_sine(a, k), N)
+    for k in some_k(rng, N - 1):
+        assert ref.within_quarter_more(D[k], ref.exact_dct(a, k), N)
+        assert ref.within_quarter(real[k], ref.exact_real(a, b, k), N)
+        assert ref.within_quarter(imaginary[k], ref.exact_imaginary(a, b, k), N)
+
+
+def check_distances():
+    """distances within their limits at all lengths, random and extreme blocks"""
+    rng = random.Random(12)
+    for N in ref.LENGTHS:
+        for _ in range(8 if N > 64 else 60):
+            assert_distances(rng, random_block(rng, N), random_block(rng, N))
+        for a in extreme_blocks(N):
+            assert_distances(rng, a, a)
+            assert_distances(rng, a, [-sample for sample in a])
+
+
+def check_limits_themselves():
+    """the limits: reached exactly is within, one beyond is not"""
+    for N in ref.LENGTHS:
+        for within, limit in ((ref.within_eighth, N * ref.B // 8),
+                              (ref.within_quarter_more, (N + 1) * ref.B // 4),
+                              (ref.within_quarter, N * ref.B // 4)):
+            for sign in (1, -1):
+                assert within(5, 5 * ref.B + sign * limit, N)
+                assert not within(5, 5 * ref.B + sign * (limit + 1), N)
+
+
+def check_short_blocks_exact():
+    """nothing is rounded in C, S and Pair below N = 8: they are the exact sums"""
+    rng = random.Random(4)
+    for N in (1, 2, 4):
+        for _ in range(50):
+            a, b = random_block(rng, N), random_block(rng, N)
+            C, S, _, _ = ref.spectrum(a)
+            real, imaginary, _, _ = ref.pair(a, b)
+            for k in range(N // 2 + 1):
+                assert (C[k] * ref.B, S[k] * ref.B) == (ref.exact_cosine(a, k),
+                                                        ref.exact_sine(a, k))
+            for k in range(N):
+                assert real[k] * ref.B == ref.exact_real(a, b, k)
+                assert imaginary[k] * ref.B == ref.exact_imaginary(a, b, k)
+
+
+# --- Direct sums rounded once --------------------------------------------------
+
+def differences_from_direct(x):
+    """For each kind of coefficient, the (k, value, direct sum rounded once) that differ."""
+    C, S, _, _ = ref.spectrum(x)
+    real, imaginary, _, _ = ref.pair(x, x)
+    kinds = {
+        "cosine-DFT": (C, ref.exact_cosine, (x,)),
+        "sine-DFT": (S, ref.exact_sine, (x,)),
+        "DCT": (ref.dct(x)[0], ref.exact_dct, (x,)),
+        "real": (real, ref.exact_real, (x, x)),
+        "imaginary": (imaginary, ref.exact_imaginary, (x, x)),
+    }
+    return {
+        name: [(k, y, ref.rounded_direct(exact(*blocks, k))) for k, y in enumerate(values)
+               if y != ref.rounded_direct(exact(*blocks, k))]
+        for name, (values, exact, blocks) in kinds.items()}
+
+
+def check_differs_from_direct():
+    """DIFFERS_FROM_DIRECT is the first 0/1 block of 16 that differs in every kind"""
+    for number in range(2 ** 16):
+        x = tuple(number >> n & 1 for n in range(16))
+        differing = differences_from_direct(x)
+        if all(differing.values()):
+            break
+    assert x == ref.DIFFERS_FROM_DIRECT
+    print("    DIFFERS_FROM_DIRECT =", x)
+    for name, places in differing.items():
+        for k, value, direct in places:
+            print("    %s(%d) is %d, its direct sum rounded once %d" % (name, k, value, direct))
+
+
+# --- Refusals of the calls on recordings ---------------------------------------
+
+def subsets(keys):
+    """Every choice of one or more of the keys."""
+    for size in range(1, len(keys) + 1):
+        yield from itertools.combinations(keys, size)
+
+
+GOOD, BAD = [1] * 20, [TOO_MUCH] * 20       # recordings
+START, N = 5, 8                             # of the call that is broken below
+
+CALLS = {
+    ref.spectrum_call: dict(recording=GOOD, start=START, length=N, allowance=2,
+                            cosine_len=5, sine_len=5, scratch_len=128),
+    ref.cosine_call: dict(recording=GOOD, start=START, length=N, allowance=12,
+                          result_len=8, scratch_len=128),
+    ref.pair_call: dict(a=GOOD, b=GOOD, start=START, length=N, allowance=4,
+                        real_len=8, imaginary_len=8, scratch_len=128),
+}
+RECORDINGS = ("recording", "a", "b")
+RESULT_LENS = ("cosine_len", "sine_len", "result_len", "real_len", "imaginary_len")
+
+
+def broken(good, numbers):
+    """The call with every one of the numbered conditions made to hold.
+
+    (1 and 5 cannot hold together in the strict sense: a length that is none of
+    the eleven has no products.  The allowance is then 0 all the same.)
+    """
+    call = dict(good)
+    for key in good:
+        if 6 in numbers and key in RECORDINGS:
+            call[key] = BAD
+        if 3 in numbers and key in RESULT_LENS:
+            call[key] = 0
+    for number, key, value in ((1, "length", 3), (2, "start", 19),
+                               (4, "scratch_len", 0), (5, "allowance", 0)):
+        if number in numbers:
+            call[key] = value
+    return call
+
+
+def check_refusals_together():
+    """every set of refusals 1 to 6 in every call: the earliest wins"""
+    for call, good in CALLS.items():
+        assert call(**good).refusal == 0
+        for numbers in subsets((1, 2, 3, 4, 5, 6)):
+            answer = call(**broken(good, numbers))
+            place = START if min(numbers) == 6 else None
+            assert answer == ref.Answer(min(numbers), place), (call, numbers)
+
+
+def check_refusal_edges():
+    """each condition at its edge, one thing wrong at a time"""
+    for call, good in CALLS.items():
+        for key, wrong in [("length", 1), ("start", 2), ("scratch_len", 4), ("allowance", 5)]:
+            values = {"length": (0, 3, 5, 6, 7, 9, 12, 1023, 1025, 2048, 2 ** 32, 2 ** 63 + 8),
+                      "start": (13, 20, 21, 2 ** 32, 2 ** 64 - 8, 2 ** 64 - 1),
+                      "scratch_len": (0, 127), "allowance": (0, good["allowance"] - 1)}[key]
+            for value in values:
+                assert call(**{**good, key: value}) == ref.Answer(wrong), (call, key, value)
+        assert call(**{**good, "start": 12}).refusal == 0
+        for key in good:
+            if key in RESULT_LENS:
+                assert call(**{**good, key: good[key] - 1}) == ref.Answer(3)
+                assert call(**{**good, key: good[key] + 1}).refusal == 0
+            if key in RECORDINGS:
+                assert call(**{**good, key: GOOD[:12]}) == ref.Answer(2)
+                assert call(**{**good, key: GOOD[:13]}).refusal == 0
+
+
+def with_sample(place, sample):
+    return GOOD[:place] + [sample] + GOOD[place + 1:]
+
+
+def check_places_of_refusal_6():
+    """refusal 6: its place, both signs, the block alone examined, a before b"""
+    for call, good in CALLS.items():
+        for key in [key for key in good if key in RECORDINGS]:
+            for place in range(20):
+                inside = START <= place < START + N
+                for sample in (TOO_MUCH, -TOO_MUCH, 2 ** 31 - 1, -2 ** 31):
+                    answer = call(**{**good, key: with_sample(place, sample)})
+                    assert (answer.refusal, answer.place) == ((6, place) if inside else (0, None))
+                for sample in (MOST, -MOST):
+                    assert call(**{**good, key: with_sample(place, sample)}).refusal == 0
+    good = CALLS[ref.pair_call]
+    late, early = with_sample(12, TOO_MUCH), with_sample(5, TOO_MUCH)
+    assert ref.pair_call(**{**good, "a": late, "b": early}) == ref.Answer(6, 12)
+    assert ref.pair_call(**{**good, "a": early, "b": late}) == ref.Answer(6, 5)
+
+
+def check_shortest_calls():
+    """N = 1 needs one word of each result, 72 words of scratch and no products"""
+    assert ref.spectrum_call([7], 0, 1, 0, 1, 1, 72) == ref.Answer(0, None, ([7], [0]), (0, 0))
+    assert ref.cosine_call([7], 0, 1, 0, 1, 72) == ref.Answer(0, None, ([7],), (0, 0))
+    assert ref.pair_call([7], [9], 0, 1, 0, 1, 1, 72) == ref.Answer(0, None, ([7], [9]), (0, 0))
+    assert ref.spectrum_call([7], 0, 1, 0, 0, 1, 72) == ref.Answer(3)
+    assert ref.spectrum_call([7], 0, 1, 0, 1, 0, 72) == ref.Answer(3)
+    assert ref.cosine_call([7], 0, 1, 0, 1, 71) == ref.Answer(4)
+    assert ref.cosine_call([], 0, 1, 0, 1, 72) == ref.Answer(2)
+
+
+# --- The pair file and the program ---------------------------------------------
+
+def file_bytes(a, b, N, m=None):
+    m = len(a) if m is None else m
+    return struct.pack("<II%di" % (len(a) + len(b)), m, N, *a, *b)
+
+
+def broken_file(numbers):
+    """A file, and the length of both recordings, with the numbered conditions holding."""
+    m = 4097 if 8 in numbers else 6
+    a = [TOO_MUCH if 6 in numbers and n == 2 else n for n in range(m)]
+    data = file_bytes(a, [0] * m, 3 if 1 in numbers else 2)
+    return data[:-1] if 9 in numbers else data, 0 if 3 in numbers else m
+
+
+def check_file_refusals_together():
+    """every set of refusals 8, 9, 1, 3, 6 of a file, and 7 with what it allows"""
+    order = (8, 9, 1, 3, 6)
+    for numbers in subsets(order):
+        data, lent = broken_file(numbers)
+        first = min(numbers, key=order.index)
+        expected = ref.PairFile(first, 2 if first == 6 else None)
+        assert ref.read_pair_file(data, lent, lent) == expected, numbers
+        if 3 not in numbers:
+            assert ref.pairspec(data) == b"refused %d\n" % first
+    for m, length in itertools.product((0, 1, 5000), (0, 2, 3)):
+        header = struct.pack("<II", m, length)
+        for size in range(8):
+            assert ref.read_pair_file(header[:size], 0, 0) == ref.PairFile(7)
+            assert ref.pairspec(header[:size]) == b"refused 7\n"
+
+
+def check_file_edges():
+    """each condition of a file at its edge, and what reading gives back"""
+    a, b = [3, -MOST, 5], [MOST, 1, -1]
+    good = file_bytes(a, b, 2)
+    read = ref.read_pair_file
+    assert read(good, 3, 4) == ref.PairFile(0, None, 3, 2, tuple(a), tuple(b))
+    for m in (0, 4097, 2 ** 31, 2 ** 32 - 1):
+        assert read(file_bytes([], [], 2, m), 9, 9) == ref.PairFile(8)
+    most = file_bytes([0] * 4096, [0] * 4096, 1024)
+    assert read(most, 4096, 4096)[:4] == (0, None, 4096, 1024)
+    for data in (good[:-1], good + b"\0", good[:8], most + b"\0"):
+        assert read(data, 4096, 4096) == ref.PairFile(9)
+    for length in (0, 3, 2048, 2 ** 31, 2 ** 32 - 1):
+        assert read(file_bytes(a, b, length), 3, 3) == ref.PairFile(1)
+    assert read(good, 2, 3) == read(good, 3, 2) == ref.PairFile(3)
+    for place, sample in itertools.product(range(3), (TOO_MUCH, -TOO_MUCH, -2 ** 31)):
+        spoilt = [sample if n == place else 0 for n in range(3)]
+        assert read(file_bytes(spoilt, b, 2), 3, 3) == ref.PairFile(6, place)
+        assert read(file_bytes(a, spoilt, 2), 3, 3) == ref.PairFile(6, place)
+    assert read(file_bytes([0, 0, TOO_MUCH], [TOO_MUCH, 0, 0], 2), 3, 3) == ref.PairFile(6, 2)
+
+
+def check_pairspec():
+    """pairspec: the paper's example to the byte, blocks, tails, and no block"""
+    assert ref.pairspec(file_bytes([3, 1], [0, 2], 2)) == (
+        b"block k re im\n"
+        b"0 0 4 2\n"
+        b"0 1 2 -2\n")
+    assert ref.pairspec(file_bytes([3, 1, 4], [0, 2, 4], 4)) == b"block k re im\n"
+    assert ref.pairspec(file_bytes([3, 1, 4], [0, 2, 4], 1)) == (
+        b"block k re im\n0 0 3 0\n1 0 1 2\n2 0 4 4\n")
+    rng = random.Random(8)
+    for length in (1, 2, 16, 64):
+        m = 3 * length + length // 2
+        a, b = random_block(rng, m), random_block(rng, m)
+        lines = ref.pairspec(file_bytes(a, b, length)).decode("ascii").split("\n")
+        assert lines[0] == "block k re im" and lines[-1] == "" and len(lines) == 3 * length + 2
+        for block in range(3):
+            part = slice(block * length, (block + 1) * length)
+            for k, parts in enumerate(zip(*ref.pair(a[part], b[part])[:2])):
+                expected = [block, k, *parts]
+                assert lines[1 + block * length + k] == " ".join(map(str, expected))
+
+
+def run():
+    if not __debug__:
+        sys.exit("the checks are assertions: run without -O")
+    begun = time.perf_counter()
+    for name, check in list(globals().items()):
+        if name.startswith("check_"):
+            since = time.perf_counter()
+            check()
+            print("passed in %6.3f s: %s" % (time.perf_counter() - since, check.__doc__))
+    print("all passed in %.1f s" % (time.perf_counter() - begun))
