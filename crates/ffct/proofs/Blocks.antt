@@ -95,19 +95,20 @@ sine-last (suc (suc L)) x k h =
     (dct-middle (len L) _ (apart (len L) k) (apart-ends (len L) k (inr (omega arith))))
 
 -- ---- a coefficient out of range is read from those in range
+module _ (N : ℕ) (f g : ℕ → ℤ) (k : ℕ) (h : k ≤ N) (e : (j : ℕ) → j ≤ N / 2 → f j ≡ g j) where
+  pub cosine-beyond-same : cosineBeyond N f k ≡ cosineBeyond N g k
+  cosine-beyond-same = ⊎-elim
+      (λ l. cosine-low N f k l ∙ e k l ∙ sym (cosine-low N g k l))
+      (λ l. cosine-high N f k l ∙ e _ (omega arith) ∙ sym (cosine-high N g k l))
+      (le-or-lt k (N / 2))
+
+  pub sine-beyond-same : sineBeyond N f k ≡ sineBeyond N g k
+  sine-beyond-same = ⊎-elim
+      (λ l. sine-low N f k l ∙ e k l ∙ sym (sine-low N g k l))
+      (λ l. sine-high N f k l ∙ ap negℤ (e _ (omega arith)) ∙ sym (sine-high N g k l))
+      (le-or-lt k (N / 2))
+
 module _ (m : ℕ) (f g : ℕ → ℤ) (k : ℕ) (h : k ≤ 2 * m) where
-  pub cosine-beyond-same : ((j : ℕ) → j ≤ m → f j ≡ g j) → cosineBeyond (2 * m) f k ≡ cosineBeyond (2 * m) g k
-  cosine-beyond-same e = ⊎-elim
-      (λ l. cosine-low (2 * m) f k (omega arith) ∙ e k l ∙ sym (cosine-low (2 * m) g k (omega arith)))
-      (λ l. cosine-high (2 * m) f k (omega arith) ∙ e _ (omega arith) ∙ sym (cosine-high (2 * m) g k (omega arith)))
-      (le-or-lt k m)
-
-  pub sine-beyond-same : ((j : ℕ) → j ≤ m → f j ≡ g j) → sineBeyond (2 * m) f k ≡ sineBeyond (2 * m) g k
-  sine-beyond-same e = ⊎-elim
-      (λ l. sine-low (2 * m) f k (omega arith) ∙ e k l ∙ sym (sine-low (2 * m) g k (omega arith)))
-      (λ l. sine-high (2 * m) f k (omega arith) ∙ ap negℤ (e _ (omega arith)) ∙ sym (sine-high (2 * m) g k (omega arith)))
-      (le-or-lt k m)
-
   pub dct-beyond-same : ((j : ℕ) → j < m → f j ≡ g j) → dctBeyond m f k ≡ dctBeyond m g k
   dct-beyond-same e = ⊎-elim
       (λ l. ⊎-elim (λ l₂. dct-middle m f k (omega arith) ∙ sym (dct-middle m g k (omega arith))) (λ l₂. dct-low m f k l₂ ∙ e k l₂ ∙ sym (dct-low m g k l₂)) (le-or-lt m k))

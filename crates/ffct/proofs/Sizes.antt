@@ -18,17 +18,13 @@ use Rattle.circle.specs.Circle as Circle
 use Rattle.circle.specs.Circle.{B, K}
 use Rattle.circle.proofs.Wave.{K-within}
 use Rattle.circle.proofs.Stored.{at-entry}
-use Rattle.ffct.specs.Block.{Samples, topLevel, largestSample, AcceptedBlock}
+use Rattle.ffct.specs.Block.{Samples, topLevel, largestSample, AcceptedBlock, largestSum}
 use Rattle.ffct.specs.Transforms.{cosineBeyond, sineBeyond, cosineDft, sineDft, dct, spectrum, pair}
 use Rattle.ffct.proofs.Lengths.{len, pow-len, len-pos, per, len-per}
 use Rattle.ffct.proofs.Steps.{cosine-low, cosine-high, sine-low, sine-high}
 use Rattle.ffct.proofs.Sums.{cos-size, sin-size, dct-size}
 use Rattle.ffct.proofs.Rotation.{coefficient-size}
 use Rattle.ffct.proofs.Near.{Near, Bounded, dctError, dftError, dft-near, dct-near}
-
--- 1,024 samples of 1,000,000
-abbrev pub top : ℕ
-top = 1024000000
 
 -- ---- the errors grow with the samples
 dct-grows : (L : ℕ) {X Y e f : ℕ} → X ≤ Y → e ≤ f → dctError L X e ≤ dctError L Y f
@@ -47,31 +43,31 @@ dft-grows (suc (suc L)) {X} {Y} h =
 -- ---- an inner transform: its samples, and the sizes of its coefficients
 pub record Inner (L : ℕ) (x : Samples) (X : ℕ) : Type 0 where
   pub level : L ≤ topLevel
-  pub small : len L * X ≤ top
+  pub small : len L * X ≤ largestSum
   pub bounded : Bounded (len L) x X
 
-dft-small : (L : ℕ) → L ≤ topLevel → dftError L (top / len L) ≤ 128 * B
+dft-small : (L : ℕ) → L ≤ topLevel → dftError L (largestSum / len L) ≤ 128 * B
 unfolding both below dftError dctError
-dft-small L h = leb→le _ _ (below-at 11 (λ L. leb (dftError L (top / len L)) (128 * B)) tt L (omega arith))
+dft-small L h = leb→le _ _ (below-at 11 (λ L. leb (dftError L (largestSum / len L)) (128 * B)) tt L (omega arith))
 
-dct-small : (L : ℕ) → L ≤ topLevel → dctError L (top / len L) (dftError L (top / len L)) ≤ 257 * B
+dct-small : (L : ℕ) → L ≤ topLevel → dctError L (largestSum / len L) (dftError L (largestSum / len L)) ≤ 257 * B
 unfolding both below dftError dctError
-dct-small L h = leb→le _ _ (below-at 11 (λ L. leb (dctError L (top / len L) (dftError L (top / len L))) (257 * B)) tt L (omega arith))
+dct-small L h = leb→le _ _ (below-at 11 (λ L. leb (dctError L (largestSum / len L) (dftError L (largestSum / len L))) (257 * B)) tt L (omega arith))
 
 module _ {L : ℕ} {x : Samples} {X : ℕ} (i : Inner L x X) where
-  share : X ≤ top / len L
+  share : X ≤ largestSum / len L
   share = le-div-iff-mul-le (len-pos L) .1 (omega (arith, i .small))
 
-  size : (y E : ℤ) (e m : ℕ) → Near y E e → E within len L * (X * B) → e ≤ m * B → y within top + m
+  size : (y E : ℤ) (e m : ℕ) → Near y E e → E within len L * (X * B) → e ≤ m * B → y within largestSum + m
   size y E e m h g l = within-le (coefficient-size B y E (lit< tt) (h .gap) g) (omega (arith, i .small))
 
-  pub dft-size : (k : ℕ) → 2 * k ≤ len L → (cosineDft L x .at k within top + 128) × (sineDft L x .at k within top + 128)
+  pub dft-size : (k : ℕ) → 2 * k ≤ len L → (cosineDft L x .at k within largestSum + 128) × (sineDft L x .at k within largestSum + 128)
   dft-size k h =
       let both = dft-near L (per L) x X (len-per L (i .level)) (i .bounded) k h in
       let l = le-trans (dft-grows L share) (dft-small L (i .level)) in
       (size _ _ _ 128 (both .0) (cos-size (per L) (len L) x k (i .bounded)) l, size _ _ _ 128 (both .1) (sin-size (per L) (len L) x k (i .bounded)) l)
 
-  pub dct-within : (k : ℕ) → k < len L → dct L x .at k within top + 257
+  pub dct-within : (k : ℕ) → k < len L → dct L x .at k within largestSum + 257
   dct-within k h =
       size _ _ _ 257 (dct-near L (per L) x X (len-per L (i .level)) (i .bounded) k h) (dct-size (per L) (len L) x k (i .bounded))
       (le-trans (dct-grows L share (dft-grows L share)) (dct-small L (i .level)))
@@ -100,7 +96,7 @@ pub record RotationFits (C S c s : ℤ) : Type 0 where
   pub first : SFits w64 ((C +ℤ S) *ℤ c -ℤ S *ℤ (c +ℤ s))
   pub second : SFits w64 ((C +ℤ S) *ℤ c +ℤ C *ℤ (s -ℤ c))
 
-pub rotation-fits : {C S c s : ℤ} → C within top + 128 → S within top + 128 → c within 2 ^ 30 → s within 2 ^ 30 → RotationFits C S c s
+pub rotation-fits : {C S c s : ℤ} → C within largestSum + 128 → S within largestSum + 128 → c within 2 ^ 30 → s within 2 ^ 30 → RotationFits C S c s
 rotation-fits hC hS hc hs =
     let sum = within-add hC hS in
     let entries = within-add hc hs in
@@ -124,7 +120,7 @@ pub accepted-inner : {L : ℕ} {x : Samples} → AcceptedBlock L x → Inner L x
 unfolding both below
 accepted-inner {L} {x} a = record {
   level = a .length;
-  small = leb→le _ _ (below-at 11 (λ L. leb (len L * largestSample) top) tt L (omega (arith, a .length)));
+  small = leb→le _ _ (below-at 11 (λ L. leb (len L * largestSample) largestSum) tt L (omega (arith, a .length)));
   bounded = λ i h. size-within (x i) (a .range i (omega (arith, pow-len L)));
 }
 
@@ -155,13 +151,13 @@ pair-fits L a b A B = record {
   imaginary = λ k h. within-fits (within-sub (cosine-part (accepted-inner B) k h) (sine-part (accepted-inner A) k h)) (lit< tt);
 }
   where
-    cosine-part : {x : Samples} → Inner L x largestSample → (k : ℕ) → k < 2 ^ L → cosineBeyond (2 ^ L) (cosineDft L x .at) k within top + 128
+    cosine-part : {x : Samples} → Inner L x largestSample → (k : ℕ) → k < 2 ^ L → cosineBeyond (2 ^ L) (cosineDft L x .at) k within largestSum + 128
     cosine-part {x} i k h = ⊎-elim
         (λ l. rw (cosine-low (2 ^ L) (cosineDft L x .at) k l) (dft-size i k (omega (arith, pow-len L)) .0))
         (λ l. rw (cosine-high (2 ^ L) (cosineDft L x .at) k l) (dft-size i (2 ^ L - k) (omega (arith, pow-len L)) .0))
         (le-or-lt k (2 ^ L / 2))
 
-    sine-part : {x : Samples} → Inner L x largestSample → (k : ℕ) → k < 2 ^ L → sineBeyond (2 ^ L) (sineDft L x .at) k within top + 128
+    sine-part : {x : Samples} → Inner L x largestSample → (k : ℕ) → k < 2 ^ L → sineBeyond (2 ^ L) (sineDft L x .at) k within largestSum + 128
     sine-part {x} i k h = ⊎-elim
         (λ l. rw (sine-low (2 ^ L) (sineDft L x .at) k l) (dft-size i k (omega (arith, pow-len L)) .1))
         (λ l. rw (sine-high (2 ^ L) (sineDft L x .at) k l) (within-neg (dft-size i (2 ^ L - k) (omega (arith, pow-len L)) .1)))

@@ -8,23 +8,24 @@ use native.Mathlib.Omega.{arith}
 use lib.IntN.{ℤ, pos}
 use lib.ListN.{length, take, drop, List·getD-append}
 use lib.Seq.{length-take-le, length-front, getD-drop, getD-append-add}
-use Rattle.ffct.specs.Block.{Samples, AcceptedBlock}
+use Rattle.ffct.specs.Block.{Samples, AcceptedBlock, isLength, level}
 use Rattle.ffct.specs.Transforms.{dct, spectrum, pair}
 use Rattle.ffct.specs.Exact.{exactCosine, exactSine, exactDct, exactReal, exactImaginary, eighth, quarterOfNext, quarter, Within}
 use Rattle.ffct.proofs.Lengths.{pow-len}
 use Rattle.ffct.proofs.Blocks.{Same, dft-same, dct-same}
 use Rattle.ffct.proofs.Limits.{limits, pair-limits}
 use Rattle.transforms.specs.Words.{word}
-use Rattle.spectra.specs.Words.{Written}
-use Rattle.spectra.specs.Refusals.{isLength, level, scratchWords, block, firstOut, accepted, Call, verdict}
-use Rattle.spectra.specs.Counts.{SixCounts}
+use Rattle.blocks.specs.Words.{Written}
+use Rattle.refusals.specs.Refusals.{scratchWords, block, firstOut, accepted}
+use Rattle.spectra.specs.Calls.{Call, verdict}
+use Rattle.refusals.specs.Counts.{SixCounts}
 use Rattle.spectra.specs.declared.Answer.{Answer}
 use Rattle.spectra.specs.Answers.{verdictOf, products, sums}
-use Rattle.spectra.specs.Blocks.{Workable, CosineMade, SpectrumMade, PairMade}
+use Rattle.blocks.specs.Blocks.{Workable, CosineMade, SpectrumMade, PairMade}
 use Rattle.spectra.specs.Promises.{CosineDone, CosinePromise, cosineCall, SpectrumDone, SpectrumPromise, spectrumCall, PairDone, PairPromise, pairCall}
-use Rattle.spectra.proofs.Lengths.{is-power, level-le}
-use Rattle.spectra.proofs.Ranges.{all-in}
-use Rattle.spectra.proofs.Costs.{six-published}
+use Rattle.ffct.proofs.ElevenLengths.{is-power, level-le}
+use Rattle.refusals.proofs.Ranges.{all-in}
+use Rattle.refusals.proofs.Costs.{six-published}
 use Rattle.spectra.proofs.Verdicts.{lent, lent-word, lent-length, Passed6, is-accepted}
 
 -- ---- a recording in which a block of N samples is accepted

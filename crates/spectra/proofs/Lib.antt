@@ -1,9 +1,2 @@
-pub mod Lengths
-pub mod Ranges
-pub mod Costs
-pub mod Writing
-pub mod Sines
-pub mod BlockRuns
-pub mod Parts
 pub mod Verdicts
 pub mod Accepted

@@ -17,8 +17,10 @@ use Rattle.spectra.specs.declared.Answer.{Answer}
 use Rattle.spectra.specs.declared.Answer.the-variants.{BadLength, BeyondRecording, ResultTooShort, ScratchTooShort, AllowanceTooSmall, OutOfRange}
 use Rattle.spectra.specs.Answers.{verdictOf}
 use Rattle.spectra.specs.Promises.{SpectrumPromise, CosinePromise, PairPromise, spectrumCall, cosineCall, pairCall}
-use Rattle.spectra.specs.Refusals.{isLength, someBelow, scratchWords, firstOut, firstOutIn, lengthsOf, Verdict, refused, refusedAt, accepted, Call, verdict}
-use Rattle.spectra.proofs.Ranges.{first-to, first-shift, first-same}
+use Rattle.ffct.specs.Block.{isLength}
+use Rattle.refusals.specs.Refusals.{someBelow, scratchWords, firstOut, firstOutIn, Verdict, refused, refusedAt, accepted}
+use Rattle.spectra.specs.Calls.{lengthsOf, Call, verdict}
+use Rattle.refusals.proofs.Ranges.{first-to, first-shift, first-same}
 
 -- ---- the block of N samples from s on, lent as a slice of the recording r
 abbrev pub lent : List ℤ → ℕ → ℕ → List ℤ

@@ -2,7 +2,7 @@
 use Prim.Native.Nat.{ℕ}
 use Rattle.spectra.specs.declared.Answer.{Answer}
 use Rattle.spectra.specs.declared.Answer.the-variants.{BadLength, BeyondRecording, ResultTooShort, ScratchTooShort, AllowanceTooSmall, OutOfRange, Done}
-use Rattle.spectra.specs.Refusals.{Verdict, refused, refusedAt, accepted}
+use Rattle.refusals.specs.Refusals.{Verdict, refused, refusedAt, accepted}
 
 abbrev pub verdictOf : Answer → Verdict
 verdictOf BadLength = refused 1

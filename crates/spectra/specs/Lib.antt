@@ -1,6 +1,3 @@
-pub mod Words
-pub mod Refusals
-pub mod Counts
-pub mod Blocks
+pub mod Calls
 pub mod Answers
 pub mod Promises

@@ -5,7 +5,7 @@ use mathlib.Core.List.{List, [], _∷_}
 use mathlib.Core.Path.{_≡_}
 use Prim.Native.Nat.{ℕ, _+_, _/_, _≤_, _<_}
 use lib.IntN.{ℤ, pos}
-use Rattle.ffct.specs.Block.{Samples, AcceptedBlock}
+use Rattle.ffct.specs.Block.{Samples, AcceptedBlock, isLength, level}
 use Rattle.ffct.specs.Exact.{exactCosine, exactSine, exactDct, exactReal, exactImaginary, eighth, quarterOfNext, quarter, Within}
 use Rattle.ffct.specs.Transforms.{dct as dctOf, spectrum as spectrumOf, pair as pairOf}
 use Rattle.ffct.specs.Counts.{dctProducts, dctSums, spectrumProducts, spectrumSums, pairProducts, pairSums}
@@ -13,9 +13,10 @@ use Rattle.transforms.specs.Words.{word}
 use Rattle.spectra.specs.declared.Answer.{Answer}
 use Rattle.spectra.specs.declared.CountsAnswer.{CountsAnswer}
 use Rattle.spectra.specs.declared.CountsAnswer.the-variants.{BadLength, Counted}
-use Rattle.spectra.specs.Words.{Written}
-use Rattle.spectra.specs.Refusals.{isLength, level, scratchWords, block, accepted, Call, verdict}
-use Rattle.spectra.specs.Counts.{SixCounts, SixPublished}
+use Rattle.blocks.specs.Words.{Written}
+use Rattle.refusals.specs.Refusals.{scratchWords, block, accepted}
+use Rattle.spectra.specs.Calls.{Call, verdict}
+use Rattle.refusals.specs.Counts.{SixCounts, SixPublished}
 use Rattle.spectra.specs.Answers.{verdictOf, products, sums}
 
 -- ---- Spectrum

@@ -1,22 +1,15 @@
 // Spectrum, Cosine, Pair and the count query, as a buyer calls them. No call asks anything of its input: each tests document 01's refusals in their order, before
 // anything is written, and promises its whole outcome (specs/Promises.antt).
-use transforms::tally::Tally;
-
-pub mod blocks;
-pub mod counts;
-pub mod length;
-pub mod range;
-pub mod words;
-
 use blocks::cosine_of;
 use blocks::pair_of;
 use blocks::spectrum_of;
-use counts::Counts;
-use counts::counts_of;
-use length::is_length;
-use length::reaches_beyond;
-use length::scratch_words;
-use range::first_out;
+use refusals::counts::Counts;
+use refusals::counts::counts_of;
+use refusals::length::is_length;
+use refusals::length::reaches_beyond;
+use refusals::length::scratch_words;
+use refusals::range::first_out;
+use transforms::tally::Tally;
 ghost use Rattle.spectra.specs.Promises.{SpectrumPromise, CosinePromise, PairPromise, CountsPromise};
 
 // The answer of a call on recordings: a case for each refusal of document 01, or the counts that were spent.

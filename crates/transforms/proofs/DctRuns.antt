@@ -9,7 +9,7 @@ use lib.IntN.{ℤ, natAbs}
 use lib.ListN.{length}
 use Rattle.whole.proofs.Cases.{le-or-lt}
 use Rattle.whole.proofs.Size.{within-size}
-use Rattle.ffct.specs.Block.{Samples}
+use Rattle.ffct.specs.Block.{Samples, largestSum}
 use Rattle.ffct.specs.Transforms.{rearranged, rotated, cosineDft, sineDft, dct}
 use Rattle.ffct.proofs.Lengths.{len, pow-len, len-pos}
 use Rattle.ffct.proofs.Counts.{few-operations}
@@ -17,7 +17,7 @@ use Rattle.ffct.proofs.Sizes.{dft-size}
 use Rattle.ffct.proofs.Blocks.{Same, rearranged-same, dft-same, rotated-same}
 use Rattle.ffct.proofs.Steps.{rearranged-source, dct-step, dct-products, dct-sums}
 use Rattle.transforms.specs.Words.{word, Filled}
-use Rattle.transforms.specs.Steps.{top, Ready, dftRoom, dctRoom, Gives, Transformed, DctRotated}
+use Rattle.transforms.specs.Steps.{Ready, dftRoom, dctRoom, Gives, Transformed, DctRotated}
 use Rattle.transforms.proofs.Parts.{part, back}
 use Rattle.transforms.proofs.Levels.{as-len, inner, at-most, divides, at-level, halves}
 use Rattle.transforms.proofs.Runs.{handed, handed-length, left, kept, whole-length}
@@ -74,7 +74,7 @@ module _ {n : ℕ} {w₀ w₁ : List ℤ} (r : Dct₁ n w₀ w₁) where
   room = omega (arith, r .ready .fits, two-m, len-pos l)
 
   -- rearranged samples are as small as samples
-  pub small : (x : Samples) → ((i : ℕ) → i < n → n * natAbs (x i) ≤ top) → (i : ℕ) → i < n → n * natAbs (rearranged n x i) ≤ top
+  pub small : (x : Samples) → ((i : ℕ) → i < n → n * natAbs (x i) ≤ largestSum) → (i : ℕ) → i < n → n * natAbs (rearranged n x i) ≤ largestSum
   small x b i h =
       let s = rearranged-source (len l) i (omega (arith, two-m)) in
       rw (ap (λ N. rearranged N x i) two-m ∙ s .2 x) (b (s .0) (omega (arith, two-m, s .1)))
@@ -176,14 +176,14 @@ module _ {n : ℕ} {w₀ w₁ p₁ w₃ p₃ : List ℤ} {p a q b : ℕ} (r : Dc
   rotatable =
       (omega (arith, two-m g), omega (arith, two-m g, len-pos (l g)), at-most (g .ready), divides (g .ready), omega (arith, length₄, room g, two-m g, len-pos (l g)))
 
-  pub small₄ : (k : ℕ) → k < (n / 2 + 1) + (n / 2 + 1) → natAbs (word w₄ (n + k)) ≤ top + 128
+  pub small₄ : (k : ℕ) → k < (n / 2 + 1) + (n / 2 + 1) → natAbs (word w₄ (n + k)) ≤ largestSum + 128
   unfolding ready-cosine ready-sine
   small₄ k h = ⊎-elim cosine-part sine-part (le-or-lt k (n / 2))
     where
-      cosine-part : k ≤ n / 2 → natAbs (word w₄ (n + k)) ≤ top + 128
+      cosine-part : k ≤ n / 2 → natAbs (word w₄ (n + k)) ≤ largestSum + 128
       cosine-part l = rw (cosine₄ k l) (within-size (dft-size (inner (ready-cosine g)) k (omega (arith, two-m g)) .0))
 
-      sine-part : n / 2 < k → natAbs (word w₄ (n + k)) ≤ top + 128
+      sine-part : n / 2 < k → natAbs (word w₄ (n + k)) ≤ largestSum + 128
       sine-part l =
           rw (ap (word w₄) {x = n + k} {y = middle n + (k - (n / 2 + 1))} (omega arith) ∙ sine₄ (k - (n / 2 + 1)) (omega arith))
           (within-size (dft-size (inner (ready-sine r₃)) (k - (n / 2 + 1)) (omega (arith, two-m g)) .1))

@@ -10,7 +10,7 @@ use lib.IntN.{ℤ, pos, natAbs, _+ℤ_, _-ℤ_}
 use lib.ListN.{length}
 use Rattle.whole.proofs.Cases.{le-or-lt}
 use Rattle.whole.proofs.Size.{within-size, size-add, within-sub, size-within}
-use Rattle.ffct.specs.Block.{Samples, topLevel}
+use Rattle.ffct.specs.Block.{Samples, topLevel, largestSum}
 use Rattle.ffct.specs.Transforms.{Transform, evens, foldedSums, foldedDifferences, alternate, cosineBeyond, sineBeyond, dctBeyond, apart, cosineDft, sineDft, dct}
 use Rattle.ffct.proofs.Lengths.{len, pow-len, len-pos}
 use Rattle.ffct.proofs.Counts.{few-operations}
@@ -19,7 +19,7 @@ use Rattle.ffct.proofs.Sizes.{Inner, dft-size, dct-within}
 use Rattle.ffct.proofs.Blocks.{Same, dft-same, dct-same, sine-first, sine-last, cosine-beyond-same, sine-beyond-same, dct-beyond-same}
 use Rattle.ffct.proofs.Steps.{cosine-step, sine-step, cosine-products, cosine-sums, sine-products, sine-sums}
 use Rattle.transforms.specs.Words.{word, Filled, FilledBySums}
-use Rattle.transforms.specs.Steps.{top, Ready, dftRoom, dctRoom, Gives, Transformed, evenAt, oddAt, CosineJoined, SineJoined}
+use Rattle.transforms.specs.Steps.{Ready, dftRoom, dctRoom, Gives, Transformed, evenAt, oddAt, CosineJoined, SineJoined}
 use Rattle.transforms.proofs.Parts.{part, back}
 use Rattle.transforms.proofs.Levels.{as-len, inner, at-most, sample-le, at-level, quarters}
 use Rattle.transforms.proofs.Runs.{handed, handed-length, left, kept, whole-length}
@@ -29,7 +29,7 @@ abbrev pub mark : ℕ → ℕ
 mark n = n + n / 4 + 1
 
 -- a quarter of n times a sum of two, from n times each
-quarter-le : (n u v z : ℕ) → n * u ≤ top → n * v ≤ top → z ≤ u + v → n / 4 * z ≤ top
+quarter-le : (n u v z : ℕ) → n * u ≤ largestSum → n * v ≤ largestSum → z ≤ u + v → n / 4 * z ≤ largestSum
 quarter-le n u v z hu hv hz =
     let k : 2 * (n / 4) ≤ n = omega arith in
     omega (arith, mul-le-mul-left (n / 4) hz, mul-le-mul-right u k, mul-le-mul-right v k)
@@ -38,7 +38,7 @@ quarter-le n u v z hu hv hz =
 pub record Kind (transform : ℕ → Samples → Transform) (fold : ℕ → Samples → Samples) : Type 0 where
   -- a transform reads its block, and its coefficients are small
   same : (L : ℕ) (x y : Samples) → Same L x y → transform L x ≡ transform L y
-  small : (L X : ℕ) (x : Samples) → Inner L x X → (k : ℕ) → 2 * k ≤ len L → natAbs (transform L x .at k) ≤ top + 128
+  small : (L X : ℕ) (x : Samples) → Inner L x X → (k : ℕ) → 2 * k ≤ len L → natAbs (transform L x .at k) ≤ largestSum + 128
   -- an accepted length's counts are small
   few : (L : ℕ) (x : Samples) → L ≤ topLevel → transform L x .products + transform L x .sums ≤ 2 ^ 16
   -- a fold of n samples at i is made of two of them, and no larger than their sizes together
@@ -134,7 +134,7 @@ module _ (transform : ℕ → Samples → Transform) (fold : ℕ → Samples →
     pub ready-fold : (n ≤ mark n) × (mark n + n / 4 ≤ length (back n w₁ p₁))
     ready-fold = (omega arith, omega (arith, length₂, room r₁, four-m r₁, len-pos (l r₁)))
 
-    pub samples₂ : (k : ℕ) → k < n → natAbs (word (back n w₁ p₁) k) ≤ top
+    pub samples₂ : (k : ℕ) → k < n → natAbs (word (back n w₁ p₁) k) ≤ largestSum
     samples₂ k h = rw (kept₂ k h) (sample-le (r₁ .ready) k h)
 
   -- ---- after the folded samples are put
@@ -153,13 +153,13 @@ module _ (transform : ℕ → Samples → Transform) (fold : ℕ → Samples →
           ∙ ap (λ n. fold n (word w₀) i) (four-m (r₁ r₂))
 
       -- a quarter of n times a sum of two samples
-      small-fold : (i : ℕ) → i < n / 4 → n / 4 * natAbs (fold n (word (back n w₁ p₁)) i) ≤ top
+      small-fold : (i : ℕ) → i < n / 4 → n / 4 * natAbs (fold n (word (back n w₁ p₁)) i) ≤ largestSum
       small-fold i h =
           let x = word (back n w₁ p₁) in
           let u = natAbs (x (2 * i + 1)) in
           let v = natAbs (x (n - 2 * i - 1)) in
-          let hu : n * u ≤ top = rw (kept₂ r₂ (2 * i + 1) (omega arith)) (r₁ r₂ .ready .samples (2 * i + 1) (omega arith)) in
-          let hv : n * v ≤ top = rw (kept₂ r₂ (n - 2 * i - 1) (omega arith)) (r₁ r₂ .ready .samples (n - 2 * i - 1) (omega arith)) in
+          let hu : n * u ≤ largestSum = rw (kept₂ r₂ (2 * i + 1) (omega arith)) (r₁ r₂ .ready .samples (2 * i + 1) (omega arith)) in
+          let hv : n * v ≤ largestSum = rw (kept₂ r₂ (n - 2 * i - 1) (omega arith)) (r₁ r₂ .ready .samples (n - 2 * i - 1) (omega arith)) in
           quarter-le n u v _ hu hv (K .fold-le n x i)
 
       pub ready-odd : Ready (n / 4) (dctRoom (n / 4)) (part (mark n) w₃)
@@ -216,16 +216,16 @@ module _ (transform : ℕ → Samples → Transform) (fold : ℕ → Samples →
           let g = r₁ (r₂ r₃) in
           (omega (arith, four-m g), four g, at-most (g .ready), omega (arith, length₄, room g, four-m g, len-pos lev))
 
-      pub small₄ : (k : ℕ) → k < n / 4 + 1 + n / 4 → natAbs (word (back (mark n) w₃ p₃) (n + k)) ≤ 2 * top
+      pub small₄ : (k : ℕ) → k < n / 4 + 1 + n / 4 → natAbs (word (back (mark n) w₃ p₃) (n + k)) ≤ 2 * largestSum
       unfolding ready-even ready-odd
       small₄ k h = ⊎-elim even-part odd-part (le-or-lt k (n / 4))
         where
-          even-part : k ≤ n / 4 → natAbs (word (back (mark n) w₃ p₃) (n + k)) ≤ 2 * top
+          even-part : k ≤ n / 4 → natAbs (word (back (mark n) w₃ p₃) (n + k)) ≤ 2 * largestSum
           even-part g =
               rw (even₄ k g ∙ even-gives (r₂ r₃) .coefficients k (omega (arith, four-m (r₁ (r₂ r₃)))))
               (omega (arith, K .small (suc lev) _ _ (inner (ready-even (r₁ (r₂ r₃)))) k (omega (arith, four-m (r₁ (r₂ r₃))))))
 
-          odd-part : n / 4 < k → natAbs (word (back (mark n) w₃ p₃) (n + k)) ≤ 2 * top
+          odd-part : n / 4 < k → natAbs (word (back (mark n) w₃ p₃) (n + k)) ≤ 2 * largestSum
           odd-part g =
               rw (ap (word (back (mark n) w₃ p₃)) {x = n + k} {y = mark n + (k - (n / 4 + 1))} (omega arith) ∙ odd₄ (k - (n / 4 + 1)) ∙ odd-gives .coefficients (k - (n / 4 + 1)) (omega arith))
               (omega (arith, within-size (dct-within (inner (ready-odd r₃)) (k - (n / 4 + 1)) (omega (arith, four-m (r₁ (r₂ r₃)))))))
@@ -272,7 +272,7 @@ module _ {n : ℕ} {w₀ w₁ p₁ w₃ p₃ w₅ : List ℤ} {p a f q b j : ℕ
       at-level (g .ready) (rw (level-is _ _ g) (record {
         coefficients = λ k h. joined .words k h
             ∙ ap₂ (λ N M. cosineBeyond N (evenAt n w₄) k +ℤ dctBeyond M (oddAt n w₄) k) {x = n / 2} {y = 2 * m} {u = n / 4} {v = m} (omega (arith, four-is)) (omega (arith, four-is))
-            ∙ ap₂ _+ℤ_ (cosine-beyond-same m (evenAt n w₄) _ k (omega (arith, four-is)) (λ i l. even-value _ _ cosine-kind r i (omega (arith, four-is))))
+            ∙ ap₂ _+ℤ_ (cosine-beyond-same (2 * m) (evenAt n w₄) _ k (omega (arith, four-is)) (λ i l. even-value _ _ cosine-kind r i (omega (arith, four-is))))
             (dct-beyond-same m (oddAt n w₄) _ k (omega (arith, four-is)) (λ i l. odd-value _ _ cosine-kind r i (omega (arith, four-is))))
             ∙ sym (cosine-step lev x k);
         products = omega (arith, spent-even _ _ cosine-kind r, spent-odd _ _ cosine-kind r, cosine-products lev x);
@@ -304,7 +304,7 @@ module _ {n : ℕ} {w₀ w₁ p₁ w₃ p₃ w₅ : List ℤ} {p a f q b j : ℕ
       at-level (g .ready) (rw (level-is _ _ g) (record {
         coefficients = λ k h. joined .words k h
             ∙ ap₂ (λ N M. sineBeyond N (evenAt n w₄) k +ℤ dctBeyond M (oddAt n w₄) (apart M k)) {x = n / 2} {y = 2 * m} {u = n / 4} {v = m} (omega (arith, four-is)) (omega (arith, four-is))
-            ∙ ap₂ _+ℤ_ (sine-beyond-same m (evenAt n w₄) _ k (omega (arith, four-is)) (λ i l. even-value _ _ sine-kind r i (omega (arith, four-is))))
+            ∙ ap₂ _+ℤ_ (sine-beyond-same (2 * m) (evenAt n w₄) _ k (omega (arith, four-is)) (λ i l. even-value _ _ sine-kind r i (omega (arith, four-is))))
             (dct-beyond-same m (oddAt n w₄) _ (apart m k) (apart-le m k (omega (arith, four-is))) (λ i l. odd-value _ _ sine-kind r i (omega (arith, four-is))))
             ∙ sym (sine-step lev x k);
         products = omega (arith, spent-even _ _ sine-kind r, spent-odd _ _ sine-kind r, sine-products lev x);

@@ -19,10 +19,11 @@ use Rattle.whole.proofs.Size.{_within_, size-within, within-add, within-sub, wi
 use Rattle.whole.proofs.Words as Words
 use Rattle.whole.proofs.Words.{Word}
 use Rattle.circle.specs.Circle.{T}
+use Rattle.ffct.specs.Block.{largestSum}
 use Rattle.ffct.specs.Transforms.{apart}
 use Rattle.ffct.proofs.Steps.{cosine-low, cosine-high, sine-low, sine-high, dct-low, dct-middle, dct-high, rotated-zero, rotated-low, rotated-middle, rotated-high}
 use Rattle.transforms.specs.Words.{word, Mirrored}
-use Rattle.transforms.specs.Steps.{top, evenAt, oddAt, CosineJoined, SineJoined, PairsRotated, DctRotated}
+use Rattle.transforms.specs.Steps.{evenAt, oddAt, CosineJoined, SineJoined, PairsRotated, DctRotated}
 use Rattle.transforms.proofs.Mirroring.{mirrored-read, mirrored-stored, mirrored-kept, mirrored-beside, mirrored-each}
 
 -- an operation on the words p and q, which hold x and y: what it asks, and what it makes
@@ -33,7 +34,7 @@ pub record Computes (op : ℤ → ℤ → ℤ) (p q : ℕ) (x y : ℤ) : Type 0 
 pub computes : (op : ℤ → ℤ → ℤ) {p q : ℕ} {x y : ℤ} → Word w64 p x → Word w64 q y → SFits w64 (op x y) → Computes op p q x y
 computes op a b f = record { asked = Words.asked op a b f; made = Words.made op a b f .is }
 
-module _ {p q : ℕ} {x y : ℤ} (a : Word w64 p x) (b : Word w64 q y) (h : x within 2 * top) (l : y within 2 * top) where
+module _ {p q : ℕ} {x y : ℤ} (a : Word w64 p x) (b : Word w64 q y) (h : x within 2 * largestSum) (l : y within 2 * largestSum) where
   pub added : Computes _+ℤ_ p q x y
   added = computes _+ℤ_ a b (within-fits (within-add h l) (lit< tt))
 
@@ -60,7 +61,7 @@ pub record JoinTurn (n i j : ℕ) (before after : List ℤ) : Type 0 where
   pub reversed : Computes _-ℤ_ (ofZ w64 (oddAt n after j)) (ofZ w64 (evenAt n after i)) (oddAt n before j) (evenAt n before i)
 
 pub join-turn : {first last t n : ℕ} {f g : ℕ → ℤ} {before after : List ℤ} → Mirrored first last t n f g before after
-    → ((k : ℕ) → k < n / 4 + 1 + n / 4 → natAbs (word before (n + k)) ≤ 2 * top) → (i j : ℕ) → (i < n / 4) × (j < n / 4)
+    → ((k : ℕ) → k < n / 4 + 1 + n / 4 → natAbs (word before (n + k)) ≤ 2 * largestSum) → (i j : ℕ) → (i < n / 4) × (j < n / 4)
     → mag (evenAt n after i) < 2 ^ 63 → mag (oddAt n after j) < 2 ^ 63 → JoinTurn n i j before after
 join-turn {n = n} {before = before} p sizes i j h l m =
     let place : n + (n / 4 + 1 + j) ≡ n + n / 4 + 1 + j = omega arith in

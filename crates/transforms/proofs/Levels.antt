@@ -7,13 +7,13 @@ use native.Mathlib.Nat.{le-div-iff-mul-le, mul-div-le, mul-suc, mul-le-mul-right
 use native.Mathlib.Omega.{arith}
 use lib.IntN.{ℤ, natAbs}
 use Rattle.whole.proofs.Size.{size-within, within-size}
-use Rattle.ffct.specs.Block.{Samples}
+use Rattle.ffct.specs.Block.{Samples, largestSum}
 use Rattle.ffct.specs.Transforms.{Transform, cosineDft, sineDft, dct}
 use Rattle.ffct.proofs.Lengths.{len, pow-len, len-pos, per, len-per, quotient}
 use Rattle.ffct.proofs.Blocks.{Same, dft-same, dct-same}
 use Rattle.ffct.proofs.Sizes.{Inner, dft-size, dct-within}
 use Rattle.transforms.specs.Words.{word}
-use Rattle.transforms.specs.Steps.{top, Ready, Gives, Transformed}
+use Rattle.transforms.specs.Steps.{Ready, Gives, Transformed}
 
 module _ {n room : ℕ} {words : List ℤ} (r : Ready n room words) where
   pub as-len : n ≡ len (r .level)
@@ -23,10 +23,10 @@ module _ {n room : ℕ} {words : List ℤ} (r : Ready n room words) where
   some = omega (arith, as-len, len-pos (r .level))
 
   -- the inner transform of ffct's laws
-  pub inner : Inner (r .level) (word words) (top / n)
+  pub inner : Inner (r .level) (word words) (largestSum / n)
   inner = record {
     level = r .small;
-    small = omega (arith, mul-div-le top n, ap (λ m. m * (top / n)) as-len);
+    small = omega (arith, mul-div-le largestSum n, ap (λ m. m * (largestSum / n)) as-len);
     bounded = λ i h. size-within _ (le-div-iff-mul-le some .1 (omega (arith, r .samples i (omega (arith, as-len)))));
   }
 
@@ -44,19 +44,19 @@ module _ {n room : ℕ} {words : List ℤ} (r : Ready n room words) where
       factor-le a (suc b) e = omega (arith, mul-suc a b)
 
   -- each sample, whatever the length
-  pub sample-le : (i : ℕ) → i < n → natAbs (word words i) ≤ top
+  pub sample-le : (i : ℕ) → i < n → natAbs (word words i) ≤ largestSum
   sample-le i h = omega (arith, mul-le-mul-right (natAbs (word words i)) some, r .samples i h)
 
   -- the sizes of the coefficients of the samples x that n samples at the front are
   module _ (x : Samples) (e : Same (r .level) (word words) x) where
-    pub cosine-le : (k : ℕ) → 2 * k ≤ n → natAbs (cosineDft (r .level) x .at k) ≤ top + 128
-    cosine-le k h = subst (λ t. natAbs (t .at k) ≤ top + 128) (dft-same (r .level) (word words) x e .0) (within-size (dft-size inner k (omega (arith, as-len)) .0))
+    pub cosine-le : (k : ℕ) → 2 * k ≤ n → natAbs (cosineDft (r .level) x .at k) ≤ largestSum + 128
+    cosine-le k h = subst (λ t. natAbs (t .at k) ≤ largestSum + 128) (dft-same (r .level) (word words) x e .0) (within-size (dft-size inner k (omega (arith, as-len)) .0))
 
-    pub sine-le : (k : ℕ) → 2 * k ≤ n → natAbs (sineDft (r .level) x .at k) ≤ top + 128
-    sine-le k h = subst (λ t. natAbs (t .at k) ≤ top + 128) (dft-same (r .level) (word words) x e .1) (within-size (dft-size inner k (omega (arith, as-len)) .1))
+    pub sine-le : (k : ℕ) → 2 * k ≤ n → natAbs (sineDft (r .level) x .at k) ≤ largestSum + 128
+    sine-le k h = subst (λ t. natAbs (t .at k) ≤ largestSum + 128) (dft-same (r .level) (word words) x e .1) (within-size (dft-size inner k (omega (arith, as-len)) .1))
 
-    pub dct-le : (k : ℕ) → k < n → natAbs (dct (r .level) x .at k) ≤ top + 257
-    dct-le k h = subst (λ t. natAbs (t .at k) ≤ top + 257) (dct-same (r .level) (word words) x e) (within-size (dct-within inner k (omega (arith, as-len))))
+    pub dct-le : (k : ℕ) → k < n → natAbs (dct (r .level) x .at k) ≤ largestSum + 257
+    dct-le k h = subst (λ t. natAbs (t .at k) ≤ largestSum + 257) (dct-same (r .level) (word words) x e) (within-size (dct-within inner k (omega (arith, as-len))))
 
 -- ---- the level of n
 pub len-injective : (L M : ℕ) → len L ≡ len M → L ≡ M

@@ -6,23 +6,19 @@ use lib.IntN.{ℤ, natAbs, _+ℤ_, _-ℤ_, _*ℤ_}
 use lib.ListN.{length}
 use Rattle.whole.specs.Round.{round}
 use Rattle.circle.specs.Circle.{T}
-use Rattle.ffct.specs.Block.{Samples, topLevel}
+use Rattle.ffct.specs.Block.{Samples, topLevel, largestSum}
 use Rattle.ffct.specs.Transforms.{Transform, cosineBeyond, sineBeyond, dctBeyond, apart, rotated}
 use Rattle.transforms.specs.Words.{word, Mirrored}
 
 -- ---- what a transform of n samples asks of the slice that it is lent: n is one of the eleven lengths, there is room, and n times the size of each sample is at most
 -- 1,024 times 1,000,000, which holds of an accepted block and of the samples of every step
 
--- 1,024 samples of 1,000,000
-abbrev pub top : ℕ
-top = 1024000000
-
 pub record Ready (n room : ℕ) (words : List ℤ) : Type 0 where
   pub level : ℕ
   pub small : level ≤ topLevel
   pub is : n ≡ 2 ^ level
   pub fits : room ≤ length words
-  pub samples : (i : ℕ) → i < n → n * natAbs (word words i) ≤ top
+  pub samples : (i : ℕ) → i < n → n * natAbs (word words i) ≤ largestSum
 
 -- the words that a cosine- or sine-DFT of n samples works in: 5/2 n
 abbrev pub dftRoom : ℕ → ℕ

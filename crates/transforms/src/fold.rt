@@ -3,9 +3,9 @@ ghost use mathlib.Core.Path.{_≡_};
 ghost use Prim.Native.Nat.{ℕ, _+_, _-_, _*_, _/_, _≤_, _<_};
 ghost use lib.IntN.{natAbs, _-ℤ_};
 ghost use lib.ListN.{length};
+ghost use Rattle.ffct.specs.Block.{largestSum};
 ghost use Rattle.ffct.specs.Transforms.{evens, foldedSums, foldedDifferences, alternate, rearranged};
 ghost use Rattle.transforms.specs.Words.{word, Filled, FilledBySums};
-ghost use Rattle.transforms.specs.Steps.{top};
 
 // x1 of (12): the even ones of the n samples at the front, put at b.
 pub fn put_evens(w: &mut [i64], n: usize, b: usize)
@@ -47,7 +47,7 @@ pub fn rearrange(w: &mut [i64], n: usize, b: usize)
 // x2 of (12): each odd sample and its mirror image added, put at b. Returns the sums made.
 pub fn put_folded_sums(w: &mut [i64], n: usize, b: usize) -> u64
     requires { ⌜ (n ≤ b) × (b + n / 4 ≤ length (now w)) ⌝ }
-    requires { ⌜ ((k : ℕ) → k < n → natAbs (word (now w) k) ≤ top) ⌝ }
+    requires { ⌜ ((k : ℕ) → k < n → natAbs (word (now w) k) ≤ largestSum) ⌝ }
     ensures { λ r. ⌜ FilledBySums b (n / 4) (foldedSums n (word (now (w .entry)))) (now (w .entry)) (now (w .exit)) r ⌝ }
 {
     let q = n / 4;
@@ -65,7 +65,7 @@ pub fn put_folded_sums(w: &mut [i64], n: usize, b: usize) -> u64
 
 // (-1)^i (x - y): one sum.
 fn alternating_difference(i: usize, x: i64, y: i64) -> i64
-    requires { ⌜ (natAbs x ≤ top) × (natAbs y ≤ top) ⌝ }
+    requires { ⌜ (natAbs x ≤ largestSum) × (natAbs y ≤ largestSum) ⌝ }
     ensures { λ r. ⌜ r ≡ alternate i (x -ℤ y) ⌝ }
 {
     if i % 2 == 0 { x - y } else { y - x }
@@ -74,7 +74,7 @@ fn alternating_difference(i: usize, x: i64, y: i64) -> i64
 // x3 of (15): each odd sample less its mirror image, with alternating sign, put at b. Returns the sums made.
 pub fn put_folded_differences(w: &mut [i64], n: usize, b: usize) -> u64
     requires { ⌜ (n ≤ b) × (b + n / 4 ≤ length (now w)) ⌝ }
-    requires { ⌜ ((k : ℕ) → k < n → natAbs (word (now w) k) ≤ top) ⌝ }
+    requires { ⌜ ((k : ℕ) → k < n → natAbs (word (now w) k) ≤ largestSum) ⌝ }
     ensures { λ r. ⌜ FilledBySums b (n / 4) (foldedDifferences n (word (now (w .entry)))) (now (w .entry)) (now (w .exit)) r ⌝ }
 {
     let q = n / 4;

@@ -4,13 +4,14 @@ ghost use mathlib.Core.Path.{_≡_};
 ghost use Prim.Native.Nat.{ℕ, _+_, _-_, _*_, _/_, _≤_, _<_};
 ghost use lib.IntN.{pos, natAbs, _+ℤ_, _-ℤ_};
 ghost use lib.ListN.{length};
+ghost use Rattle.ffct.specs.Block.{largestSum};
 ghost use Rattle.transforms.specs.Words.{word, Mirrored};
-ghost use Rattle.transforms.specs.Steps.{top, evenAt, oddAt, CosineJoined, SineJoined, Halved};
+ghost use Rattle.transforms.specs.Steps.{evenAt, oddAt, CosineJoined, SineJoined, Halved};
 
 // N = 2: the sum and the difference of the two samples at the front, in their place.
 pub fn sum_and_difference(w: &mut [i64]) -> u64
     requires { ⌜ 2 ≤ length (now w) ⌝ }
-    requires { ⌜ ((k : ℕ) → k < 2 → natAbs (word (now w) k) ≤ top) ⌝ }
+    requires { ⌜ ((k : ℕ) → k < 2 → natAbs (word (now w) k) ≤ largestSum) ⌝ }
     ensures { λ r. ⌜ Halved (now (w .entry)) (now (w .exit)) r ⌝ }
 {
     let x = w[0];
@@ -26,7 +27,7 @@ pub fn sum_and_difference(w: &mut [i64]) -> u64
 // E(k) + D(k) at k and E(k) - D(k) at n / 2 - k, for k below n / 4.
 fn add_and_subtract(w: &mut [i64], n: usize) -> u64
     requires { ⌜ (4 ≤ n) × (n ≤ 1024) × (n + n / 4 + 1 + n / 4 ≤ length (now w)) ⌝ }
-    requires { ⌜ ((k : ℕ) → k < n / 4 + 1 + n / 4 → natAbs (word (now w) (n + k)) ≤ 2 * top) ⌝ }
+    requires { ⌜ ((k : ℕ) → k < n / 4 + 1 + n / 4 → natAbs (word (now w) (n + k)) ≤ 2 * largestSum) ⌝ }
     ensures { λ r. ⌜ Mirrored 0 (n / 4) (n / 2) n (λ k. evenAt n (now (w .entry)) k +ℤ oddAt n (now (w .entry)) k) (λ k. evenAt n (now (w .entry)) k -ℤ oddAt n (now (w .entry)) k) (now (w .entry)) (now (w .exit)) × (r ≡ 2 * (n / 4)) ⌝ }
 {
     let q = n / 4;
@@ -49,7 +50,7 @@ fn add_and_subtract(w: &mut [i64], n: usize) -> u64
 // (12): by (6) the DCT has no part in the coefficient n / 4.
 pub fn join_cosine(w: &mut [i64], n: usize) -> u64
     requires { ⌜ (4 * (n / 4) ≡ n) × (4 ≤ n) × (n ≤ 1024) × (n + n / 4 + 1 + n / 4 ≤ length (now w)) ⌝ }
-    requires { ⌜ ((k : ℕ) → k < n / 4 + 1 + n / 4 → natAbs (word (now w) (n + k)) ≤ 2 * top) ⌝ }
+    requires { ⌜ ((k : ℕ) → k < n / 4 + 1 + n / 4 → natAbs (word (now w) (n + k)) ≤ 2 * largestSum) ⌝ }
     ensures { λ r. ⌜ CosineJoined n (now (w .entry)) (now (w .exit)) r ⌝ }
 {
     let sums = add_and_subtract(w, n);
@@ -62,7 +63,7 @@ pub fn join_cosine(w: &mut [i64], n: usize) -> u64
 // E(k) + D(n / 4 - k) at k and D(n / 4 - k) - E(k) at n / 2 - k, for k from 1 up to n / 4.
 fn add_and_subtract_reversed(w: &mut [i64], n: usize) -> u64
     requires { ⌜ (4 ≤ n) × (n ≤ 1024) × (n + n / 4 + 1 + n / 4 ≤ length (now w)) ⌝ }
-    requires { ⌜ ((k : ℕ) → k < n / 4 + 1 + n / 4 → natAbs (word (now w) (n + k)) ≤ 2 * top) ⌝ }
+    requires { ⌜ ((k : ℕ) → k < n / 4 + 1 + n / 4 → natAbs (word (now w) (n + k)) ≤ 2 * largestSum) ⌝ }
     ensures { λ r. ⌜ Mirrored 1 (n / 4) (n / 2) n (λ k. evenAt n (now (w .entry)) k +ℤ oddAt n (now (w .entry)) (n / 4 - k)) (λ k. oddAt n (now (w .entry)) (n / 4 - k) -ℤ evenAt n (now (w .entry)) k) (now (w .entry)) (now (w .exit)) × (r ≡ 2 * (n / 4 - 1)) ⌝ }
 {
     let q = n / 4;
@@ -86,7 +87,7 @@ fn add_and_subtract_reversed(w: &mut [i64], n: usize) -> u64
 pub fn join_sine(w: &mut [i64], n: usize) -> u64
     requires { ⌜ (4 * (n / 4) ≡ n) × (4 ≤ n) × (n ≤ 1024) × (n + n / 4 + 1 + n / 4 ≤ length (now w)) ⌝ }
     requires { ⌜ (evenAt n (now w) 0 ≡ pos 0) × (evenAt n (now w) (n / 4) ≡ pos 0) ⌝ }
-    requires { ⌜ ((k : ℕ) → k < n / 4 + 1 + n / 4 → natAbs (word (now w) (n + k)) ≤ 2 * top) ⌝ }
+    requires { ⌜ ((k : ℕ) → k < n / 4 + 1 + n / 4 → natAbs (word (now w) (n + k)) ≤ 2 * largestSum) ⌝ }
     ensures { λ r. ⌜ SineJoined n (now (w .entry)) (now (w .exit)) r ⌝ }
 {
     let sums = add_and_subtract_reversed(w, n);

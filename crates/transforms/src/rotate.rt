@@ -8,8 +8,9 @@ ghost use lib.IntN.{natAbs, _*ℤ_};
 ghost use lib.ListN.{length};
 ghost use Rattle.whole.specs.Round.{round as rounded};
 ghost use Rattle.circle.specs.Circle.{T, IsQuarterWave};
+ghost use Rattle.ffct.specs.Block.{largestSum};
 ghost use Rattle.transforms.specs.Words.{word};
-ghost use Rattle.transforms.specs.Steps.{top, PairRotated, PairsRotated, DctRotated};
+ghost use Rattle.transforms.specs.Steps.{PairRotated, PairsRotated, DctRotated};
 
 // DCT(k) and DCT(n - k), with the products and sums that they take.
 pub struct Rotation {
@@ -21,7 +22,7 @@ pub struct Rotation {
 
 // (20), from the cosine-DFT and the sine-DFT at k, c and s being the table's entries. (c + s and s - c are sums of table entries alone.)
 fn rotate_pair(c: i64, s: i64, cosine: i64, sine: i64) -> Rotation
-    requires { ⌜ (natAbs cosine ≤ top + 128) × (natAbs sine ≤ top + 128) × (natAbs c ≤ 2 ^ 30) × (natAbs s ≤ 2 ^ 30) ⌝ }
+    requires { ⌜ (natAbs cosine ≤ largestSum + 128) × (natAbs sine ≤ largestSum + 128) × (natAbs c ≤ 2 ^ 30) × (natAbs s ≤ 2 ^ 30) ⌝ }
     ensures { λ r. ⌜ PairRotated c s cosine sine (r .low) (r .high) (r .products) (r .sums) ⌝ }
 {
     let mut products: u64 = 0;
@@ -49,7 +50,7 @@ fn rotate_pair(c: i64, s: i64, cosine: i64, sine: i64) -> Rotation
 // The pairs k, n - k for k from 1 up to n / 2: the cosine-DFT stands at n, the sine-DFT at n + n / 2 + 1.
 fn rotate_pairs(wave: &[i32; 1025], w: &mut [i64], n: usize) -> Tally
     requires { ⌜ IsQuarterWave (now wave) × (2 ≤ n) × (n ≤ 1024) × (n + (n / 2 + 1) + (n / 2 + 1) ≤ length (now w)) ⌝ }
-    requires { ⌜ ((k : ℕ) → k < (n / 2 + 1) + (n / 2 + 1) → natAbs (word (now w) (n + k)) ≤ top + 128) ⌝ }
+    requires { ⌜ ((k : ℕ) → k < (n / 2 + 1) + (n / 2 + 1) → natAbs (word (now w) (n + k)) ≤ largestSum + 128) ⌝ }
     ensures { λ r. ⌜ PairsRotated n (now (w .entry)) (now (w .exit)) (r .products) (r .sums) ⌝ }
 {
     let h = n / 2;
@@ -80,7 +81,7 @@ fn rotate_pairs(wave: &[i32; 1025], w: &mut [i64], n: usize) -> Tally
 
 // T(512) C(n / 2), rounded: one product.
 fn rotate_middle(wave: &[i32; 1025], cosine: i64) -> i64
-    requires { ⌜ IsQuarterWave (now wave) × (natAbs cosine ≤ top + 128) ⌝ }
+    requires { ⌜ IsQuarterWave (now wave) × (natAbs cosine ≤ largestSum + 128) ⌝ }
     ensures { λ r. ⌜ r ≡ rounded (T 512 *ℤ cosine) ⌝ }
 {
     round(wave_at(wave, 512) * cosine)
@@ -89,7 +90,7 @@ fn rotate_middle(wave: &[i32; 1025], cosine: i64) -> i64
 // The DCT of n samples at the front, from the cosine-DFT at n and the sine-DFT at n + n / 2 + 1.
 pub fn rotate_all(wave: &[i32; 1025], w: &mut [i64], n: usize) -> Tally
     requires { ⌜ IsQuarterWave (now wave) × (2 * (n / 2) ≡ n) × (2 ≤ n) × (n ≤ 1024) × (n * (1024 / n) ≡ 1024) × (n + (n / 2 + 1) + (n / 2 + 1) ≤ length (now w)) ⌝ }
-    requires { ⌜ ((k : ℕ) → k < (n / 2 + 1) + (n / 2 + 1) → natAbs (word (now w) (n + k)) ≤ top + 128) ⌝ }
+    requires { ⌜ ((k : ℕ) → k < (n / 2 + 1) + (n / 2 + 1) → natAbs (word (now w) (n + k)) ≤ largestSum + 128) ⌝ }
     ensures { λ r. ⌜ DctRotated n (now (w .entry)) (now (w .exit)) (r .products) (r .sums) ⌝ }
 {
     let pairs = rotate_pairs(wave, w, n);

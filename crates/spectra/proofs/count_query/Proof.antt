@@ -3,8 +3,8 @@ use mathlib.Core.Path.{_≡_, refl, sym, _∙_}
 use mathlib.Core.Bool.{true, false≢true}
 use borrow.Author.Needs.{needs}
 use borrow.Author.Tests.{not-true, not-false}
-use Rattle.spectra.specs.Refusals.{isLength}
-use Rattle.spectra.proofs.Costs.{six-published}
+use Rattle.ffct.specs.Block.{isLength}
+use Rattle.refusals.proofs.Costs.{six-published}
 use Rattle.spectra.proofs.count_query.Statement.{statement}
 use Rattle.spectra.proofs.count_query.Tie as tie
 

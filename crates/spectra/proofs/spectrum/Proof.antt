@@ -5,8 +5,8 @@ use native.Mathlib.Omega.{arith}
 use borrow.Author.Needs.{needs}
 use borrow.Author.Tests.{ltb-true, ltb-false, not-true, not-false}
 use Rattle.spectra.specs.Promises.{spectrumCall}
-use Rattle.spectra.specs.Refusals.{Call}
-use Rattle.spectra.proofs.Lengths.{length-le}
+use Rattle.spectra.specs.Calls.{Call}
+use Rattle.ffct.proofs.ElevenLengths.{length-le}
 use Rattle.spectra.proofs.Verdicts.{lent-out, lent-in, Passed1, Passed2, Passed3, Passed4, Passed5, Passed6, refused-1, refused-2, refused-3, refused-4, refused-5, refused-6, spectrum-refused}
 use Rattle.spectra.specs.declared.Answer.the-variants.{Done}
 use lib.Seq.{length-take-le}

@@ -7,7 +7,7 @@ use mir.Val.{SFits}
 use Rattle.whole.proofs.Difference.{parts, diff}
 use Rattle.whole.proofs.Size.{near, _within_, size-within, within-sub, within-fits}
 use Rattle.whole.proofs.Words.{word, asked, made}
-use Rattle.transforms.specs.Steps.{top}
+use Rattle.ffct.specs.Block.{largestSum}
 use Rattle.transforms.proofs.Alternate.{alternate-even, alternate-odd}
 use Rattle.transforms.proofs.fold.alternating_difference.Statement.{statement}
 use Rattle.transforms.proofs.fold.alternating_difference.Tie as tie
@@ -16,10 +16,10 @@ turned : (x y : ℤ) → y -ℤ x ≡ negℤ (x -ℤ y)
 turned x y = rw (parts x, parts y) (simp diff (omega near))
 
 module _ (s : tie.Start) where
-  x-small : s .args .x within top
+  x-small : s .args .x within largestSum
   x-small = size-within (s .args .x) (s .pre .0)
 
-  y-small : s .args .y within top
+  y-small : s .args .y within largestSum
   y-small = size-within (s .args .y) (s .pre .1)
 
   there : SFits w64 (s .args .x -ℤ s .args .y)

@@ -10,8 +10,8 @@ use mir.Syntax.{w64}
 use mir.Val.{ofZ}
 use borrow.Author.Needs.{needs}
 use Rattle.whole.proofs.Size.{_within_, size-within}
+use Rattle.ffct.specs.Block.{largestSum}
 use Rattle.transforms.specs.Words.{word}
-use Rattle.transforms.specs.Steps.{top}
 use Rattle.transforms.proofs.Mirroring.{held}
 use Rattle.transforms.proofs.Joining.{Computes, added, subtracted}
 use Rattle.transforms.proofs.join.sum_and_difference.Statement.{statement}
@@ -27,7 +27,7 @@ module _ (c : tie.After-y) where
   abbrev w : List ℤ
   w = c .before .before .args .w .now
 
-  small : (k : ℕ) → k < 2 → word w k within 2 * top
+  small : (k : ℕ) → k < 2 → word w k within 2 * largestSum
   small k h = size-within (word w k) (omega (arith, c .before .before .pre .1 k h))
 
   sum : Computes _+ℤ_ (ofZ w64 (word w 0)) (ofZ w64 (word w 1)) (word w 0) (word w 1)

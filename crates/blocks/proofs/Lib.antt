@@ -1,0 +1,4 @@
+pub mod Writing
+pub mod Sines
+pub mod BlockRuns
+pub mod Parts

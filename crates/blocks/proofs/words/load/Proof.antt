@@ -1,0 +1,50 @@
+-- `spectra::words::load` meets its contract: after i turns i samples are stored. Assumes nothing.
+use Prim.Native.Nat.{_-_, _≤_}
+use native.Mathlib.Omega.{arith}
+use lib.ListN.{length}
+use mir.Syntax.{w32}
+use mir.Val.{ofZ}
+use borrow.Author.Needs.{needs, sfits-of}
+use Rattle.whole.proofs.Words as Words
+use Rattle.whole.proofs.Words.{Word, widens, widened}
+use Rattle.transforms.specs.Words.{word}
+use Rattle.blocks.proofs.Writing.{Ends, ends-none, ends-front, ends-all}
+use Rattle.blocks.proofs.words.load.Statement.{statement}
+use Rattle.blocks.proofs.words.load.Tie as tie
+
+abbrev Inv-loop : tie.InvT-loop
+Inv-loop block w₀ i₀ w i = (i ≤ length block) × Ends i 0 (length block) (word block) w₀ w
+
+abbrev μ-loop : tie.MeasureT-loop
+μ-loop block w₀ i₀ w i = length block - i
+
+-- the sample that a turn reads
+sample : (c : tie.After-x Inv-loop μ-loop) → let x = word (c .before .before .before .args .block .now) (c .before .before .loop .i) in Word w32 (ofZ w32 x) x
+sample c = Words.word (sfits-of (c .x .given))
+
+cast-x : tie.Need-cast-x Inv-loop μ-loop
+cast-x c = widens tt (sample c)
+
+loop-again : tie.Need-loop-again Inv-loop μ-loop
+loop-again c = (search needs, ends-front (c .before .before .loop .inv .1) (omega arith) (widened tt (sample c) .is))
+
+returns : tie.Need-returns Inv-loop μ-loop
+returns c = ends-all (c .before .loop .inv .1) (omega arith)
+
+pub load-spec : {M : Type 1} → statement M
+load-spec =
+    tie.close
+    (tie.spec
+    Inv-loop
+    μ-loop
+    (λ c. search (needs, ends-none))  -- loop-holds
+    (λ c. search needs)  -- mul-x
+    (λ c. search needs)  -- shared-slice-copy-out-x
+    cast-x
+    (λ c. search needs)  -- mul-x-2
+    (λ c. search needs)  -- slice-set-from-x
+    (λ c. search needs)  -- add-i
+    (λ c. search needs)  -- loop-less
+    loop-again
+    (λ c. search needs)  -- same-length
+    returns)

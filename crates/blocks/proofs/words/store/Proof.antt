@@ -1,0 +1,45 @@
+-- `spectra::words::store` meets its contract: after k turns k words are stored. Assumes nothing.
+use Prim.Native.Nat.{_-_, _≤_}
+use native.Mathlib.Omega.{arith}
+use borrow.Author.Needs.{needs}
+use Rattle.transforms.specs.Words.{word}
+use Rattle.blocks.proofs.Writing.{narrows, narrowed, Ends, ends-none, ends-front, ends-all}
+use Rattle.blocks.proofs.words.store.Statement.{statement}
+use Rattle.blocks.proofs.words.store.Tie as tie
+
+abbrev Inv-loop : tie.InvT-loop
+Inv-loop w out₀ m k₀ out k = (k ≤ m) × Ends k 0 m (word w) out₀ out
+
+abbrev μ-loop : tie.MeasureT-loop
+μ-loop w out₀ m k₀ out k = m - k
+
+cast-y : tie.Need-cast-y Inv-loop μ-loop
+cast-y c =
+    let l = c .before .before in
+    narrows (word (l .before .args .w .now) (l .loop .k)) (l .before .pre .1 (l .loop .k) (omega arith))
+
+loop-again : tie.Need-loop-again Inv-loop μ-loop
+loop-again c =
+    let l = c .before .before in
+    (search needs, ends-front (l .loop .inv .1) (omega arith) (narrowed _ (l .before .pre .1 (l .loop .k) (omega arith)) .is))
+
+returns : tie.Need-returns Inv-loop μ-loop
+returns c = ends-all (c .before .loop .inv .1) (omega arith)
+
+pub store-spec : {M : Type 1} → statement M
+store-spec =
+    tie.close
+    (tie.spec
+    Inv-loop
+    μ-loop
+    (λ c. search (needs, ends-none))  -- loop-holds
+    (λ c. search needs)  -- mul-y
+    (λ c. search needs)  -- shared-slice-copy-out-y
+    cast-y
+    (λ c. search needs)  -- mul-y-2
+    (λ c. search needs)  -- slice-set-from-y
+    (λ c. search needs)  -- add-k
+    (λ c. search needs)  -- loop-less
+    loop-again
+    (λ c. search needs)  -- same-length
+    returns)

@@ -1,0 +1,49 @@
+-- What the functions on an accepted block ask and promise. The block's words are its samples; w are the words that a call lends for the work, all of which are cleared at the end.
+use mathlib.Core.Bool.{true}
+use mathlib.Core.List.{List}
+use mathlib.Core.Path.{_≡_}
+use Prim.Native.Nat.{ℕ, _+_, _-_, _*_, _/_, _≤_, _<_}
+use lib.IntN.{ℤ, pos, natAbs}
+use lib.ListN.{length}
+use Rattle.ffct.specs.Block.{largestSample, isLength, level}
+use Rattle.ffct.specs.Transforms.{cosineBeyond, sineBeyond, cosineDft, sineDft, dct as dctOf, spectrum as spectrumOf, pair as pairOf}
+use Rattle.transforms.specs.Words.{word}
+use Rattle.blocks.specs.Words.{Written}
+
+-- a block of one of the eleven lengths, its samples in range, with room to work in
+pub record Workable (block w : List ℤ) : Type 0 where
+  pub length-ok : isLength (length block) ≡ true
+  pub range : (i : ℕ) → i < length block → natAbs (word block i) ≤ largestSample
+  pub room : 4 * length block + 1 ≤ length w
+
+abbrev pub Cleared : List ℤ → List ℤ → Type 0
+Cleared w w′ = Written (length w) (λ k. pos 0) w w′
+
+pub record SpectrumMade (block cosine sine w cosine′ sine′ w′ : List ℤ) (p a : ℕ) : Type 0 where
+  pub cosineWords : Written (length block / 2 + 1) (spectrumOf (level (length block)) (word block) .cosine) cosine cosine′
+  pub sineWords : Written (length block / 2 + 1) (spectrumOf (level (length block)) (word block) .sine) sine sine′
+  pub cleared : Cleared w w′
+  pub products : p ≡ spectrumOf (level (length block)) (word block) .products
+  pub sums : a ≡ spectrumOf (level (length block)) (word block) .sums
+
+pub record CosineMade (block coefficients w coefficients′ w′ : List ℤ) (p a : ℕ) : Type 0 where
+  pub words : Written (length block) (dctOf (level (length block)) (word block) .at) coefficients coefficients′
+  pub cleared : Cleared w w′
+  pub products : p ≡ dctOf (level (length block)) (word block) .products
+  pub sums : a ≡ dctOf (level (length block)) (word block) .sums
+
+-- one part of Pair: op joins the cosine-DFT of x and the sine-DFT of y, at every k below N by (9) and (10). The words w are the program's choice; their number stays
+pub record PartMade (op : ℤ → ℤ → ℤ) (x y out w out′ w′ : List ℤ) (p a : ℕ) : Type 0 where
+  pub words :
+      Written (length x)
+      (λ k. op (cosineBeyond (length x) (cosineDft (level (length x)) (word x) .at) k) (sineBeyond (length x) (sineDft (level (length x)) (word y) .at) k)) out out′
+  pub len : length w′ ≡ length w
+  pub products : p ≡ cosineDft (level (length x)) (word x) .products + sineDft (level (length x)) (word y) .products
+  pub sums : a ≡ cosineDft (level (length x)) (word x) .sums + sineDft (level (length x)) (word y) .sums + (length x - 2)
+
+pub record PairMade (a b real imaginary w real′ imaginary′ w′ : List ℤ) (p s : ℕ) : Type 0 where
+  pub realWords : Written (length a) (pairOf (level (length a)) (word a) (word b) .real) real real′
+  pub imaginaryWords : Written (length a) (pairOf (level (length a)) (word a) (word b) .imaginary) imaginary imaginary′
+  pub cleared : Cleared w w′
+  pub products : p ≡ pairOf (level (length a)) (word a) (word b) .products
+  pub sums : s ≡ pairOf (level (length a)) (word a) (word b) .sums

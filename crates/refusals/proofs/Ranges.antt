@@ -1,0 +1,71 @@
+-- `firstOut`, the search for the first sample out of range: its turns, and where it ends.
+-- Assumes nothing.
+use mathlib.Core.Path.{_≡_, refl, ap, _∙_}
+use mathlib.Core.Logic.{_⊎_, inl, inr, ⊎-elim}
+use mathlib.Core.Bool.{Bool, true, false}
+use Prim.Native.Nat.{ℕ, zero, suc, _+_, _≤_, _<_}
+use native.Mathlib.Nat.{add-suc, add-zero}
+use native.Mathlib.Omega.{arith}
+use lib.IntN.{natAbs}
+use borrow.Author.Tests.{leb-true}
+use Rattle.whole.proofs.Cases.{le-or-lt}
+use Rattle.ffct.specs.Block.{Samples, largestSample}
+use Rattle.refusals.specs.Refusals.{inRange, firstOut}
+
+outcome : (b : Bool) → (b ≡ true) ⊎ (b ≡ false)
+outcome true = inl refl
+outcome false = inr refl
+
+module _ (x : Samples) where
+  -- ---- a turn goes on, or ends the search
+  pub first-on : (i d : ℕ) → inRange (x i) ≡ true → firstOut x i (suc d) ≡ firstOut x (suc i) d
+  unfolding firstOut
+  first-on i d t = rw t
+
+  pub first-here : (i d : ℕ) → inRange (x i) ≡ false → firstOut x i (suc d) ≡ i
+  unfolding firstOut
+  first-here i d f = rw f
+
+  pub first-none : (i : ℕ) → firstOut x i 0 ≡ i
+  unfolding firstOut
+  first-none i = refl
+
+  -- ---- the place found lies in i .. i + d
+  pub first-from : (i d : ℕ) → i ≤ firstOut x i d
+  first-from i zero = omega (arith, first-none i)
+  first-from i (suc d) = ⊎-elim (λ t. omega (arith, first-on i d t, first-from (suc i) d)) (λ f. omega (arith, first-here i d f)) (outcome (inRange (x i)))
+
+  pub first-to : (i d : ℕ) → firstOut x i d ≤ i + d
+  first-to i zero = omega (arith, first-none i)
+  first-to i (suc d) = ⊎-elim (λ t. omega (arith, first-on i d t, first-to (suc i) d)) (λ f. omega (arith, first-here i d f)) (outcome (inRange (x i)))
+
+  -- ---- where it is i + d, every sample was in range
+  passes : (i d : ℕ) → firstOut x i (suc d) ≡ i + suc d → inRange (x i) ≡ true
+  passes i d e = ⊎-elim (λ t. t) (λ f. absurd (omega (arith, first-here i d f))) (outcome (inRange (x i)))
+
+  passed : (i d : ℕ) → firstOut x i d ≡ i + d → (j : ℕ) → i ≤ j → j < i + d → natAbs (x j) ≤ largestSample
+  passed i zero e j h l = absurd (omega arith)
+  passed i (suc d) e j h l =
+      let t = passes i d e in
+      ⊎-elim
+      (λ k. passed (suc i) d (omega (arith, first-on i d t)) j k (omega arith))
+      (λ k. leb-true _ _ (ap (λ n. inRange (x n)) {x = j} {y = i} (omega arith) ∙ t))
+      (le-or-lt (suc i) j)
+
+  pub all-in : (i d : ℕ) → firstOut x i d ≡ i + d → (n : ℕ) → n < d → natAbs (x (i + n)) ≤ largestSample
+  all-in i d e n l = passed i d e (i + n) (omega arith) (omega arith)
+
+  -- ---- from the start s of a block
+  shift : (s i d : ℕ) → s + firstOut (λ n. x (s + n)) i d ≡ firstOut x (s + i) d
+  unfolding firstOut
+  shift s i zero = refl
+  shift s i (suc d) = ⊎-elim (λ t. rw t (rw add-suc at (shift s (suc i) d))) (λ f. rw f) (outcome (inRange (x (s + i))))
+
+  pub first-shift : (s d : ℕ) → s + firstOut (λ n. x (s + n)) 0 d ≡ firstOut x s d
+  first-shift s d = rw add-zero at (shift s 0 d)
+
+-- ---- equal samples
+pub first-same : (x y : Samples) (i d : ℕ) → ((j : ℕ) → i ≤ j → j < i + d → x j ≡ y j) → firstOut x i d ≡ firstOut y i d
+unfolding firstOut
+first-same x y i zero e = refl
+first-same x y i (suc d) e = rw (e i (omega arith) (omega arith), first-same x y (suc i) d (λ j h l. e j (omega arith) (omega arith)))

@@ -1,0 +1,15 @@
+-- `spectra::length::is_length` meets its contract: up to 1,024 the lengths are the numbers with one binary digit 1. Assumes nothing.
+use mathlib.Core.Path.{sym}
+use native.Mathlib.Omega.{arith}
+use Rattle.ffct.proofs.ElevenLengths.{length-digit, too-long}
+use Rattle.refusals.proofs.length.is_length.Statement.{statement}
+use Rattle.refusals.proofs.length.is_length.Tie as tie
+
+returns : tie.Need-returns
+returns c = sym (too-long _ (omega arith))
+
+returns-2 : tie.Need-returns-2
+returns-2 c = sym (length-digit _ (omega arith))
+
+pub is-length-spec : {M : Type 1} → statement M
+is-length-spec = tie.close (tie.spec returns returns-2)

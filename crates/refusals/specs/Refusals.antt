@@ -1,0 +1,42 @@
+-- Document 01, "When a call is turned down": the conditions 1 to 6, on lengths and samples, in their order. The order itself is the verdict on a call (crate spectra) and on a file.
+use mathlib.Core.Bool.{Bool, false, cond, _||_}
+use mathlib.Core.List.{List, [], _∷_}
+use Prim.Native.Nat.{ℕ, zero, suc, _+_, _*_}
+use lib.Dec.{leb, ltb}
+use lib.IntN.{ℤ, natAbs}
+use Rattle.ffct.specs.Block.{Samples, largestSample}
+use Rattle.transforms.specs.Words.{word}
+
+-- ---- 1: "N is not one of the eleven lengths": `isLength` of the definitions of blocks
+
+-- ---- 2: "start + N exceeds the length of a recording"; 3: "a result buffer is too short for the values listed"
+abbrev pub someBelow : ℕ → List ℕ → Bool
+someBelow n [] = false
+someBelow n (m ∷ ms) = ltb m n || someBelow n ms
+
+-- ---- 4: "scratch is shorter than 8N + 64 words of 64 bits"
+abbrev pub scratchWords : ℕ → ℕ
+scratchWords N = 8 * N + 64
+
+-- ---- 6: "first sample out of range". The block is the part of a recording that begins at start
+abbrev pub block : List ℤ → ℕ → Samples
+block recording start n = word recording (start + n)
+
+abbrev pub inRange : ℤ → Bool
+inRange z = leb (natAbs z) largestSample
+
+-- the first place out of range among i, i + 1, .. i + d - 1, or i + d where there is none
+unfoldable pub firstOut : Samples → ℕ → ℕ → ℕ
+firstOut x i zero = i
+firstOut x i (suc d) = cond (inRange (x i)) (firstOut x (suc i) d) i
+
+-- ---- the verdict: the number of the first condition that holds, for 6 with "the place in the recording"
+pub data Verdict : Type 0 where
+  refused : (number : ℕ) → Verdict
+  refusedAt : (number place : ℕ) → Verdict
+  accepted : Verdict
+
+-- "in Pair a before b". "The place in answer 6 counts from 0 at the first sample of the recording, not of the block."
+abbrev pub firstOutIn : List (List ℤ) → ℕ → ℕ → Verdict
+firstOutIn [] start N = accepted
+firstOutIn (r ∷ rs) start N = cond (ltb (firstOut (word r) start N) (start + N)) (refusedAt 6 (firstOut (word r) start N)) (firstOutIn rs start N)
