@@ -37,6 +37,6 @@ pub data Verdict : Type 0 where
   accepted : Verdict
 
 -- "in Pair a before b". "The place in answer 6 counts from 0 at the first sample of the recording, not of the block."
-abbrev pub firstOutIn : List (List ℤ) → ℕ → ℕ → Verdict
+abbrev pub firstOutIn : List Samples → ℕ → ℕ → Verdict
 firstOutIn [] start N = accepted
-firstOutIn (r ∷ rs) start N = cond (ltb (firstOut (word r) start N) (start + N)) (refusedAt 6 (firstOut (word r) start N)) (firstOutIn rs start N)
+firstOutIn (x ∷ xs) start N = cond (ltb (firstOut x start N) (start + N)) (refusedAt 6 (firstOut x start N)) (firstOutIn xs start N)

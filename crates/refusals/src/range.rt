@@ -4,7 +4,7 @@ ghost use lib.ListN.{length};
 ghost use Rattle.transforms.specs.Words.{word};
 ghost use Rattle.refusals.specs.Refusals.{inRange, firstOut};
 
-fn in_range(x: i32) -> bool
+pub fn in_range(x: i32) -> bool
     ensures { λ r. ⌜ r ≡ inRange x ⌝ }
 {
     if x < -1000000 {

@@ -2,12 +2,10 @@
 -- promise of a call that leaves its buffers as they are. First, the search of a block that is lent as a slice of its recording.
 -- Assumes nothing.
 use mathlib.Core.Path.{_≡_, refl, sym, ap, _∙_}
-use mathlib.Core.Logic.{_⊎_, inl, inr}
-use mathlib.Core.Bool.{Bool, true, false, _||_, false≢true}
-use mathlib.Core.List.{List, [], _∷_}
+use mathlib.Core.Bool.{true, false, false≢true}
+use mathlib.Core.List.{List}
 use Prim.Native.Nat.{ℕ, _+_, _-_, _≤_, _<_}
 use native.Mathlib.Omega.{arith}
-use lib.Dec.{ltb}
 use lib.IntN.{ℤ, pos}
 use lib.ListN.{length, take, drop, length-drop}
 use lib.Seq.{length-take-le, getD-take, getD-drop}
@@ -18,9 +16,10 @@ use Rattle.spectra.specs.declared.Answer.the-variants.{BadLength, Beyond
 use Rattle.spectra.specs.Answers.{verdictOf}
 use Rattle.spectra.specs.Promises.{SpectrumPromise, CosinePromise, PairPromise, spectrumCall, cosineCall, pairCall}
 use Rattle.ffct.specs.Block.{isLength}
-use Rattle.refusals.specs.Refusals.{someBelow, scratchWords, firstOut, firstOutIn, Verdict, refused, refusedAt, accepted}
-use Rattle.spectra.specs.Calls.{lengthsOf, Call, verdict}
+use Rattle.refusals.specs.Refusals.{someBelow, scratchWords, firstOut, firstOutIn, accepted}
+use Rattle.spectra.specs.Calls.{lengthsOf, samplesOf, Call, verdict}
 use Rattle.refusals.proofs.Ranges.{first-to, first-shift, first-same}
+use Rattle.refusals.proofs.Conditions.{AllReach, SomeBelow, all-reach, some-below, AllIn, OutAt, in-verdict, out-verdict, isAccepted}
 
 -- ---- the block of N samples from s on, lent as a slice of the recording r
 abbrev pub lent : List ℤ → ℕ → ℕ → List ℤ
@@ -41,46 +40,6 @@ module _ (r : List ℤ) (s N : ℕ) where
 
     pub lent-in : {out : ℕ} → out ≡ firstOut (word (lent r s N)) 0 (length (lent r s N)) → N ≤ out → firstOut (word r) s N ≡ s + N
     lent-in e l = omega (arith, l, lent-out e, first-to (word r) s N)
-
--- ---- lengths: all reach n, or some are below it
-abbrev pub AllReach : ℕ → List ℕ → Type 0
-AllReach n [] = Unit {0}
-AllReach n (m ∷ ms) = (n ≤ m) × AllReach n ms
-
-abbrev pub SomeBelow : ℕ → List ℕ → Type 0
-SomeBelow n [] = ⊥
-SomeBelow n (m ∷ ms) = (m < n) ⊎ SomeBelow n ms
-
-all-reach : (n : ℕ) (ms : List ℕ) → AllReach n ms → someBelow n ms ≡ false
-all-reach n [] h = refl
-all-reach n (m ∷ ms) (l, h) = rw (le-ltb m n l) (all-reach n ms h)
-
-or-true : (b : Bool) → (b || true) ≡ true
-or-true true = refl
-or-true false = refl
-
-some-below : (n : ℕ) (ms : List ℕ) → SomeBelow n ms → someBelow n ms ≡ true
-some-below n [] h = absurd h
-some-below n (m ∷ ms) (inl l) = rw (lt-ltb m n l)
-some-below n (m ∷ ms) (inr h) = rw (some-below n ms h) (or-true (ltb m n))
-
--- ---- recordings: all samples are in range, or the first that is not stands at a place
-abbrev pub AllIn : List (List ℤ) → ℕ → ℕ → Type 0
-AllIn [] s N = Unit {0}
-AllIn (r ∷ rs) s N = (firstOut (word r) s N ≡ s + N) × AllIn rs s N
-
-abbrev pub OutAt : List (List ℤ) → ℕ → ℕ → ℕ → Type 0
-OutAt [] s N place = ⊥
-OutAt (r ∷ rs) s N place = ((place ≡ firstOut (word r) s N) × (place < s + N)) ⊎ ((firstOut (word r) s N ≡ s + N) × OutAt rs s N place)
-
-in-verdict : (rs : List (List ℤ)) (s N : ℕ) → AllIn rs s N → firstOutIn rs s N ≡ accepted
-in-verdict [] s N h = refl
-in-verdict (r ∷ rs) s N (e, h) = rw (le-ltb (firstOut (word r) s N) (s + N) (omega (arith, e))) (in-verdict rs s N h)
-
-out-verdict : (rs : List (List ℤ)) (s N place : ℕ) → OutAt rs s N place → firstOutIn rs s N ≡ refusedAt 6 place
-out-verdict [] s N place h = absurd h
-out-verdict (r ∷ rs) s N place (inl (e, l)) = rw (lt-ltb (firstOut (word r) s N) (s + N) (omega (arith, e, l))) (ap (refusedAt 6) (sym e))
-out-verdict (r ∷ rs) s N place (inr (e, h)) = rw (le-ltb (firstOut (word r) s N) (s + N) (omega (arith, e))) (out-verdict rs s N place h)
 
 -- ---- a call that the conditions up to 1, 2 .. 6 do not turn down
 pub record Passed1 (call : Call) : Type 0 where
@@ -104,17 +63,12 @@ pub record Passed5 (call : Call) : Type 0 where
 
 pub record Passed6 (call : Call) : Type 0 where
   pub past : Passed5 call
-  pub range : AllIn (call .recordings) (call .start) (call .N)
+  pub range : AllIn (samplesOf (call .recordings)) (call .start) (call .N)
 
 -- ---- a call that is turned down
 pub record TurnedDown (call : Call) (answer : Answer) : Type 0 where
   pub verdict : verdictOf answer ≡ verdict call
   pub never : verdictOf answer ≡ accepted → ⊥
-
-abbrev isAccepted : Verdict → Bool
-isAccepted (refused number) = false
-isAccepted (refusedAt number place) = false
-isAccepted accepted = true
 
 down : {call : Call} {answer : Answer} → isAccepted (verdictOf answer) ≡ false → verdict call ≡ verdictOf answer → TurnedDown call answer
 down f e = record { verdict = sym e; never = λ a. false≢true (sym f ∙ ap isAccepted a) }
@@ -146,17 +100,17 @@ module _ {call : Call} where
   unfolding verdict
   refused-5 p h = down refl (rw (p .past .past .past .length, none-2 (p .past .past), none-3 (p .past), le-ltb _ _ (p .scratch), lt-ltb _ _ h))
 
-  past-5 : Passed5 call → verdict call ≡ firstOutIn (call .recordings) (call .start) (call .N)
+  past-5 : Passed5 call → verdict call ≡ firstOutIn (samplesOf (call .recordings)) (call .start) (call .N)
   unfolding verdict
   past-5 p =
       let q = p .past in
       rw (q .past .past .past .length, none-2 (q .past .past), none-3 (q .past), le-ltb _ _ (q .scratch), le-ltb _ _ (p .allowance))
 
-  pub refused-6 : {place : ℕ} → Passed5 call → OutAt (call .recordings) (call .start) (call .N) place → TurnedDown call (OutOfRange place)
-  refused-6 p h = down refl (past-5 p ∙ out-verdict (call .recordings) (call .start) (call .N) _ h)
+  pub refused-6 : {place : ℕ} → Passed5 call → OutAt (samplesOf (call .recordings)) (call .start) (call .N) place → TurnedDown call (OutOfRange place)
+  refused-6 p h = down refl (past-5 p ∙ out-verdict (samplesOf (call .recordings)) (call .start) (call .N) _ h)
 
   pub is-accepted : Passed6 call → verdict call ≡ accepted
-  is-accepted p = past-5 (p .past) ∙ in-verdict (call .recordings) (call .start) (call .N) (p .range)
+  is-accepted p = past-5 (p .past) ∙ in-verdict (samplesOf (call .recordings)) (call .start) (call .N) (p .range)
 
 -- ---- the promises of calls that are turned down
 module _ {start N allowance : ℕ} {scratch : List ℤ} {answer : Answer} where

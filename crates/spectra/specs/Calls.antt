@@ -5,12 +5,17 @@ use Prim.Native.Nat.{ℕ, _+_}
 use lib.Dec.{ltb}
 use lib.IntN.{ℤ}
 use lib.ListN.{length}
-use Rattle.ffct.specs.Block.{isLength}
+use Rattle.ffct.specs.Block.{Samples, isLength}
+use Rattle.transforms.specs.Words.{word}
 use Rattle.refusals.specs.Refusals.{someBelow, scratchWords, Verdict, refused, firstOutIn}
 
 abbrev pub lengthsOf : List (List ℤ) → List ℕ
 lengthsOf [] = []
 lengthsOf (r ∷ rs) = length r ∷ lengthsOf rs
+
+abbrev pub samplesOf : List (List ℤ) → List Samples
+samplesOf [] = []
+samplesOf (r ∷ rs) = word r ∷ samplesOf rs
 
 -- a call on recordings: what it is given, the words that it yields to each result buffer, and the products that it spends
 pub record Call : Type 0 where
@@ -31,4 +36,4 @@ verdict call =
     (cond (someBelow (call .yields) (lengthsOf (call .results))) (refused 3)
     (cond (ltb (length (call .scratch)) (scratchWords (call .N))) (refused 4)
     (cond (ltb (call .allowance) (call .products)) (refused 5)
-    (firstOutIn (call .recordings) (call .start) (call .N))))))
+    (firstOutIn (samplesOf (call .recordings)) (call .start) (call .N))))))

@@ -1,0 +1,58 @@
+-- The conditions of a refusal as tests, and as facts: lengths that reach a number, samples that are in range.
+-- Assumes nothing.
+use mathlib.Core.Path.{_≡_, refl, sym, ap}
+use mathlib.Core.Logic.{_⊎_, inl, inr}
+use mathlib.Core.Bool.{Bool, true, false, _||_}
+use mathlib.Core.List.{List, [], _∷_}
+use Prim.Native.Nat.{ℕ, _+_, _≤_, _<_}
+use native.Mathlib.Omega.{arith}
+use lib.Dec.{ltb}
+use borrow.Author.Tests.{lt-ltb, le-ltb}
+use Rattle.ffct.specs.Block.{Samples}
+use Rattle.refusals.specs.Refusals.{someBelow, firstOut, firstOutIn, Verdict, refused, refusedAt, accepted}
+
+-- ---- lengths: all reach n, or some are below it
+abbrev pub AllReach : ℕ → List ℕ → Type 0
+AllReach n [] = Unit {0}
+AllReach n (m ∷ ms) = (n ≤ m) × AllReach n ms
+
+abbrev pub SomeBelow : ℕ → List ℕ → Type 0
+SomeBelow n [] = ⊥
+SomeBelow n (m ∷ ms) = (m < n) ⊎ SomeBelow n ms
+
+pub all-reach : (n : ℕ) (ms : List ℕ) → AllReach n ms → someBelow n ms ≡ false
+all-reach n [] h = refl
+all-reach n (m ∷ ms) (l, h) = rw (le-ltb m n l) (all-reach n ms h)
+
+or-true : (b : Bool) → (b || true) ≡ true
+or-true true = refl
+or-true false = refl
+
+pub some-below : (n : ℕ) (ms : List ℕ) → SomeBelow n ms → someBelow n ms ≡ true
+some-below n [] h = absurd h
+some-below n (m ∷ ms) (inl l) = rw (lt-ltb m n l)
+some-below n (m ∷ ms) (inr h) = rw (some-below n ms h) (or-true (ltb m n))
+
+-- ---- samples: all are in range, or the first that is not stands at a place
+abbrev pub AllIn : List Samples → ℕ → ℕ → Type 0
+AllIn [] s N = Unit {0}
+AllIn (x ∷ xs) s N = (firstOut x s N ≡ s + N) × AllIn xs s N
+
+abbrev pub OutAt : List Samples → ℕ → ℕ → ℕ → Type 0
+OutAt [] s N place = ⊥
+OutAt (x ∷ xs) s N place = ((place ≡ firstOut x s N) × (place < s + N)) ⊎ ((firstOut x s N ≡ s + N) × OutAt xs s N place)
+
+pub in-verdict : (xs : List Samples) (s N : ℕ) → AllIn xs s N → firstOutIn xs s N ≡ accepted
+in-verdict [] s N h = refl
+in-verdict (x ∷ xs) s N (e, h) = rw (le-ltb (firstOut x s N) (s + N) (omega (arith, e))) (in-verdict xs s N h)
+
+pub out-verdict : (xs : List Samples) (s N place : ℕ) → OutAt xs s N place → firstOutIn xs s N ≡ refusedAt 6 place
+out-verdict [] s N place h = absurd h
+out-verdict (x ∷ xs) s N place (inl (e, l)) = rw (lt-ltb (firstOut x s N) (s + N) (omega (arith, e, l))) (ap (refusedAt 6) (sym e))
+out-verdict (x ∷ xs) s N place (inr (e, h)) = rw (le-ltb (firstOut x s N) (s + N) (omega (arith, e))) (out-verdict xs s N place h)
+
+-- ---- a verdict is acceptance, or it is not
+abbrev pub isAccepted : Verdict → Bool
+isAccepted (refused number) = false
+isAccepted (refusedAt number place) = false
+isAccepted accepted = true
