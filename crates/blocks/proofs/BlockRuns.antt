@@ -10,9 +10,9 @@ use lib.IntN.{ℤ, pos, natAbs}
 use lib.ListN.{length}
 use Rattle.whole.proofs.Size.{within-size}
 use Rattle.ffct.specs.Block.{Samples, AcceptedBlock, largestSum, isLength, level}
-use Rattle.ffct.specs.Transforms.{Transform, cosineDft, sineDft, dct}
+use Rattle.ffct.specs.Transforms.{Transform, cosineBeyond, cosineDft, sineDft, dct}
 use Rattle.ffct.proofs.Lengths.{len, pow-len, len-pos}
-use Rattle.ffct.proofs.Blocks.{Same, dft-same, dct-same}
+use Rattle.ffct.proofs.Blocks.{Same, dft-same, dct-same, cosine-beyond-same}
 use Rattle.ffct.proofs.Counts.{FewOperations, few-operations}
 use Rattle.ffct.proofs.Sizes.{accepted-inner, dft-size, dct-within}
 use Rattle.transforms.specs.Words.{word}
@@ -65,16 +65,18 @@ module _ {block w : List ℤ} {n : ℕ} (k : Workable block w) (e : length block
     module _ {v′ : List ℤ} {p a : ℕ} where
       -- what stands at the front, whichever the transform
       left : (transform : ℕ → Samples → Transform) → transform L (word v) ≡ transform L (word block) → (m : ℕ) → Transformed transform n m v v′ p a →
-          Gives (transform L (word block)) m v v′ p a
-      left transform s m t = subst (λ t. Gives t m v v′ p a) s (t .gives L power)
+          Gives (transform L (word block)) m w v′ p a
+      left transform s m t =
+          let g : Gives (transform L (word block)) m v v′ p a = subst (λ t. Gives t m v v′ p a) s (t .gives L power) in
+          record { coefficients = g .coefficients; products = g .products; sums = g .sums; len = g .len ∙ l .len }
 
-      pub cosine-left : Transformed cosineDft n (n / 2 + 1) v v′ p a → Gives (cosineDft L (word block)) (n / 2 + 1) v v′ p a
+      pub cosine-left : Transformed cosineDft n (n / 2 + 1) v v′ p a → Gives (cosineDft L (word block)) (n / 2 + 1) w v′ p a
       cosine-left = left cosineDft (dft-same L (word v) (word block) loaded-same .0) (n / 2 + 1)
 
-      pub sine-left : Transformed sineDft n (n / 2 + 1) v v′ p a → Gives (sineDft L (word block)) (n / 2 + 1) v v′ p a
+      pub sine-left : Transformed sineDft n (n / 2 + 1) v v′ p a → Gives (sineDft L (word block)) (n / 2 + 1) w v′ p a
       sine-left = left sineDft (dft-same L (word v) (word block) loaded-same .1) (n / 2 + 1)
 
-      pub dct-left : Transformed dct n n v v′ p a → Gives (dct L (word block)) n v v′ p a
+      pub dct-left : Transformed dct n n v v′ p a → Gives (dct L (word block)) n w v′ p a
       dct-left = left dct (dct-same L (word v) (word block) loaded-same) n
 
   -- the sizes of the coefficients
@@ -99,6 +101,15 @@ module _ {t : Transform} {m : ℕ} {v v′ : List ℤ} {p a : ℕ} (g : Gives t 
   -- words stored are the coefficients
   pub stored : {out out′ : List ℤ} → Written m (word v′) out out′ → Written m (t .at) out out′
   stored s = record { words = λ j h. s .words j h ∙ g .coefficients j h; stays = s .stays; len = s .len }
+
+-- and so are those that (9) tells above n / 2
+pub mirrored : {t : Transform} {n p a : ℕ} {v v′ out out′ : List ℤ} → Gives t (n / 2 + 1) v v′ p a → Written n (cosineBeyond n (word v′)) out out′ →
+    Written n (cosineBeyond n (t .at)) out out′
+mirrored {t} {n} {v′ = v′} g s = record {
+  words = λ k h. s .words k h ∙ cosine-beyond-same n (word v′) (t .at) k (omega arith) (λ j l. g .coefficients j (omega arith));
+  stays = s .stays;
+  len = s .len;
+}
 
 -- past its end a slice has no words
 past : (w : List ℤ) (k : ℕ) → length w ≤ k → word w k ≡ pos 0

@@ -11,7 +11,7 @@ use Prim.Native.Nat.{ℕ, _+_, _-_, _*_, _/_, _≤_, _<_}
 use native.Mathlib.Omega.{arith}
 use lib.Dec.{lit<}
 use lib.IntN.{ℤ, pos, negℤ, natAbs, _+ℤ_, _-ℤ_, +ℤ-idr}
-use lib.ListN.{length, set}
+use lib.ListN.{set}
 use mir.Syntax.{w32, w64}
 use mir.Val.{SFits, toZ, ofZ}
 use Rattle.whole.proofs.Cases.{le-or-lt}
@@ -22,7 +22,7 @@ use Rattle.ffct.specs.Block.{largestSum}
 use Rattle.ffct.specs.Transforms.{sineBeyond}
 use Rattle.ffct.proofs.Steps.{sine-low, sine-high}
 use Rattle.transforms.specs.Words.{word}
-use Rattle.blocks.specs.Words.{WrittenBySums}
+use Rattle.blocks.specs.Words.{WrittenBySums, Joinable}
 use Rattle.blocks.proofs.Writing.{narrows, narrowed, Ends, ends-none, ends-read, ends-front, ends-back, ends-pass, ends-all}
 
 -- a sum and a difference, in either order
@@ -62,45 +62,48 @@ module _ (op rev : ℤ → ℤ → ℤ) (n k : ℕ) (w after : List ℤ) where
     pub back : SFits w32 (rev (toZ w32 (ofZ w32 (word first (n - k)))) (toZ w32 s))
     pub next : SineRun op n (k + 1) (sums + 1 + 1) w before second
 
-module _ {op rev : ℤ → ℤ → ℤ} (o : Opposite op rev) {n : ℕ} {w before : List ℤ} where
+module _ {op rev : ℤ → ℤ → ℤ} (o : Opposite op rev) {n : ℕ} {w before : List ℤ} (j : Joinable n w before) where
   -- at 0 the sine is zero
-  pub sine-none : 1 ≤ n → word w 0 ≡ pos 0 → SineRun op n 1 0 w before before
-  sine-none h e = record { from = omega arith; to = omega arith; counted = refl; ends = ends-pass ends-none h (rw (sine-low n (word w) 0 (omega arith), e, o .none)) }
+  pub sine-none : SineRun op n 1 0 w before before
+  sine-none = record {
+    from = omega arith;
+    to = omega (arith, j .some);
+    counted = refl;
+    ends = ends-pass ends-none (j .some) (rw (sine-low n (word w) 0 (omega arith), j .first, o .none));
+  }
 
   -- and at n / 2, where an even n leaves a word
-  pub sine-all : {k sums : ℕ} {after : List ℤ} → n - n / 2 ≤ k → word w (n / 2) ≡ pos 0 → SineRun op n k sums w before after
-      → WrittenBySums n (λ j. op (word before j) (sineBeyond n (word w) j)) (2 * (n - n / 2 - 1)) before after sums
-  sine-all {k} h e p = record {
+  pub sine-all : {k sums : ℕ} {after : List ℤ} → n - n / 2 ≤ k → SineRun op n k sums w before after
+      → WrittenBySums n (λ i. op (word before i) (sineBeyond n (word w) i)) (2 * (n - n / 2 - 1)) before after sums
+  sine-all {k} h p = record {
     written = ⊎-elim
         (ends-all (p .ends))
-        (λ l. let middle : k ≡ n / 2 = omega arith in ends-all (ends-pass (p .ends) l (rw (middle, sine-low n (word w) (n / 2) (omega arith), e, o .none))) (omega arith))
+        (λ l. let middle : k ≡ n / 2 = omega arith in ends-all (ends-pass (p .ends) l (rw (middle, sine-low n (word w) (n / 2) (omega arith), j .half, o .none))) (omega arith))
         (le-or-lt n (k + (k - 1)));
     counted = omega arith;
   }
 
-  module _ (sines : (j : ℕ) → j < n / 2 + 1 → natAbs (word w j) ≤ largestSum + 128) (words : (j : ℕ) → j < n → natAbs (word before j) ≤ largestSum + 128) where
-    pub sine-turn : {k sums : ℕ} {after : List ℤ} → (k < n - n / 2) × (n ≤ length before) → SineRun op n k sums w before after
-        → SineTurn op rev n k w after sums before
-    sine-turn {k} h p =
-        let s = size-within (word w k) (sines k (omega arith)) in
-        let x = size-within (word before k) (words k (omega arith)) in
-        let y = size-within (word before (n - k)) (words (n - k) (omega arith)) in
-        let small : natAbs (word w k) ≤ largestSum + 257 = omega (arith, sines k (omega arith)) in
-        let S = narrowed (word w k) small in
-        let X = ends-read (p .ends) k (omega arith) (within-fits x (lit< tt)) in
-        let f : SFits w32 (op (word before k) (word w k)) = within-fits (o .small x s) (lit< tt) in
-        let p₁ = ends-front (p .ends) (omega arith) (made op X S f .is ∙ rw (sine-low n (word w) k (omega arith))) in
-        let Y = ends-read p₁ (n - k) (omega arith) (within-fits y (lit< tt)) in
-        let g : SFits w32 (rev (word before (n - k)) (word w k)) = within-fits (rw (o .turned) at (o .small y (within-neg s))) (lit< tt) in
-        let back : n - (n - k) ≡ k = omega arith in
-        record {
-          cast = narrows (word w k) small;
-          front = asked op X S f;
-          back = asked rev Y S g;
-          next = record {
-            from = omega arith;
-            to = omega arith;
-            counted = omega arith;
-            ends = ends-back p₁ (omega arith) (made rev Y S g .is ∙ rw (sine-high n (word w) (n - k) (omega arith), back, o .turned));
-          };
-        }
+  pub sine-turn : {k sums : ℕ} {after : List ℤ} → k < n - n / 2 → SineRun op n k sums w before after → SineTurn op rev n k w after sums before
+  sine-turn {k} h p =
+      let s = size-within (word w k) (j .sines k (omega arith)) in
+      let x = size-within (word before k) (j .words k (omega arith)) in
+      let y = size-within (word before (n - k)) (j .words (n - k) (omega arith)) in
+      let small : natAbs (word w k) ≤ largestSum + 257 = omega (arith, j .sines k (omega arith)) in
+      let S = narrowed (word w k) small in
+      let X = ends-read (p .ends) k (omega arith) (within-fits x (lit< tt)) in
+      let f : SFits w32 (op (word before k) (word w k)) = within-fits (o .small x s) (lit< tt) in
+      let p₁ = ends-front (p .ends) (omega (arith, j .words-fit)) (made op X S f .is ∙ rw (sine-low n (word w) k (omega arith))) in
+      let Y = ends-read p₁ (n - k) (omega arith) (within-fits y (lit< tt)) in
+      let g : SFits w32 (rev (word before (n - k)) (word w k)) = within-fits (rw (o .turned) at (o .small y (within-neg s))) (lit< tt) in
+      let back : n - (n - k) ≡ k = omega arith in
+      record {
+        cast = narrows (word w k) small;
+        front = asked op X S f;
+        back = asked rev Y S g;
+        next = record {
+          from = omega arith;
+          to = omega arith;
+          counted = omega arith;
+          ends = ends-back p₁ (omega (arith, j .words-fit)) (made rev Y S g .is ∙ rw (sine-high n (word w) (n - k) (omega arith), back, o .turned));
+        };
+      }

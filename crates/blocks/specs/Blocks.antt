@@ -2,11 +2,11 @@
 use mathlib.Core.Bool.{true}
 use mathlib.Core.List.{List}
 use mathlib.Core.Path.{_≡_}
-use Prim.Native.Nat.{ℕ, _+_, _-_, _*_, _/_, _≤_, _<_}
+use Prim.Native.Nat.{ℕ, _+_, _*_, _/_, _≤_, _<_}
 use lib.IntN.{ℤ, pos, natAbs}
 use lib.ListN.{length}
 use Rattle.ffct.specs.Block.{largestSample, isLength, level}
-use Rattle.ffct.specs.Transforms.{cosineBeyond, sineBeyond, cosineDft, sineDft, dct as dctOf, spectrum as spectrumOf, pair as pairOf}
+use Rattle.ffct.specs.Transforms.{cosineBeyond, cosineDft, sineDft, dct as dctOf, spectrum as spectrumOf, pair as pairOf}
 use Rattle.transforms.specs.Words.{word}
 use Rattle.blocks.specs.Words.{Written}
 
@@ -32,14 +32,14 @@ pub record CosineMade (block coefficients w coefficients′ w′ : List ℤ) (p 
   pub products : p ≡ dctOf (level (length block)) (word block) .products
   pub sums : a ≡ dctOf (level (length block)) (word block) .sums
 
--- one part of Pair: op joins the cosine-DFT of x and the sine-DFT of y, at every k below N by (9) and (10). The words w are the program's choice; their number stays
-pub record PartMade (op : ℤ → ℤ → ℤ) (x y out w out′ w′ : List ℤ) (p a : ℕ) : Type 0 where
-  pub words :
-      Written (length x)
-      (λ k. op (cosineBeyond (length x) (cosineDft (level (length x)) (word x) .at) k) (sineBeyond (length x) (sineDft (level (length x)) (word y) .at) k)) out out′
+-- both DFTs of one part of Pair, for blocks of n samples: in out the cosine-DFT of x, at every k below n by (9), and at the front of w the sine-DFT of y, up to n / 2.
+-- The other words of w are the program's choice; their number stays. p and a are the products and sums of both DFTs
+pub record DftsMade (n : ℕ) (x y out w out′ w′ : List ℤ) (p a : ℕ) : Type 0 where
+  pub cosineWords : Written n (cosineBeyond n (cosineDft (level n) (word x) .at)) out out′
+  pub sineWords : (k : ℕ) → k < n / 2 + 1 → word w′ k ≡ sineDft (level n) (word y) .at k
   pub len : length w′ ≡ length w
-  pub products : p ≡ cosineDft (level (length x)) (word x) .products + sineDft (level (length x)) (word y) .products
-  pub sums : a ≡ cosineDft (level (length x)) (word x) .sums + sineDft (level (length x)) (word y) .sums + (length x - 2)
+  pub products : p ≡ cosineDft (level n) (word x) .products + sineDft (level n) (word y) .products
+  pub sums : a ≡ cosineDft (level n) (word x) .sums + sineDft (level n) (word y) .sums
 
 pub record PairMade (a b real imaginary w real′ imaginary′ w′ : List ℤ) (p s : ℕ) : Type 0 where
   pub realWords : Written (length a) (pairOf (level (length a)) (word a) (word b) .real) real real′

@@ -15,10 +15,9 @@ use words::store_mirrored;
 use words::subtract_sine;
 ghost use mathlib.Core.Path.{_≡_};
 ghost use Prim.Native.Nat.{_+_, _/_, _≤_};
-ghost use lib.IntN.{_+ℤ_, _-ℤ_};
 ghost use lib.ListN.{length};
 ghost use Rattle.circle.specs.Circle.{IsQuarterWave};
-ghost use Rattle.blocks.specs.Blocks.{Workable, SpectrumMade, CosineMade, PartMade, PairMade};
+ghost use Rattle.blocks.specs.Blocks.{Workable, SpectrumMade, CosineMade, DftsMade, PairMade};
 
 pub fn spectrum_of(block: &[i32], cosine: &mut [i32], sine: &mut [i32], w: &mut [i64]) -> Tally
     requires { ⌜ Workable (now block) (now w) × (length (now block) / 2 + 1 ≤ length (now cosine)) × (length (now block) / 2 + 1 ≤ length (now sine)) ⌝ }
@@ -53,50 +52,25 @@ pub fn cosine_of(block: &[i32], coefficients: &mut [i32], w: &mut [i64]) -> Tall
     tally
 }
 
-// Pair's real part: the cosine-DFT of a in every word, by (9), and the sine-DFT of b, by (10), added to it.
-fn real_part(wave: &[i32; 1025], a: &[i32], b: &[i32], real: &mut [i32], w: &mut [i64]) -> Tally
-    requires { ⌜ IsQuarterWave (now wave) × Workable (now a) (now w) × Workable (now b) (now w) × (length (now b) ≡ length (now a)) × (length (now a) ≤ length (now real)) ⌝ }
-    ensures { λ r. ⌜ PartMade _+ℤ_ (now (a .entry)) (now (b .entry)) (now (real .entry)) (now (w .entry)) (now (real .exit)) (now (w .exit)) (r .products) (r .sums) ⌝ }
+// The DFTs of one part of Pair: the cosine-DFT of x in every word of out, by (9), and the sine-DFT of y at the front of w.
+fn both_dfts(wave: &[i32; 1025], x: &[i32], y: &[i32], out: &mut [i32], w: &mut [i64]) -> Tally
+    requires { ⌜ IsQuarterWave (now wave) × Workable (now x) (now w) × Workable (now y) (now w) × (length (now y) ≡ length (now x)) × (length (now x) ≤ length (now out)) ⌝ }
+    ensures { λ r. ⌜ DftsMade (length (now (x .entry))) (now (x .entry)) (now (y .entry)) (now (out .entry)) (now (w .entry)) (now (out .exit)) (now (w .exit)) (r .products) (r .sums) ⌝ }
 {
-    let n = a.len();
-    load(a, w);
+    let n = x.len();
+    load(x, w);
     let c = cosine_dft(wave, w, n);
-    store_mirrored(w, real, n);
-    load(b, w);
+    store_mirrored(w, out, n);
+    load(y, w);
     let s = sine_dft(wave, w, n);
-    let sums = add_sine(w, real, n);
     let join = Tally {
         products: 0,
-        sums: sums,
+        sums: 0,
     };
     total(c, s, join)
 }
 
-// Its imaginary part: the cosine-DFT of b, and the sine-DFT of a subtracted from it.
-fn imaginary_part(
-    wave: &[i32; 1025],
-    a: &[i32],
-    b: &[i32],
-    imaginary: &mut [i32],
-    w: &mut [i64],
-) -> Tally
-    requires { ⌜ IsQuarterWave (now wave) × Workable (now b) (now w) × Workable (now a) (now w) × (length (now a) ≡ length (now b)) × (length (now b) ≤ length (now imaginary)) ⌝ }
-    ensures { λ r. ⌜ PartMade _-ℤ_ (now (b .entry)) (now (a .entry)) (now (imaginary .entry)) (now (w .entry)) (now (imaginary .exit)) (now (w .exit)) (r .products) (r .sums) ⌝ }
-{
-    let n = b.len();
-    load(b, w);
-    let c = cosine_dft(wave, w, n);
-    store_mirrored(w, imaginary, n);
-    load(a, w);
-    let s = sine_dft(wave, w, n);
-    let sums = subtract_sine(w, imaginary, n);
-    let join = Tally {
-        products: 0,
-        sums: sums,
-    };
-    total(c, s, join)
-}
-
+// The real part is the cosine-DFT of a with the sine-DFT of b added to it, the imaginary part the cosine-DFT of b with the sine-DFT of a subtracted from it.
 pub fn pair_of(
     a: &[i32],
     b: &[i32],
@@ -107,13 +81,17 @@ pub fn pair_of(
     requires { ⌜ Workable (now a) (now w) × Workable (now b) (now w) × (length (now b) ≡ length (now a)) × (length (now a) ≤ length (now real)) × (length (now a) ≤ length (now imaginary)) ⌝ }
     ensures { λ r. ⌜ PairMade (now (a .entry)) (now (b .entry)) (now (real .entry)) (now (imaginary .entry)) (now (w .entry)) (now (real .exit)) (now (imaginary .exit)) (now (w .exit)) (r .products) (r .sums) ⌝ }
 {
+    let n = a.len();
     let wave = quarter_wave();
-    let r = real_part(&wave, a, b, real, w);
-    let i = imaginary_part(&wave, a, b, imaginary, w);
+    let r = both_dfts(&wave, a, b, real, w);
+    let added = add_sine(w, real, n);
+    let i = both_dfts(&wave, b, a, imaginary, w);
+    let subtracted = subtract_sine(w, imaginary, n);
     clear(w);
+    let sums = added + subtracted;
     let join = Tally {
         products: 0,
-        sums: 0,
+        sums: sums,
     };
     total(r, i, join)
 }

@@ -1,12 +1,11 @@
 // Between the samples and coefficients of 32 bits and the words of 64 bits that the transforms work in.
-ghost use mathlib.Core.Path.{_≡_};
 ghost use Prim.Native.Nat.{ℕ, _+_, _-_, _*_, _/_, _≤_, _<_};
 ghost use lib.IntN.{pos, natAbs, _+ℤ_, _-ℤ_};
 ghost use lib.ListN.{length};
 ghost use Rattle.ffct.specs.Block.{largestSum};
 ghost use Rattle.ffct.specs.Transforms.{cosineBeyond, sineBeyond};
 ghost use Rattle.transforms.specs.Words.{word};
-ghost use Rattle.blocks.specs.Words.{Written, WrittenBySums};
+ghost use Rattle.blocks.specs.Words.{Written, WrittenBySums, Joinable};
 
 // The block at the front of w.
 pub fn load(block: &[i32], w: &mut [i64])
@@ -52,10 +51,7 @@ pub fn store_mirrored(w: &[i64], out: &mut [i32], n: usize)
 
 // The sine-DFT at the front of w added to the n words of out, by (10) subtracted above n / 2. It is zero at 0 and n / 2. Returns the sums made.
 pub fn add_sine(w: &[i64], out: &mut [i32], n: usize) -> u64
-    requires { ⌜ (1 ≤ n) × (n / 2 + 1 ≤ length (now w)) × (n ≤ length (now out)) ⌝ }
-    requires { ⌜ (word (now w) 0 ≡ pos 0) × (word (now w) (n / 2) ≡ pos 0) ⌝ }
-    requires { ⌜ ((k : ℕ) → k < n / 2 + 1 → natAbs (word (now w) k) ≤ largestSum + 128) ⌝ }
-    requires { ⌜ ((k : ℕ) → k < n → natAbs (word (now out) k) ≤ largestSum + 128) ⌝ }
+    requires { ⌜ Joinable n (now w) (now out) ⌝ }
     ensures { λ r. ⌜ WrittenBySums n (λ k. word (now (out .entry)) k +ℤ sineBeyond n (word (now (w .entry))) k) (2 * (n - n / 2 - 1)) (now (out .entry)) (now (out .exit)) r ⌝ }
 {
     let mut sums: u64 = 0;
@@ -75,10 +71,7 @@ pub fn add_sine(w: &[i64], out: &mut [i32], n: usize) -> u64
 
 // The same with the signs exchanged.
 pub fn subtract_sine(w: &[i64], out: &mut [i32], n: usize) -> u64
-    requires { ⌜ (1 ≤ n) × (n / 2 + 1 ≤ length (now w)) × (n ≤ length (now out)) ⌝ }
-    requires { ⌜ (word (now w) 0 ≡ pos 0) × (word (now w) (n / 2) ≡ pos 0) ⌝ }
-    requires { ⌜ ((k : ℕ) → k < n / 2 + 1 → natAbs (word (now w) k) ≤ largestSum + 128) ⌝ }
-    requires { ⌜ ((k : ℕ) → k < n → natAbs (word (now out) k) ≤ largestSum + 128) ⌝ }
+    requires { ⌜ Joinable n (now w) (now out) ⌝ }
     ensures { λ r. ⌜ WrittenBySums n (λ k. word (now (out .entry)) k -ℤ sineBeyond n (word (now (w .entry))) k) (2 * (n - n / 2 - 1)) (now (out .entry)) (now (out .exit)) r ⌝ }
 {
     let mut sums: u64 = 0;

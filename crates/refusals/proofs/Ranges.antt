@@ -7,7 +7,7 @@ use Prim.Native.Nat.{ℕ, zero, suc, _+_, _≤_, _<_}
 use native.Mathlib.Nat.{add-suc, add-zero}
 use native.Mathlib.Omega.{arith}
 use lib.IntN.{natAbs}
-use borrow.Author.Tests.{leb-true}
+use borrow.Author.Tests.{leb-true, le-leb}
 use Rattle.whole.proofs.Cases.{le-or-lt}
 use Rattle.ffct.specs.Block.{Samples, largestSample}
 use Rattle.refusals.specs.Refusals.{inRange, firstOut}
@@ -54,6 +54,11 @@ module _ (x : Samples) where
 
   pub all-in : (i d : ℕ) → firstOut x i d ≡ i + d → (n : ℕ) → n < d → natAbs (x (i + n)) ≤ largestSample
   all-in i d e n l = passed i d e (i + n) (omega arith) (omega arith)
+
+  -- ---- and the converse
+  pub none-out : (i d : ℕ) → ((j : ℕ) → i ≤ j → j < i + d → natAbs (x j) ≤ largestSample) → firstOut x i d ≡ i + d
+  none-out i zero h = first-none i ∙ omega arith
+  none-out i (suc d) h = first-on i d (le-leb _ _ (h i (omega arith) (omega arith))) ∙ none-out (suc i) d (λ j l k. h j (omega arith) (omega arith)) ∙ omega arith
 
   -- ---- from the start s of a block
   shift : (s i d : ℕ) → s + firstOut (λ n. x (s + n)) i d ≡ firstOut x (s + i) d

@@ -1,5 +1,5 @@
 -- `blocks::cosine_of` meets its contract. Assumes nothing.
-use mathlib.Core.Path.{refl, _∙_}
+use mathlib.Core.Path.{refl}
 use native.Mathlib.Omega.{arith}
 use borrow.Author.Needs.{needs}
 use lib.ListN.{length}
@@ -24,7 +24,7 @@ store-requires c κs =
     let k = c .before .before .before .before .before .before .before .before .before .before .pre .0 in
     let l = c .before .before .before .before .before .before .before .load .ensures in
     let g = dct-left k refl l (c .before .before .before .dct .ensures) in
-    ((omega (arith, k .room, l .len, g .len), c .before .before .before .before .before .before .before .before .before .before .pre .1), sized g (omega arith) (dct-small k refl))
+    ((omega (arith, k .room, g .len), c .before .before .before .before .before .before .before .before .before .before .pre .1), sized g (omega arith) (dct-small k refl))
 
 clear-requires : tie.Need-clear-requires
 clear-requires c κs = search needs
@@ -40,7 +40,7 @@ returns c =
     let k = c .before .before .before .before .before .before .before .before .before .before .before .before .before .before .before .pre .0 in
     let l = c .before .before .before .before .before .before .before .before .before .before .before .before .load .ensures in
     let g = dct-left k refl l (c .before .before .before .before .before .before .before .before .dct .ensures) in
-    record { words = stored g (c .before .before .before .before .store .ensures); cleared = cleared (g .len ∙ l .len) (c .before .clear .ensures); products = g .products; sums = g .sums }
+    record { words = stored g (c .before .before .before .before .store .ensures); cleared = cleared (g .len) (c .before .clear .ensures); products = g .products; sums = g .sums }
 
 pub cosine-of-spec : {M : Type 1} → statement M
 cosine-of-spec =

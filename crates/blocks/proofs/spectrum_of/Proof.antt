@@ -28,21 +28,21 @@ store-requires c κs =
     let k = c .before .before .before .before .before .before .before .before .before .before .pre .0 in
     let l = c .before .before .before .before .before .before .before .load .ensures in
     let g = cosine-left k refl l (c .before .before .before .cosine-dft .ensures) in
-    ((omega (arith, k .room, l .len, g .len), c .before .before .before .before .before .before .before .before .before .before .pre .1), sized g (omega arith) (cosine-small k refl))
+    ((omega (arith, k .room, g .len), c .before .before .before .before .before .before .before .before .before .before .pre .1), sized g (omega arith) (cosine-small k refl))
 
 load-requires-2 : tie.Need-load-requires-2
 load-requires-2 c κs =
     let k = c .before .before .before .before .before .before .before .before .before .before .before .before .before .pre .0 in
     let l = c .before .before .before .before .before .before .before .before .before .before .load .ensures in
     let g = cosine-left k refl l (c .before .before .before .before .before .before .cosine-dft .ensures) in
-    omega (arith, k .room, l .len, g .len)
+    omega (arith, k .room, g .len)
 
 sine-dft-requires : tie.Need-sine-dft-requires
 sine-dft-requires c κs =
     let k = c .before .before .before .before .before .before .before .before .before .before .before .before .before .before .before .before .before .pre .0 in
     let l = c .before .before .before .before .before .before .before .before .before .before .before .before .before .before .load .ensures in
     let g = cosine-left k refl l (c .before .before .before .before .before .before .before .before .before .before .cosine-dft .ensures) in
-    (c .before .before .before .before .before .before .before .before .before .before .before .before .before .before .before .before .quarter-wave .ensures, ready (again k (g .len ∙ l .len)) refl (c .before .before .before .load2 .ensures) (dftRoom (length (c .before .before .before .before .before .before .before .before .before .before .before .before .before .before .before .before .before .args .block .now))) (omega arith))
+    (c .before .before .before .before .before .before .before .before .before .before .before .before .before .before .before .before .quarter-wave .ensures, ready (again k (g .len)) refl (c .before .before .before .load2 .ensures) (dftRoom (length (c .before .before .before .before .before .before .before .before .before .before .before .before .before .before .before .before .before .args .block .now))) (omega arith))
 
 add-store-2 : tie.Need-add-store-2
 add-store-2 c = search needs
@@ -53,8 +53,8 @@ store-requires-2 c κs =
     let l = c .before .before .before .before .before .before .before .before .before .before .before .before .before .before .before .before .before .before .load .ensures in
     let g = cosine-left k refl l (c .before .before .before .before .before .before .before .before .before .before .before .before .before .before .cosine-dft .ensures) in
     let m = c .before .before .before .before .before .before .before .load2 .ensures in
-    let s = sine-left (again k (g .len ∙ l .len)) refl m (c .before .before .before .sine-dft .ensures) in
-    ((omega (arith, k .room, l .len, g .len, m .len, s .len), c .before .before .before .before .before .before .before .before .before .before .before .before .before .before .before .before .before .before .before .before .before .pre .2), sized s (omega arith) (sine-small k refl))
+    let s = sine-left (again k (g .len)) refl m (c .before .before .before .sine-dft .ensures) in
+    ((omega (arith, k .room, g .len, s .len), c .before .before .before .before .before .before .before .before .before .before .before .before .before .before .before .before .before .before .before .before .before .pre .2), sized s (omega arith) (sine-small k refl))
 
 clear-requires : tie.Need-clear-requires
 clear-requires c κs = search needs
@@ -64,7 +64,7 @@ total-requires c κs =
     let k = c .before .before .before .before .before .before .before .before .before .before .before .before .before .before .before .before .before .before .before .before .before .before .before .before .before .before .pre .0 in
     let l = c .before .before .before .before .before .before .before .before .before .before .before .before .before .before .before .before .before .before .before .before .before .before .before .load .ensures in
     let g = cosine-left k refl l (c .before .before .before .before .before .before .before .before .before .before .before .before .before .before .before .before .before .before .before .cosine-dft .ensures) in
-    let s = sine-left (again k (g .len ∙ l .len)) refl (c .before .before .before .before .before .before .before .before .before .before .before .before .load2 .ensures) (c .before .before .before .before .before .before .before .before .sine-dft .ensures) in
+    let s = sine-left (again k (g .len)) refl (c .before .before .before .before .before .before .before .before .before .before .before .before .load2 .ensures) (c .before .before .before .before .before .before .before .before .sine-dft .ensures) in
     omega (arith, g .products, g .sums, s .products, s .sums, few k refl .cosine, few k refl .sine)
 
 same-length : tie.Need-same-length
@@ -83,12 +83,12 @@ returns c =
     let l = c .before .before .before .before .before .before .before .before .before .before .before .before .before .before .before .before .before .before .before .before .before .before .before .before .load .ensures in
     let g = cosine-left k refl l (c .before .before .before .before .before .before .before .before .before .before .before .before .before .before .before .before .before .before .before .before .cosine-dft .ensures) in
     let m = c .before .before .before .before .before .before .before .before .before .before .before .before .before .load2 .ensures in
-    let s = sine-left (again k (g .len ∙ l .len)) refl m (c .before .before .before .before .before .before .before .before .before .sine-dft .ensures) in
+    let s = sine-left (again k (g .len)) refl m (c .before .before .before .before .before .before .before .before .before .sine-dft .ensures) in
     let t = c .total .ensures in
     record {
       cosineWords = stored g (c .before .before .before .before .before .before .before .before .before .before .before .before .before .before .before .before .store .ensures);
       sineWords = stored s (c .before .before .before .before .before .store2 .ensures);
-      cleared = cleared (s .len ∙ m .len ∙ g .len ∙ l .len) (c .before .before .clear .ensures);
+      cleared = cleared (s .len ∙ g .len) (c .before .before .clear .ensures);
       products = omega (arith, g .products, s .products, t);
       sums = omega (arith, g .sums, s .sums, t);
     }

@@ -1,4 +1,4 @@
--- `spectra::words::add_sine` meets its contract: when the loop comes to k, the words outside k .. n - k are done, at two sums a turn. Assumes nothing.
+-- `blocks::words::add_sine` meets its contract: when the loop comes to k, the words outside k .. n - k are done, at two sums a turn. Assumes nothing.
 use Prim.Native.Nat.{_-_, _/_}
 use native.Mathlib.Omega.{arith}
 use lib.IntN.{_+ℤ_, _-ℤ_}
@@ -15,13 +15,13 @@ abbrev μ-loop : tie.MeasureT-loop
 μ-loop w out₀ n sums₀ k₀ out sums k = n - n / 2 - k
 
 loop-holds : tie.Need-loop-holds Inv-loop μ-loop
-loop-holds c = sine-none adding (omega arith) (c .pre .1 .0 .0)
+loop-holds c = sine-none adding (c .pre)
 
 -- what a turn asks, and what it leaves
 turn : (c : tie.In-loop Inv-loop μ-loop) →
     let l = c .before in
     SineTurn _+ℤ_ _-ℤ_ (l .before .args .n) (l .loop .k) (l .before .args .w .now) (l .loop .out) (l .loop .sums) (l .before .args .out .now)
-turn c = sine-turn adding (c .before .before .pre .1 .1 .0) (c .before .before .pre .1 .1 .1) (omega arith) (c .before .loop .inv)
+turn c = sine-turn adding (c .before .before .pre) (omega arith) (c .before .loop .inv)
 
 cast-s : tie.Need-cast-s Inv-loop μ-loop
 cast-s c = turn (c .before) .cast
@@ -36,7 +36,7 @@ loop-again : tie.Need-loop-again Inv-loop μ-loop
 loop-again c = turn (c .before .before .before) .next
 
 returns : tie.Need-returns Inv-loop μ-loop
-returns c = sine-all adding (omega arith) (c .before .before .pre .1 .0 .1) (c .before .loop .inv)
+returns c = sine-all adding (c .before .before .pre) (omega arith) (c .before .loop .inv)
 
 pub add-sine-spec : {M : Type 1} → statement M
 add-sine-spec =

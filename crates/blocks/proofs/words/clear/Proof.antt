@@ -1,4 +1,4 @@
--- `spectra::words::clear` meets its contract: after i turns i words are 0. Assumes nothing.
+-- `blocks::words::clear` meets its contract: after i turns i words are 0. Assumes nothing.
 use mathlib.Core.Path.{refl}
 use Prim.Native.Nat.{_-_, _≤_}
 use native.Mathlib.Omega.{arith}

@@ -1,4 +1,4 @@
--- `spectra::words::load` meets its contract: after i turns i samples are stored. Assumes nothing.
+-- `blocks::words::load` meets its contract: after i turns i samples are stored. Assumes nothing.
 use Prim.Native.Nat.{_-_, _≤_}
 use native.Mathlib.Omega.{arith}
 use lib.ListN.{length}

@@ -1,4 +1,4 @@
--- `spectra::words::store` meets its contract: after k turns k words are stored. Assumes nothing.
+-- `blocks::words::store` meets its contract: after k turns k words are stored. Assumes nothing.
 use Prim.Native.Nat.{_-_, _≤_}
 use native.Mathlib.Omega.{arith}
 use borrow.Author.Needs.{needs}

@@ -1,4 +1,4 @@
--- `spectra::words::store_mirrored` meets its contract: `store` has written the words up to n / 2, and when the loop comes to k, it has written the last k - 1. Assumes nothing.
+-- `blocks::words::store_mirrored` meets its contract: `store` has written the words up to n / 2, and when the loop comes to k, it has written the last k - 1. Assumes nothing.
 use mathlib.Core.Path.{_≡_, _∙_, sym}
 use Prim.Native.Nat.{_-_, _/_, _≤_}
 use native.Mathlib.Omega.{arith}

@@ -1,4 +1,4 @@
--- `spectra::counts::counts_of` meets its contract: at one sample the definitions compute. Assumes nothing.
+-- `refusals::counts::counts_of` meets its contract: at one sample the definitions compute. Assumes nothing.
 use mathlib.Core.Path.{refl, sym}
 use borrow.Author.Needs.{needs}
 use Rattle.ffct.specs.Transforms.{dctBy, cosineDft, sineDft, dct, spectrum, pair}

@@ -1,4 +1,4 @@
--- `spectra::counts::first_level` meets its contract: the definitions compute. Assumes nothing.
+-- `refusals::counts::first_level` meets its contract: the definitions compute. Assumes nothing.
 use mathlib.Core.Path.{refl}
 use Rattle.ffct.specs.Transforms.{dctBy, cosineDft, sineDft, dct}
 use Rattle.refusals.proofs.counts.first_level.Statement.{statement}

@@ -1,4 +1,4 @@
--- `spectra::counts::level_counts` meets its contract: each turn goes from the level of n samples to that of 2 n. Assumes nothing.
+-- `refusals::counts::level_counts` meets its contract: each turn goes from the level of n samples to that of 2 n. Assumes nothing.
 use mathlib.Core.Path.{_≡_}
 use Prim.Native.Nat.{_-_, _^_, _≤_}
 use native.Mathlib.Nat.{pow-succ'}

@@ -1,4 +1,4 @@
--- `spectra::counts::next_level` meets its contract, by (23) to (25). Assumes nothing.
+-- `refusals::counts::next_level` meets its contract, by (23) to (25). Assumes nothing.
 use Prim.Native.Nat.{suc}
 use native.Mathlib.Nat.{pow-succ'}
 use native.Mathlib.Omega.{arith}

@@ -1,4 +1,4 @@
--- `spectra::counts::six_counts` meets its contract, by (21) to (23). Assumes nothing.
+-- `refusals::counts::six_counts` meets its contract, by (21) to (23). Assumes nothing.
 use native.Mathlib.Omega.{arith}
 use borrow.Author.Needs.{needs}
 use Rattle.refusals.proofs.Costs.{few-counts, dct-next, six-counts}

@@ -1,4 +1,4 @@
--- `spectra::length::is_length` meets its contract: up to 1,024 the lengths are the numbers with one binary digit 1. Assumes nothing.
+-- `refusals::length::is_length` meets its contract: up to 1,024 the lengths are the numbers with one binary digit 1. Assumes nothing.
 use mathlib.Core.Path.{sym}
 use native.Mathlib.Omega.{arith}
 use Rattle.ffct.proofs.ElevenLengths.{length-digit, too-long}

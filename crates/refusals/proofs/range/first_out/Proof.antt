@@ -1,4 +1,4 @@
--- `spectra::range::first_out` meets its contract: the search from i on, among the samples that are left, finds the place that the whole search finds. Assumes nothing.
+-- `refusals::range::first_out` meets its contract: the search from i on, among the samples that are left, finds the place that the whole search finds. Assumes nothing.
 use mathlib.Core.Path.{_≡_, sym, ap, _∙_}
 use Prim.Native.Nat.{ℕ, suc, _+_, _-_, _≤_}
 use native.Mathlib.Numerals.{add-one}
