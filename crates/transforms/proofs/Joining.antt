@@ -129,10 +129,10 @@ RotationRun n last before after =
     let S : ℕ → ℤ = λ k. word before (n + n / 2 + 1 + k) in
     Mirrored 1 last n n (λ k. round (c k *ℤ C k -ℤ s k *ℤ S k)) (λ k. round (s k *ℤ C k +ℤ c k *ℤ S k)) before after
 
-pub dct-rotated : {n products sums : ℕ} {before run : List ℤ} {x y : ℤ} → (2 * (n / 2) ≡ n) × (2 ≤ n) × (n ≤ length before) → n * (1024 / n) ≡ 1024
-    → PairsRotated n before run products sums → x ≡ word before n → y ≡ round (T 512 *ℤ word before (n + n / 2))
-    → DctRotated n before (set (set run 0 x) (n / 2) y) (products + 1) sums
-dct-rotated {n} {before = before} {run = run} {x = x} {y = y} h step p first middle =
+pub dct-rotated : {n products sums q : ℕ} {before run : List ℤ} {x y : ℤ} → (2 * (n / 2) ≡ n) × (2 ≤ n) × (n ≤ length before) → n * (1024 / n) ≡ 1024
+    → PairsRotated n before run products sums → x ≡ word before n → y ≡ round (T 512 *ℤ word before (n + n / 2)) → q ≡ 1
+    → DctRotated n before (set (set run 0 x) (n / 2) y) (products + q) sums
+dct-rotated {n} {before = before} {run = run} {x = x} {y = y} h step p first middle one =
     let C : ℕ → ℤ = λ k. word before (n + k) in
     let S : ℕ → ℤ = λ k. word before (n + n / 2 + 1 + k) in
     let whole = h .0 in

@@ -80,6 +80,11 @@ pub record PairsRotated (n : ℕ) (before after : List ℤ) (p a : ℕ) : Type 0
   pub products : p ≡ 3 * (n / 2 - 1)
   pub sums : a ≡ 3 * (n / 2 - 1)
 
+-- DCT(n/2), from the cosine-DFT there
+pub record MiddleRotated (C value : ℤ) (products : ℕ) : Type 0 where
+  pub middle : value ≡ round (T 512 *ℤ C)
+  pub one-product : products ≡ 1
+
 -- the cosine-DFT stands at n .. n + n/2, the sine-DFT after it; the DCT goes to the front
 pub record DctRotated (n : ℕ) (before after : List ℤ) (p a : ℕ) : Type 0 where
   pub words : (k : ℕ) → k < n → word after k ≡ rotated n (λ j. word before (n + j)) (λ j. word before (n + n / 2 + 1 + j)) k

@@ -10,7 +10,7 @@ ghost use Rattle.whole.specs.Round.{round as rounded};
 ghost use Rattle.circle.specs.Circle.{T, IsQuarterWave};
 ghost use Rattle.ffct.specs.Block.{largestSum};
 ghost use Rattle.transforms.specs.Words.{word};
-ghost use Rattle.transforms.specs.Steps.{PairRotated, PairsRotated, DctRotated};
+ghost use Rattle.transforms.specs.Steps.{PairRotated, PairsRotated, MiddleRotated, DctRotated};
 
 // DCT(k) and DCT(n - k), with the products and sums that they take.
 pub struct Rotation {
@@ -79,12 +79,26 @@ fn rotate_pairs(wave: &[i32; 1025], w: &mut [i64], n: usize) -> Tally
     }
 }
 
-// T(512) C(n / 2), rounded: one product.
-fn rotate_middle(wave: &[i32; 1025], cosine: i64) -> i64
+// DCT(n / 2), with the products that it takes.
+pub struct Middle {
+    pub value: i64,
+    pub products: u64,
+}
+
+// T(512) C(n / 2), rounded.
+fn rotate_middle(wave: &[i32; 1025], cosine: i64) -> Middle
     requires { ⌜ IsQuarterWave (now wave) × (natAbs cosine ≤ largestSum + 128) ⌝ }
-    ensures { λ r. ⌜ r ≡ rounded (T 512 *ℤ cosine) ⌝ }
+    ensures { λ r. ⌜ MiddleRotated cosine (r .value) (r .products) ⌝ }
 {
-    round(wave_at(wave, 512) * cosine)
+    let mut products: u64 = 0;
+    let entry = wave_at(wave, 512);
+    let product = entry * cosine;
+    products += 1;
+    let value = round(product);
+    Middle {
+        value: value,
+        products: products,
+    }
 }
 
 // The DCT of n samples at the front, from the cosine-DFT at n and the sine-DFT at n + n / 2 + 1.
@@ -97,11 +111,13 @@ pub fn rotate_all(wave: &[i32; 1025], w: &mut [i64], n: usize) -> Tally
     let first = w[n];
     w[0] = first;
     let h = n / 2;
-    let middle = w[n + h];
-    let rotated = rotate_middle(wave, middle);
-    w[h] = rotated;
+    let cosine = w[n + h];
+    let middle = rotate_middle(wave, cosine);
+    let value = middle.value;
+    w[h] = value;
+    let products = pairs.products + middle.products;
     Tally {
-        products: pairs.products + 1,
+        products: products,
         sums: pairs.sums,
     }
 }

@@ -28,46 +28,49 @@ slice-copy-out-first c = search needs
 slice-set-from-first : tie.Need-slice-set-from-first
 slice-set-from-first c = search needs
 
-add-middle : tie.Need-add-middle
-add-middle c = search needs
+add-cosine : tie.Need-add-cosine
+add-cosine c = search needs
 
-mul-middle : tie.Need-mul-middle
-mul-middle c = search needs
+mul-cosine : tie.Need-mul-cosine
+mul-cosine c = search needs
 
-slice-copy-out-middle : tie.Need-slice-copy-out-middle
-slice-copy-out-middle c = simp length-set (omega (arith, c .before .before .rotate-pairs .ensures .words .len))
+slice-copy-out-cosine : tie.Need-slice-copy-out-cosine
+slice-copy-out-cosine c = simp length-set (omega (arith, c .before .before .rotate-pairs .ensures .words .len))
 
 -- C(n / 2), read after the store of the first word
-middle : (c : tie.After-middle) →
+middle : (c : tie.After-cosine) →
     let s = c .before .before .before .before .before in
     let n = s .args .n in
     let run = c .before .before .before .rotate-pairs .last .1 .0 in
     Word w64 (ofZ w64 (word (set run 0 (toZ w64 (ofZ w64 (word run n)))) (n + n / 2))) (word (s .args .w .now) (n + n / 2))
-middle c = mirrored-read (mirrored-beside (c .before .before .before .rotate-pairs .ensures .words) 0 _ (omega arith)) _ (omega arith) (c .middle .given)
+middle c = mirrored-read (mirrored-beside (c .before .before .before .rotate-pairs .ensures .words) 0 _ (omega arith)) _ (omega arith) (c .cosine .given)
 
 rotate-middle-requires : tie.Need-rotate-middle-requires
 rotate-middle-requires c κs =
     let pre = c .before .before .before .before .before .pre in
     (pre .0 .0, rw (middle c .is) (pre .1 _ (omega arith)))
 
-mul-rotated : tie.Need-mul-rotated
-mul-rotated c = search needs
+mul-value : tie.Need-mul-value
+mul-value c = search needs
 
-slice-set-from-rotated : tie.Need-slice-set-from-rotated
-slice-set-from-rotated c = simp length-set (omega (arith, c .before .before .before .before .rotate-pairs .ensures .words .len))
+slice-set-from-value : tie.Need-slice-set-from-value
+slice-set-from-value c = simp length-set (omega (arith, c .before .before .before .before .before .rotate-pairs .ensures .words .len))
 
-add-t18 : tie.Need-add-t18
-add-t18 c = search needs
+add-products : tie.Need-add-products
+add-products c = search needs
 
 same-length : tie.Need-same-length
 same-length c = search needs
 
 returns : tie.Need-returns
 returns c =
-    let pairs = c .before .before .before .before .before .rotate-pairs .ensures in
-    dct-rotated (omega arith) (c .before .before .before .before .before .before .before .pre .0 .4) pairs
-    (mirrored-read (pairs .words) _ (omega arith) (c .before .before .before .first .given) .is)
-    (held (c .before .rotate-middle .ok) (c .before .rotate-middle .ensures) .is ∙ ap (λ z. round (T 512 *ℤ z)) (middle (c .before .before) .is))
+    let r = c .before .before .before in
+    let pairs = r .before .before .before .before .rotate-pairs .ensures in
+    let m = r .rotate-middle .ensures in
+    dct-rotated (omega arith) (r .before .before .before .before .before .before .pre .0 .4) pairs
+    (mirrored-read (pairs .words) _ (omega arith) (r .before .before .first .given) .is)
+    (held (c .before .before .struct-told .given .0 .1) (m .middle) .is ∙ ap (λ z. round (T 512 *ℤ z)) (middle (r .before) .is))
+    (m .one-product)
 
 pub rotate-all-spec : {M : Type 1} → statement M
 rotate-all-spec =
@@ -77,12 +80,12 @@ rotate-all-spec =
     mul-first
     slice-copy-out-first
     slice-set-from-first
-    add-middle
-    mul-middle
-    slice-copy-out-middle
+    add-cosine
+    mul-cosine
+    slice-copy-out-cosine
     rotate-middle-requires
-    mul-rotated
-    slice-set-from-rotated
-    add-t18
+    mul-value
+    slice-set-from-value
+    add-products
     same-length
     returns)

@@ -23,14 +23,20 @@ product c =
     computes _*ℤ_ (held (c .wave-at .ok) (c .wave-at .ensures)) (word (c .before .fits .cosine))
     (within-fits (within-mul (entry-within 512 (lit≤ tt)) (size-within _ (c .before .pre .1))) (lit< tt))
 
-mul-round : tie.Need-mul-round
-mul-round c = product c .asked
+mul-product : tie.Need-mul-product
+mul-product c = product c .asked
+
+add-products : tie.Need-add-products
+add-products c = search needs
 
 round-requires : tie.Need-round-requires
 round-requires c κs = search needs
 
 returns : tie.Need-returns
-returns c = held (c .round .ok) (c .round .ensures) .is ∙ ap round (product (c .before) .made)
+returns c = record {
+  middle = held (c .round .ok) (c .round .ensures) .is ∙ ap round (product (c .before) .made);
+  one-product = search needs;
+}
 
 pub rotate-middle-spec : {M : Type 1} → statement M
-rotate-middle-spec = tie.close (tie.spec wave-at-requires mul-round round-requires returns)
+rotate-middle-spec = tie.close (tie.spec wave-at-requires mul-product add-products round-requires returns)
