@@ -1,0 +1,38 @@
+-- `text::put_refusal` meets its contract: the word, the one digit and the line feed. Assumes nothing.
+use Prim.Native.Nat.{_≤_}
+use native.Mathlib.Omega.{arith}
+use lib.ListN.{length}
+use borrow.Author.Needs.{needs}
+use Rattle.text.specs.Decimal.{number}
+use Rattle.text.proofs.Putting.{_then_}
+use Rattle.text.proofs.Spelling.{number-length}
+use Rattle.text.proofs.put_refusal.Statement.{statement}
+use Rattle.text.proofs.put_refusal.Tie as tie
+
+one-digit : (s : tie.Start) → length (number (s .args .number)) ≤ 1
+one-digit s = number-length 0 _ (s .pre .0)
+
+put-number-requires : tie.Need-put-number-requires
+put-number-requires c κs = omega (arith, one-digit (c .before .before .before .before .before .before .before))
+
+put-requires-2 : tie.Need-put-requires-2
+put-requires-2 c κs = omega (arith, one-digit (c .before .before .before .before .before .before .before .before .before .before .before .before))
+
+returns : tie.Need-returns
+returns c =
+    let e = c .before .before in
+    let n = e .before .before .before .before .before in
+    let p = n .before .before .before .before in
+    p .put .ensures then n .put-number .ensures then e .put2 .ensures
+
+pub put-refusal-spec : {M : Type 1} → statement M
+put-refusal-spec =
+    tie.close
+    (tie.spec
+    (λ c. search needs)  -- slice-aggregate-put
+    (λ c κs. search needs)  -- put-requires
+    put-number-requires
+    (λ c. search needs)  -- slice-aggregate-put-2
+    put-requires-2
+    (λ c. search needs)  -- same-length
+    returns)

@@ -1,0 +1,29 @@
+-- Document 01, "The pair file": the lines that `pairspec` prints, as bytes. "Every line printed ends in one line feed."
+use mathlib.Core.List.{List, [], _∷_, _++_}
+use Prim.Native.Nat.{ℕ, zero, suc}
+use lib.IntN.{ℤ}
+use Rattle.ffct.specs.Block.{Samples}
+use Rattle.text.specs.Decimal.{number, decimal}
+
+abbrev pub space : List ℕ
+space = 32 ∷ []
+
+abbrev pub lineFeed : List ℕ
+lineFeed = 10 ∷ []
+
+-- "the line `block k re im`"
+abbrev pub heading : List ℕ
+heading = 98 ∷ 108 ∷ 111 ∷ 99 ∷ 107 ∷ 32 ∷ 107 ∷ 32 ∷ 114 ∷ 101 ∷ 32 ∷ 105 ∷ 109 ∷ 10 ∷ []
+
+-- "For a refusal it prints one line only: `refused`, a space and the number."
+abbrev pub refusal : ℕ → List ℕ
+refusal n = (114 ∷ 101 ∷ 102 ∷ 117 ∷ 115 ∷ 101 ∷ 100 ∷ 32 ∷ []) ++ number n ++ lineFeed
+
+-- "block number from 0, k, real part, imaginary part, in decimal with single spaces"
+unfoldable pub line : ℕ → ℕ → ℤ → ℤ → List ℕ
+line block k re im = number block ++ space ++ number k ++ space ++ decimal re ++ space ++ decimal im ++ lineFeed
+
+-- the lines of a block, for k = 0 .. n - 1
+unfoldable pub lines : ℕ → Samples → Samples → ℕ → List ℕ
+lines block re im zero = []
+lines block re im (suc k) = lines block re im k ++ line block k (re k) (im k)

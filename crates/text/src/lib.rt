@@ -1,0 +1,102 @@
+// The lines of `pairspec`, put into a lent page. Each function puts its text from the place `at` on and answers the place behind it.
+ghost use Prim.Native.Nat.{_+_, _*_, _≤_, _<_};
+ghost use lib.IntN.{natAbs};
+ghost use lib.ListN.{length};
+ghost use mathlib.Core.Path.{_≡_};
+ghost use Rattle.transforms.specs.Words.{word};
+ghost use Rattle.text.specs.Decimal.{number, decimal};
+ghost use Rattle.text.specs.Put.{Put};
+ghost use Rattle.text.specs.Lines.{heading, refusal, line, lines};
+
+pub fn put(text: &[u8], page: &mut [u8], at: usize) -> usize
+    requires { ⌜ at + length (now text) ≤ length (now page) ⌝ }
+    ensures { λ r. ⌜ Put (now (page .entry)) at (now (text .entry)) r (now (page .exit)) ⌝ }
+{
+    let mut i = 0;
+    while i < text.len() {
+        page[at + i] = text[i];
+        i += 1;
+    }
+    at + i
+}
+
+fn put_number(n: u64, page: &mut [u8], at: usize) -> usize
+    requires { ⌜ at + length (number n) ≤ length (now page) ⌝ }
+    ensures { λ r. ⌜ Put (now (page .entry)) at (number n) r (now (page .exit)) ⌝ }
+{
+    let mut digits = [0u8; 20];
+    let count = io::decimal(n, &mut digits);
+    put(&digits[..count], page, at)
+}
+
+fn magnitude(x: i32) -> u64
+    ensures { λ r. ⌜ r ≡ natAbs x ⌝ }
+{
+    if x < 0 { (!x) as u64 + 1 } else { x as u64 }
+}
+
+fn put_decimal(x: i32, page: &mut [u8], at: usize) -> usize
+    requires { ⌜ at + length (decimal x) ≤ length (now page) ⌝ }
+    ensures { λ r. ⌜ Put (now (page .entry)) at (decimal x) r (now (page .exit)) ⌝ }
+{
+    let size = magnitude(x);
+    if x < 0 {
+        let behind = put(b"-", page, at);
+        return put_number(size, page, behind);
+    }
+    put_number(size, page, at)
+}
+
+pub fn put_heading(page: &mut [u8], at: usize) -> usize
+    requires { ⌜ at + 14 ≤ length (now page) ⌝ }
+    ensures { λ r. ⌜ Put (now (page .entry)) at heading r (now (page .exit)) ⌝ }
+{
+    put(b"block k re im\n", page, at)
+}
+
+pub fn put_refusal(number: u64, page: &mut [u8], at: usize) -> usize
+    requires { ⌜ (number < 10) × (at + 10 ≤ length (now page)) ⌝ }
+    ensures { λ r. ⌜ Put (now (page .entry)) at (refusal number) r (now (page .exit)) ⌝ }
+{
+    let behind = put(b"refused ", page, at);
+    let end = put_number(number, page, behind);
+    put(b"\n", page, end)
+}
+
+// The widest line has 34 bytes: two numbers of 4 digits, two of 10 with a sign, three spaces and the line feed.
+fn put_line(block: u64, k: u64, re: i32, im: i32, page: &mut [u8], at: usize) -> usize
+    requires { ⌜ (block < 10000) × (k < 10000) × (at + 34 ≤ length (now page)) ⌝ }
+    ensures { λ r. ⌜ Put (now (page .entry)) at (line block k re im) r (now (page .exit)) × (r ≤ at + 34) ⌝ }
+{
+    let a = put_number(block, page, at);
+    let b = put(b" ", page, a);
+    let c = put_number(k, page, b);
+    let d = put(b" ", page, c);
+    let e = put_decimal(re, page, d);
+    let f = put(b" ", page, e);
+    let g = put_decimal(im, page, f);
+    put(b"\n", page, g)
+}
+
+// The lines of one block, a line for each k below n.
+pub fn put_lines(
+    block: u64,
+    real: &[i32],
+    imaginary: &[i32],
+    n: usize,
+    page: &mut [u8],
+    at: usize,
+) -> usize
+    requires { ⌜ (block < 10000) × (n ≤ 1024) × (n ≤ length (now real)) × (n ≤ length (now imaginary)) × (at + 34 * n ≤ length (now page)) ⌝ }
+    ensures { λ r. ⌜ Put (now (page .entry)) at (lines block (word (now (real .entry))) (word (now (imaginary .entry))) n) r (now (page .exit)) × (r ≤ at + 34 * n) ⌝ }
+{
+    let mut next = at;
+    let mut k = 0;
+    while k < n {
+        let re = real[k];
+        let im = imaginary[k];
+        next = put_line(block, k as u64, re, im, page, next);
+        k += 1;
+    }
+    next
+}
