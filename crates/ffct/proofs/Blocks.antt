@@ -11,7 +11,7 @@ use Rattle.whole.proofs.Cases.{le-or-lt}
 use Rattle.whole.specs.Round.{round}
 use Rattle.circle.specs.Circle.{T}
 use Rattle.ffct.specs.Block.{Samples}
-use Rattle.ffct.specs.Transforms.{evens, foldedSums, foldedDifferences, alternate, rearranged, cosineBeyond, sineBeyond, dctBeyond, apart, rotated, dctBy, cosineDft, sineDft, dct}
+use Rattle.ffct.specs.Transforms.{evens, foldedSums, foldedDifferences, alternate, rearranged, cosineBeyond, sineBeyond, dctBeyond, apart, rotated, dctBy, cosineDft, sineDft, dct, spectrum, pair}
 use Rattle.ffct.proofs.Lengths.{len, pow-len, len-pos}
 use Rattle.ffct.proofs.Steps.{rearranged-source, sine-step, cosine-low, cosine-high, sine-low, sine-high, dct-low, dct-middle, dct-high, rotated-zero, rotated-low, rotated-middle, rotated-high}
 
@@ -72,6 +72,14 @@ dft-same (suc (suc L)) x y e =
 
 pub dct-same : (L : ℕ) (x y : Samples) → Same L x y → dct L x ≡ dct L y
 dct-same L = dct-same-of L (dft-same L)
+
+pub spectrum-same : (L : ℕ) (x y : Samples) → Same L x y → spectrum L x ≡ spectrum L y
+unfolding spectrum
+spectrum-same L x y e = rw (dft-same L x y e .0, dft-same L x y e .1) refl
+
+pub pair-same : (L : ℕ) (x x′ y y′ : Samples) → Same L x x′ → Same L y y′ → pair L x y ≡ pair L x′ y′
+unfolding pair
+pair-same L x x′ y y′ e d = rw (spectrum-same L x x′ e, spectrum-same L y y′ d) refl
 
 -- ---- where the sine-DFT is zero for every block
 apart-ends : (m k : ℕ) → (k ≡ 0) ⊎ (k ≡ 2 * m) → apart m k ≡ m

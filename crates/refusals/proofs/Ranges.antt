@@ -43,7 +43,7 @@ module _ (x : Samples) where
   passes : (i d : ℕ) → firstOut x i (suc d) ≡ i + suc d → inRange (x i) ≡ true
   passes i d e = ⊎-elim (λ t. t) (λ f. absurd (omega (arith, first-here i d f))) (outcome (inRange (x i)))
 
-  passed : (i d : ℕ) → firstOut x i d ≡ i + d → (j : ℕ) → i ≤ j → j < i + d → natAbs (x j) ≤ largestSample
+  pub passed : (i d : ℕ) → firstOut x i d ≡ i + d → (j : ℕ) → i ≤ j → j < i + d → natAbs (x j) ≤ largestSample
   passed i zero e j h l = absurd (omega arith)
   passed i (suc d) e j h l =
       let t = passes i d e in

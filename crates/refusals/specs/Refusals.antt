@@ -36,6 +36,12 @@ pub data Verdict : Type 0 where
   refusedAt : (number place : ℕ) → Verdict
   accepted : Verdict
 
+-- the number returned; 0 says that a call is accepted
+abbrev pub number : Verdict → ℕ
+number (refused n) = n
+number (refusedAt n place) = n
+number accepted = 0
+
 -- "in Pair a before b". "The place in answer 6 counts from 0 at the first sample of the recording, not of the block."
 abbrev pub firstOutIn : List Samples → ℕ → ℕ → Verdict
 firstOutIn [] start N = accepted

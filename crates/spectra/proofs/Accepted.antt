@@ -12,7 +12,7 @@ use Rattle.ffct.specs.Block.{Samples, AcceptedBlock, isLength, level}
 use Rattle.ffct.specs.Transforms.{dct, spectrum, pair}
 use Rattle.ffct.specs.Exact.{exactCosine, exactSine, exactDct, exactReal, exactImaginary, eighth, quarterOfNext, quarter, Within}
 use Rattle.ffct.proofs.Lengths.{pow-len}
-use Rattle.ffct.proofs.Blocks.{Same, dft-same, dct-same}
+use Rattle.ffct.proofs.Blocks.{Same, dct-same, spectrum-same, pair-same}
 use Rattle.ffct.proofs.Limits.{limits, pair-limits}
 use Rattle.transforms.specs.Words.{word}
 use Rattle.blocks.specs.Words.{Written}
@@ -84,15 +84,7 @@ put-back {m} {n} {g} {w} {w′} e h p =
       len = length-front w w′ m (p .len);
     }
 
--- ---- equal blocks, and how near the coefficients of an accepted block are
-spectrum-same : (L : ℕ) (x y : Samples) → Same L x y → spectrum L x ≡ spectrum L y
-unfolding spectrum
-spectrum-same L x y e = rw (dft-same L x y e .0, dft-same L x y e .1) refl
-
-pair-same : (L : ℕ) (x x′ y y′ : Samples) → Same L x x′ → Same L y y′ → pair L x y ≡ pair L x′ y′
-unfolding pair
-pair-same L x x′ y y′ e d = rw (spectrum-same L x x′ e, spectrum-same L y y′ d) refl
-
+-- ---- how near the coefficients of an accepted block are
 module _ (N : ℕ) (h : isLength N ≡ true) (x : Samples) (a : AcceptedBlock (level N) x) where
   dct-near : (k : ℕ) → k < N → Within (quarterOfNext N) (dct (level N) x .at k) (exactDct N x k)
   dct-near = rw (sym (is-power N h)) at (limits (level N) x a .dct)

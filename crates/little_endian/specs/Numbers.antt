@@ -1,0 +1,19 @@
+-- Document 01, "The pair file": "Little-endian." The numbers of 32 bits that stand in the bytes of a file.
+use mathlib.Core.Bool.{cond}
+use mathlib.Core.List.{List}
+use Prim.Native.Nat.{ℕ, _+_, _*_, _^_}
+use lib.Dec.{ltb}
+use lib.IntN.{ℤ, pos, _-ℤ_}
+use lib.ListN.{getD}
+
+-- byte k, and 0 past the end
+abbrev pub byte : List ℕ → ℕ → ℕ
+byte file k = getD file k 0
+
+-- the unsigned number in the four bytes from `at` on, the lowest byte first
+abbrev pub unsigned : List ℕ → ℕ → ℕ
+unsigned file at = byte file at + 256 * byte file (at + 1) + 65536 * byte file (at + 2) + 16777216 * byte file (at + 3)
+
+-- the signed number that has the 32 bits of n, by two's complement
+unfoldable pub signed : ℕ → ℤ
+signed n = cond (ltb n (2 ^ 31)) (pos n) (pos n -ℤ pos (2 ^ 32))

@@ -1,0 +1,69 @@
+-- A longer file answers as its first 32,777 bytes do: one byte more than the longest file that is accepted. So a program need not take in more than these.
+-- Assumes nothing.
+use mathlib.Core.List.{List}
+use mathlib.Core.Path.{_≡_, refl, sym, ap, _∙_}
+use mathlib.Core.Logic.{_⊎_, inl, inr, ⊎-elim}
+use Prim.Native.Nat.{ℕ, _+_, _≤_, _<_}
+use native.Mathlib.Omega.{arith}
+use lib.ListN.{length, take}
+use lib.Seq.{take-all, length-take-le, getD-take}
+use Rattle.whole.proofs.Cases.{le-or-lt}
+use Rattle.refusals.specs.Refusals.{accepted}
+use Rattle.pairfile.specs.File.{sampleCount, mostSamples, fileBytes, fileVerdict}
+use Rattle.pairfile.specs.declared.FileAnswer.{FileAnswer}
+use Rattle.pairfile.proofs.Verdicts.{Passed7, TurnedDown, refused-8, refused-9, accepted-9}
+
+-- the first n bytes have the file's verdict, and where it is acceptance they are the whole file
+pub record AnswersAsItsFirst (n : ℕ) (file lent : List ℕ) : Type 0 where
+  pub verdict : fileVerdict (take n file) lent ≡ fileVerdict file lent
+  pub whole : fileVerdict file lent ≡ accepted → take n file ≡ file
+
+module _ (n : ℕ) (enough : fileBytes mostSamples < n) (file lent : List ℕ) where
+  -- a file of more than n bytes is refused with 8, by m, or else with 9; so are its first n bytes
+  module _ (h : n < length file) where
+    cut : length (take n file) ≡ n
+    cut = length-take-le n file (omega arith)
+
+    same-count : sampleCount (take n file) ≡ sampleCount file
+    same-count = omega (arith, getD-take n file 0 0 (omega arith), getD-take n file 1 0 (omega arith), getD-take n file 2 0 (omega arith), getD-take n file 3 0 (omega arith))
+
+    alike : {answer : FileAnswer} → TurnedDown (take n file) lent answer → TurnedDown file lent answer → fileVerdict (take n file) lent ≡ fileVerdict file lent
+    alike t u = sym (t .verdict) ∙ u .verdict
+
+    past : Passed7 file
+    past = record { header = omega arith }
+
+    past-cut : Passed7 (take n file)
+    past-cut = record { header = omega (arith, cut) }
+
+    bad-count : (sampleCount file ≡ 0) ⊎ (mostSamples < sampleCount file) → fileVerdict (take n file) lent ≡ fileVerdict file lent
+    bad-count b = alike (refused-8 past-cut (rw same-count b)) (refused-8 past b)
+
+    too-long : 1 ≤ sampleCount file → sampleCount file ≤ mostSamples → fileVerdict (take n file) lent ≡ fileVerdict file lent
+    too-long s m =
+        alike
+        (refused-9 (record { past = past-cut; some = omega (arith, same-count); most = omega (arith, same-count) }) (λ e. omega (arith, cut, same-count)))
+        (refused-9 (record { past = past; some = s; most = m }) (λ e. omega arith))
+
+    both-refused : fileVerdict (take n file) lent ≡ fileVerdict file lent
+    both-refused = ⊎-elim
+        (λ s. ⊎-elim (too-long s) (λ l. bad-count (inr l)) (le-or-lt (sampleCount file) mostSamples))
+        (λ l. bad-count (inl (omega arith)))
+        (le-or-lt 1 (sampleCount file))
+
+  pub answers-as-its-first : AnswersAsItsFirst n file lent
+  answers-as-its-first = record {
+    verdict = ⊎-elim (λ l. ap (λ f. fileVerdict f lent) (take-all n file l)) both-refused (le-or-lt (length file) n);
+    whole = λ ok. let p = accepted-9 file lent ok in take-all n file (omega arith);
+  }
+
+-- ---- the law, with the number
+unfoldable pub firstBytes : ℕ
+firstBytes = fileBytes mostSamples + 1
+
+pub first-bytes : firstBytes ≡ 32777
+unfolding firstBytes
+first-bytes = refl
+
+pub longer : (file lent : List ℕ) → AnswersAsItsFirst firstBytes file lent
+longer = answers-as-its-first firstBytes (omega (arith, first-bytes))

@@ -1,0 +1,58 @@
+-- "Two different accepted files never read as the same m, N and samples": a file is the list of its numbers of four bytes, and each of them is read.
+-- Assumes nothing.
+use mathlib.Core.List.{List}
+use mathlib.Core.Path.{_≡_, subst}
+use mathlib.Core.Logic.{⊎-elim}
+use Prim.Native.Nat.{ℕ, zero, suc, _+_, _-_, _*_, _/_, _%_, _<_}
+use native.Mathlib.Omega.{arith}
+use lib.ListN.{length}
+use lib.Seq.{ext-getD}
+use Rattle.whole.proofs.Cases.{le-or-lt}
+use Rattle.refusals.specs.Refusals.{accepted}
+use Rattle.little_endian.specs.Numbers.{byte, unsigned, signed}
+use Rattle.little_endian.proofs.Bytes.{AreBytes, unsigned-fits, unsigned-once}
+use Rattle.little_endian.proofs.Signs.{signed-once}
+use Rattle.pairfile.specs.File.{sampleCount, blockLength, samplesOfA, samplesOfB, fileVerdict}
+use Rattle.pairfile.proofs.Verdicts.{Passed9, accepted-9}
+
+-- the files f and g read as the same m, N and samples
+pub record SameReading (f g : List ℕ) : Type 0 where
+  pub samples : sampleCount f ≡ sampleCount g
+  pub length : blockLength f ≡ blockLength g
+  pub ofA : (n : ℕ) → n < sampleCount f → samplesOfA f n ≡ samplesOfA g n
+  pub ofB : (n : ℕ) → n < sampleCount f → samplesOfB f n ≡ samplesOfB g n
+
+-- two accepted files that do so are one file, whatever recordings are lent for each
+abbrev pub OneFile : Type 0
+OneFile =
+    (f g lent lent′ : List ℕ) → AreBytes f → AreBytes g → fileVerdict f lent ≡ accepted → fileVerdict g lent′ ≡ accepted
+    → SameReading f g → f ≡ g
+
+module _ (f g : List ℕ) (hf : AreBytes f) (hg : AreBytes g) (p : Passed9 f) (q : Passed9 g) (same : SameReading f g) where
+  as-long : length f ≡ length g
+  as-long = omega (arith, p .bytes, q .bytes, same .samples)
+
+  -- equal samples, at the place of number w
+  sample-once : (w i j : ℕ) → w < 2 + 2 * sampleCount f → i ≡ 4 * w → j ≡ 4 * w → signed (unsigned f i) ≡ signed (unsigned g j) → unsigned f (4 * w) ≡ unsigned g (4 * w)
+  sample-once w i j h eᵢ eⱼ e =
+      signed-once (unsigned-fits f (4 * w) hf (omega (arith, p .bytes))) (unsigned-fits g (4 * w) hg (omega (arith, p .bytes, as-long))) (rw (eᵢ, eⱼ) at e)
+
+  -- number w of the file: m, N, a sample of a or a sample of b
+  number : (w : ℕ) → w < 2 + 2 * sampleCount f → unsigned f (4 * w) ≡ unsigned g (4 * w)
+  number zero h = same .samples
+  number (suc zero) h = same .length
+  number (suc (suc n)) h = ⊎-elim
+      (λ l. sample-once (suc (suc n)) _ _ h (omega arith) (omega (arith, same .samples)) (same .ofB (n - sampleCount f) (omega arith)))
+      (λ l. sample-once (suc (suc n)) _ _ h (omega arith) (omega arith) (same .ofA n l))
+      (le-or-lt (sampleCount f) n)
+
+  byte-same : (k : ℕ) → k < length f → byte f k ≡ byte g k
+  byte-same k h =
+      subst (λ i. byte f i ≡ byte g i) {x = 4 * (k / 4) + k % 4} {y = k} (omega arith)
+      (unsigned-once f g (4 * (k / 4)) hf hg (omega (arith, p .bytes)) (omega (arith, p .bytes, as-long)) (number (k / 4) (omega (arith, p .bytes))) (k % 4) (omega arith))
+
+pub one-file : OneFile
+one-file f g lent lent′ hf hg af ag same =
+    let p = accepted-9 f lent af in
+    let q = accepted-9 g lent′ ag in
+    ext-getD 0 f g (as-long f g hf hg p q same) (byte-same f g hf hg p q same)

@@ -1,0 +1,140 @@
+-- `pairfile::read` meets its contract. Assumes nothing.
+use mathlib.Core.Path.{_≡_, sym, ap, _∙_}
+use mathlib.Core.List.{List, [], _∷_}
+use mathlib.Core.Logic.{inl, inr}
+use Prim.Native.Nat.{ℕ, _+_}
+use native.Mathlib.Omega.{arith}
+use lib.ListN.{length}
+use borrow.Author.Needs.{needs}
+use borrow.Author.Tests.{not-true, not-false}
+use Rattle.ffct.specs.Block.{isLength}
+use Rattle.refusals.specs.Refusals.{firstOut}
+use Rattle.refusals.proofs.Ranges.{first-to}
+use Rattle.pairfile.specs.File.{sampleCount, blockLength, samplesOfA, samplesOfB}
+use Rattle.pairfile.proofs.Verdicts.{Passed7, Passed8, Passed9, Passed1, Passed3, Passed6, refused-7, refused-8, refused-9, refused-1, refused-3, refused-6, read-refused, read-accepted}
+use Rattle.pairfile.proofs.read.Statement.{statement}
+use Rattle.pairfile.proofs.read.Tie as tie
+
+-- ---- places on the way, from later ones: the start, the test of m, those of the recordings, the search of a
+abbrev start : tie.Else3 → tie.Start
+start c = c .before .before .before .before .before
+
+abbrev counted : tie.Else7 → tie.Else3
+counted c = c .before .before .before .before .before .before
+
+abbrev searched : tie.After-first-out2 → tie.Else8
+searched c = c .before
+
+abbrev fileAt : tie.Start → List ℕ
+fileAt c = c .args .file .now
+
+abbrev file : tie.Else7 → List ℕ
+file c = fileAt (start (counted c))
+
+abbrev lent : tie.Else7 → List ℕ
+lent c = length (start (counted c) .args .a .now) ∷ length (start (counted c) .args .b .now) ∷ []
+
+-- ---- what is known of the file after each test
+passed-7 : (c : tie.Else1) → Passed7 (fileAt (c .before .before))
+passed-7 c = record { header = c .if1 .left }
+
+passed-8 : (c : tie.Else3) → Passed8 (fileAt (start c))
+passed-8 c = record { past = passed-7 (c .before .before .before); some = omega arith; most = omega arith }
+
+passed-9 : (c : tie.Else4) → Passed9 (fileAt (start (c .before)))
+passed-9 c = record { past = passed-8 (c .before); bytes = omega arith }
+
+-- N is what the second four bytes hold
+blocks : (c : tie.After-is-length) → isLength (blockLength (fileAt (start (c .before .before .before)))) ≡ c .is-length .result
+blocks c = sym (c .is-length .ensures ∙ ap isLength (c .before .unsigned-at2 .ensures))
+
+passed-1 : (c : tie.Else5) → Passed1 (fileAt (start (c .before .before .before .before)))
+passed-1 c = record { past = passed-9 (c .before .before .before); blocks = blocks (c .before) ∙ not-false _ (c .if5 .left) }
+
+passed-3 : (c : tie.Else7) → Passed3 (file c) (lent c)
+passed-3 c = record { past = passed-1 (c .before .before); recordings = (omega arith, (omega arith, tt)) }
+
+-- m is what the first four bytes hold
+count : (c : tie.Else7) → counted c .before .before .unsigned-at .result ≡ sampleCount (file c)
+count c = counted c .before .before .unsigned-at .ensures
+
+-- what the two searches find
+out-of-a : (c : tie.After-first-out) → let f = file (c .before) in c .first-out .result ≡ firstOut (samplesOfA f) 0 (sampleCount f)
+out-of-a c = rw (count (c .before)) at (c .first-out .ensures)
+
+out-of-b : (c : tie.After-first-out2) → let f = file (searched c .before .before) in c .first-out2 .result ≡ firstOut (samplesOfB f) 0 (sampleCount f)
+out-of-b c = rw (count (searched c .before .before)) at (c .first-out2 .ensures)
+
+in-a : (c : tie.Else8) → let f = file (c .before .before) in firstOut (samplesOfA f) 0 (sampleCount f) ≡ 0 + sampleCount f
+in-a c = let f = file (c .before .before) in omega (arith, out-of-a (c .before), first-to (samplesOfA f) 0 (sampleCount f))
+
+in-b : (c : tie.Else9) → let f = file (searched (c .before) .before .before) in firstOut (samplesOfB f) 0 (sampleCount f) ≡ 0 + sampleCount f
+in-b c = let f = file (searched (c .before) .before .before) in omega (arith, out-of-b (c .before), first-to (samplesOfB f) 0 (sampleCount f))
+
+passed-6 : (c : tie.Else9) → let p = searched (c .before) .before .before in Passed6 (file p) (lent p)
+passed-6 c = let s = searched (c .before) in record { past = passed-3 (s .before .before); range = (in-a s, (in-b c, tt)) }
+
+-- ---- the refusals
+returns : tie.Need-returns
+returns c = read-refused (refused-7 (c .if1 .taken))
+
+returns-2 : tie.Need-returns-2
+returns-2 c = read-refused (refused-8 (passed-7 (c .before .before)) (inl (omega arith)))
+
+returns-3 : tie.Need-returns-3
+returns-3 c = read-refused (refused-8 (passed-7 (c .before .before .before)) (inr (omega arith)))
+
+returns-4 : tie.Need-returns-4
+returns-4 c = read-refused (refused-9 (passed-8 (c .before)) (λ e. omega arith))
+
+returns-5 : tie.Need-returns-5
+returns-5 c = read-refused (refused-1 (passed-9 (c .before .before .before)) (blocks (c .before) ∙ not-true _ (c .if5 .taken)))
+
+returns-6 : tie.Need-returns-6
+returns-6 c = read-refused (refused-3 (passed-1 (c .before)) (inl (omega arith)))
+
+returns-7 : tie.Need-returns-7
+returns-7 c = read-refused (refused-3 (passed-1 (c .before .before)) (inr (inl (omega arith))))
+
+returns-8 : tie.Need-returns-8
+returns-8 c = read-refused (refused-6 (passed-3 (c .before .before)) (inl (out-of-a (c .before), omega arith)))
+
+returns-9 : tie.Need-returns-9
+returns-9 c = let s = searched (c .before) in read-refused (refused-6 (passed-3 (s .before .before)) (inr (in-a s, inl (out-of-b (c .before), omega arith))))
+
+-- ---- the accepted file
+returns-10 : tie.Need-returns-10
+returns-10 c =
+    let tested = c .before .before .before .before .before .before in
+    let p = searched (tested .before) .before .before in
+    read-accepted _ (passed-6 tested) (count p) (p .before .before .before .before .unsigned-at2 .ensures) (c .before .before .before .before .fill .ensures) (c .before .fill2 .ensures)
+
+pub read-spec : {M : Type 1} → statement M
+read-spec =
+    tie.close
+    (tie.spec
+    returns
+    (λ c κs. search needs)  -- unsigned-at-requires
+    (λ c. search needs)  -- cast-m
+    returns-2
+    returns-3
+    (λ c. search needs)  -- mul-if4
+    (λ c. search needs)  -- add-if4
+    returns-4
+    (λ c κs. search needs)  -- unsigned-at-requires-2
+    (λ c. search needs)  -- cast-n
+    (λ c κs. search needs)  -- is-length-requires
+    returns-5
+    returns-6
+    returns-7
+    (λ c. search needs)  -- mul-of-b
+    (λ c. search needs)  -- add-of-b
+    (λ c κs. search needs)  -- first-out-requires
+    returns-8
+    (λ c κs. search needs)  -- first-out-requires-2
+    returns-9
+    (λ c κs. search needs)  -- fill-requires
+    (λ c κs. search needs)  -- fill-requires-2
+    (λ c. search needs)  -- same-length
+    (λ c. search needs)  -- same-length-2
+    returns-10)

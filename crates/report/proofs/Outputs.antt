@@ -1,0 +1,112 @@
+-- The whole output: that of a file that is turned down, and that of a file that was read, from the recordings that hold its samples.
+-- Assumes nothing.
+use mathlib.Core.Bool.{true}
+use mathlib.Core.Path.{_≡_, refl, sym, ap, ap₂, _∙_}
+use mathlib.Core.List.{List, [], _∷_, _++_}
+use Prim.Native.Nat.{ℕ, zero, suc, _+_, _*_, _/_, _≤_, _<_}
+use native.Mathlib.Omega.{arith}
+use lib.IntN.{ℤ, natAbs}
+use lib.ListN.{length, take}
+use Rattle.ffct.specs.Block.{Samples, isLength, level, largestSample}
+use Rattle.ffct.proofs.Lengths.{pow-len}
+use Rattle.ffct.proofs.ElevenLengths.{is-power, length-le}
+use Rattle.ffct.proofs.Blocks.{Same, pair-same}
+use Rattle.transforms.specs.Words.{word}
+use Rattle.refusals.specs.Refusals.{Verdict, refused, refusedAt, accepted, number}
+use Rattle.text.specs.Lines.{heading, refusal, lines}
+use Rattle.pairfile.specs.declared.FileAnswer.{FileAnswer}
+use Rattle.pairfile.specs.declared.FileAnswer.the-variants.{BelowHeader, BadCount, BadFileLength, BadLength, RecordingTooShort, OutOfRange, Read}
+use Rattle.pairfile.specs.File.{sampleCount, blockLength, samplesOfA, samplesOfB, mostSamples, fileVerdict}
+use Rattle.pairfile.specs.Answers.{verdictOf}
+use Rattle.pairfile.specs.Promises.{ReadDone}
+use Rattle.pairfile.proofs.Longer.{firstBytes, longer}
+use Rattle.report.specs.Output.{pairAt, blockLines, spectra, printed, output}
+use Rattle.report.specs.Puts.{Printable}
+use Rattle.report.proofs.Printing.{whole-blocks, next-block}
+
+-- ---- the number of an answer
+pub one-digit : (answer : FileAnswer) → number (verdictOf answer) < 10
+one-digit BelowHeader = omega arith
+one-digit BadCount = omega arith
+one-digit BadFileLength = omega arith
+one-digit BadLength = omega arith
+one-digit RecordingTooShort = omega arith
+one-digit (OutOfRange place) = omega arith
+one-digit (Read sizes) = omega arith
+
+pub none-accepted : (answer : FileAnswer) → number (verdictOf answer) ≡ 0 → verdictOf answer ≡ accepted
+none-accepted BelowHeader e = absurd (omega arith)
+none-accepted BadCount e = absurd (omega arith)
+none-accepted BadFileLength e = absurd (omega arith)
+none-accepted BadLength e = absurd (omega arith)
+none-accepted RecordingTooShort e = absurd (omega arith)
+none-accepted (OutOfRange place) e = absurd (omega arith)
+none-accepted (Read sizes) e = refl
+
+-- ---- the output, by the answer of the reader
+module _ (file : List ℕ) where
+  pub refused-output : (answer : FileAnswer) → verdictOf answer ≡ fileVerdict file (mostSamples ∷ mostSamples ∷ []) → (number (verdictOf answer) ≡ 0 → ⊥)
+      → output file ≡ refusal (number (verdictOf answer))
+  unfolding output
+  refused-output BelowHeader e n = rw (sym e) refl
+  refused-output BadCount e n = rw (sym e) refl
+  refused-output BadFileLength e n = rw (sym e) refl
+  refused-output BadLength e n = rw (sym e) refl
+  refused-output RecordingTooShort e n = rw (sym e) refl
+  refused-output (OutOfRange place) e n = rw (sym e) refl
+  refused-output (Read sizes) e n = absurd (n refl)
+
+  pub read-output : (answer : FileAnswer) → verdictOf answer ≡ fileVerdict file (mostSamples ∷ mostSamples ∷ []) → verdictOf answer ≡ accepted
+      → output file ≡ spectra (sampleCount file) (blockLength file) (samplesOfA file) (samplesOfB file)
+  unfolding output
+  read-output answer e a = rw (sym e ∙ a) refl
+
+-- ---- equal recordings have equal lines
+module _ {m : ℕ} (N : ℕ) (ok : isLength N ≡ true) (a a′ b b′ : Samples) (e : (n : ℕ) → n < m → a n ≡ a′ n) (d : (n : ℕ) → n < m → b n ≡ b′ n) where
+  same-pair : (i : ℕ) → i * N + N ≤ m → pairAt N a b i ≡ pairAt N a′ b′ i
+  same-pair i h = pair-same (level N) _ _ _ _
+      (λ n l. e (i * N + n) (omega (arith, pow-len (level N), is-power N ok)))
+      (λ n l. d (i * N + n) (omega (arith, pow-len (level N), is-power N ok)))
+
+  pub same-blocks : (i : ℕ) → i * N ≤ m → blockLines N a b i ≡ blockLines N a′ b′ i
+  unfolding blockLines
+  same-blocks zero h = refl
+  same-blocks (suc i) h =
+      let fits : i * N + N ≤ m = omega (arith, next-block i N) in
+      ap₂ _++_ (same-blocks i (omega arith)) (ap (λ p. lines i (p .real) (p .imaginary) N) (same-pair i fits))
+
+-- ---- a file that was read
+module _ {file : List ℕ} {a b a′ b′ : List ℤ} {m N : ℕ} (r : ReadDone file a b a′ b′ m N) where
+  pub read-spectra : spectra m N (word a′) (word b′) ≡ spectra (sampleCount file) (blockLength file) (samplesOfA file) (samplesOfB file)
+  read-spectra =
+      ap (λ l. heading ++ l)
+      (same-blocks N (r .length-ok) (word a′) (samplesOfA file) (word b′) (samplesOfB file) (r .wordsOfA .words) (r .wordsOfB .words) (m / N) (whole-blocks (m / N) m N (r .length-ok) (omega arith)))
+      ∙ ap₂ (λ m N. spectra m N (samplesOfA file) (samplesOfB file)) (r .samples) (r .length)
+
+  pub read-printable : {real imaginary scratch : List ℤ} → mostSamples ≤ length a → mostSamples ≤ length b → 1024 ≤ length real → 1024 ≤ length imaginary
+      → 8256 ≤ length scratch → Printable m N a′ b′ real imaginary scratch
+  read-printable f g h i j =
+      let short = length-le N (r .length-ok) in
+      record {
+        length-ok = r .length-ok;
+        most = r .most;
+        wordsOfA = omega (arith, r .most, r .wordsOfA .len);
+        wordsOfB = omega (arith, r .most, r .wordsOfB .len);
+        rangeOfA = λ n l. rw (r .wordsOfA .words n l) (r .rangeOfA n l);
+        rangeOfB = λ n l. rw (r .wordsOfB .words n l) (r .rangeOfB n l);
+        realWords = omega arith;
+        imaginaryWords = omega arith;
+        scratchFits = omega arith;
+      }
+
+-- ---- the output for a longer file is that for its first 32,777 bytes, which `pairspec` reads
+same-print : (v : Verdict) (f g : List ℕ) → (v ≡ accepted → f ≡ g) → printed f v ≡ printed g v
+same-print (refused n) f g e = refl
+same-print (refusedAt n place) f g e = refl
+same-print accepted f g e = ap (λ f. printed f accepted) (e refl)
+
+pub longer-output : (file : List ℕ) → output (take firstBytes file) ≡ output file
+unfolding output
+longer-output file =
+    let l = longer file (mostSamples ∷ mostSamples ∷ []) in
+    ap (printed (take firstBytes file)) (l .verdict) ∙ same-print (fileVerdict file (mostSamples ∷ mostSamples ∷ [])) (take firstBytes file) file (l .whole)

@@ -1,0 +1,109 @@
+-- From two recordings to the lines of their blocks: a block that fits is accepted by Pair, and its lines are those of Pair's definition.
+-- Assumes nothing.
+use mathlib.Core.Bool.{true}
+use mathlib.Core.Path.{_≡_, refl, ap₂, _∙_}
+use mathlib.Core.List.{List, _++_}
+use Prim.Native.Nat.{ℕ, zero, suc, _+_, _*_, _/_, _≤_, _<_}
+use native.Mathlib.Nat.{mul-le-mul-left, mul-le-mul-right, suc-mul, div-mul-le-self}
+use native.Mathlib.Numerals.{add-one}
+use native.Mathlib.Omega.{arith}
+use lib.IntN.{ℤ}
+use lib.ListN.{length}
+use lib.Pow.{pow-pos}
+use Rattle.ffct.specs.Block.{Samples, isLength, level}
+use Rattle.ffct.specs.Transforms.{pair as pairOf}
+use Rattle.ffct.proofs.ElevenLengths.{is-power, length-le}
+use Rattle.transforms.specs.Words.{word}
+use Rattle.blocks.specs.Words.{Written}
+use Rattle.refusals.specs.Refusals.{block}
+use Rattle.refusals.proofs.Ranges.{none-out}
+use Rattle.spectra.specs.declared.Answer.{Answer}
+use Rattle.spectra.specs.Answers.{products, sums}
+use Rattle.spectra.specs.Promises.{PairDone, PairPromise}
+use Rattle.spectra.proofs.Verdicts.{is-accepted}
+use Rattle.text.specs.Lines.{line, lines}
+use Rattle.text.specs.Put.{Put}
+use Rattle.text.proofs.Putting.{put-none, _then_}
+use Rattle.report.specs.Output.{pairAt, blockLines}
+use Rattle.report.specs.Puts.{Printable, PutFrom}
+
+-- ---- Pair accepts a block of recordings that are printable up to its end
+module _ (i : ℕ) {N allowance : ℕ} {a b real imaginary scratch real′ imaginary′ scratch′ : List ℤ} {answer : Answer} where
+  pub pair-done : Printable (i * N + N) N a b real imaginary scratch → ((x y : Samples) → allowance ≡ pairOf (level N) x y .products)
+      → PairPromise a b (i * N) N allowance real imaginary scratch real′ imaginary′ scratch′ answer
+      → PairDone N (block a (i * N)) (block b (i * N)) allowance real imaginary scratch real′ imaginary′ scratch′ (products answer) (sums answer)
+  pair-done p e promise = promise .done (promise .verdict ∙ is-accepted (record {
+    past = record {
+      past = record {
+        past = record {
+          past = record { past = record { length = p .length-ok }; recordings = (p .wordsOfA, (p .wordsOfB, tt)) };
+          results = (p .realWords, (p .imaginaryWords, tt));
+        };
+        scratch = p .scratchFits;
+      };
+      allowance = omega (arith, e (block a (i * N)) (block b (i * N)));
+    };
+    range = (none-out (word a) (i * N) N (λ j _ l. p .rangeOfA j l), (none-out (word b) (i * N) N (λ j _ l. p .rangeOfB j l), tt));
+  }))
+
+-- ---- equal coefficients have equal lines
+pub lines-same : (i : ℕ) (f f′ g g′ : Samples) (n : ℕ) → ((k : ℕ) → k < n → f k ≡ f′ k) → ((k : ℕ) → k < n → g k ≡ g′ k) → lines i f g n ≡ lines i f′ g′ n
+unfolding lines
+lines-same i f f′ g g′ zero e d = refl
+lines-same i f f′ g g′ (suc n) e d =
+    ap₂ _++_ (lines-same i f f′ g g′ n (λ k h. e k (omega arith)) (λ k h. d k (omega arith))) (ap₂ (line i n) (e n (omega arith)) (d n (omega arith)))
+
+-- ---- the number of a block, and the lines of all blocks up to it, are small
+pub some-samples : (N : ℕ) → isLength N ≡ true → 1 ≤ N
+some-samples N h = omega (arith, is-power N h, pow-pos (level N))
+
+pub few-blocks : (i N m : ℕ) → isLength N ≡ true → i * N + N ≤ m → i < m
+few-blocks i N m h l = omega (arith, some-samples N h, mul-le-mul-left i (some-samples N h))
+
+pub whole-blocks : (i m N : ℕ) → isLength N ≡ true → i ≤ m / N → i * N ≤ m
+whole-blocks i m N h l = omega (arith, some-samples N h, mul-le-mul-right N l, div-mul-le-self m N)
+
+pub next-block : (i N : ℕ) → (i + 1) * N ≡ i * N + N
+next-block i N = rw add-one (suc-mul i N)
+
+pub printable-block : {m N : ℕ} (i : ℕ) {a b real imaginary scratch real′ imaginary′ scratch′ : List ℤ} → Printable m N a b real imaginary scratch → i < m / N
+    → length real′ ≡ length real → length imaginary′ ≡ length imaginary → length scratch′ ≡ length scratch → Printable (i * N + N) N a b real′ imaginary′ scratch′
+printable-block {m} {N} i p l r s t =
+    let fits : i * N + N ≤ m = omega (arith, whole-blocks (i + 1) m N (p .length-ok) (omega arith), next-block i N) in
+    record {
+      length-ok = p .length-ok;
+      most = omega (arith, p .most);
+      wordsOfA = omega (arith, p .wordsOfA);
+      wordsOfB = omega (arith, p .wordsOfB);
+      rangeOfA = λ n h. p .rangeOfA n (omega arith);
+      rangeOfB = λ n h. p .rangeOfB n (omega arith);
+      realWords = omega (arith, p .realWords);
+      imaginaryWords = omega (arith, p .imaginaryWords);
+      scratchFits = omega (arith, p .scratchFits);
+    }
+
+-- ---- what the loop over the blocks has put when it comes to block i
+pub record Blocks (N : ℕ) (a b : List ℤ) (i at : ℕ) (page : List ℕ) (next : ℕ) (page′ : List ℕ) (real imaginary scratch real′ imaginary′ scratch′ : List ℤ) : Type 0 where
+  pub put : Put page at (blockLines N (word a) (word b) i) next page′
+  pub fits : next ≤ at + 34 * (i * N)
+  pub realWords : length real′ ≡ length real
+  pub imaginaryWords : length imaginary′ ≡ length imaginary
+  pub scratchWords : length scratch′ ≡ length scratch
+
+module _ (N : ℕ) (a b : List ℤ) {at : ℕ} {page : List ℕ} {real imaginary scratch : List ℤ} where
+  pub no-blocks : at ≤ length page → Blocks N a b 0 at page at page real imaginary scratch real imaginary scratch
+  unfolding blockLines
+  no-blocks h = record { put = put-none h; fits = omega arith; realWords = refl; imaginaryWords = refl; scratchWords = refl }
+
+  pub one-more : (i : ℕ) {next next′ : ℕ} {page′ page″ : List ℕ} {real′ imaginary′ scratch′ real″ imaginary″ scratch″ : List ℤ}
+      → Blocks N a b i at page next page′ real imaginary scratch real′ imaginary′ scratch′
+      → PutFrom page′ next (lines i (pairAt N (word a) (word b) i .real) (pairAt N (word a) (word b) i .imaginary) N) (34 * N) next′ page″ real′ imaginary′ scratch′ real″ imaginary″ scratch″
+      → Blocks N a b (i + 1) at page next′ page″ real imaginary scratch real″ imaginary″ scratch″
+  unfolding blockLines
+  one-more i p q = record {
+    put = rw add-one (p .put then q .put);
+    fits = omega (arith, p .fits, q .fits, next-block i N);
+    realWords = q .realWords ∙ p .realWords;
+    imaginaryWords = q .imaginaryWords ∙ p .imaginaryWords;
+    scratchWords = q .scratchWords ∙ p .scratchWords;
+  }

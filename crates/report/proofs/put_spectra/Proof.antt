@@ -1,0 +1,80 @@
+-- `report::put_spectra` meets its contract: when the loop comes to a block, the lines of the blocks before it are put behind the heading. Assumes nothing.
+use mathlib.Core.Path.{_≡_}
+use Prim.Native.Nat.{_+_, _-_, _/_, _≤_}
+use native.Mathlib.Nat.{div-le-self}
+use native.Mathlib.Omega.{arith}
+use borrow.Author.Needs.{needs}
+use lib.ListN.{length}
+use Rattle.text.proofs.Putting.{_then_}
+use Rattle.report.proofs.Printing.{some-samples, whole-blocks, next-block, printable-block, Blocks, no-blocks, one-more}
+use Rattle.report.proofs.put_spectra.Statement.{statement}
+use Rattle.report.proofs.put_spectra.Tie as tie
+
+abbrev Inv-loop : tie.InvT-loop
+Inv-loop a b m n real₀ imaginary₀ scratch₀ page₀ count at₀ block₀ real imaginary scratch page at block =
+    (block ≤ count) × (count ≤ 4096) × Blocks n a b block at₀ page₀ at page real₀ imaginary₀ scratch₀ real imaginary scratch
+
+abbrev μ-loop : tie.MeasureT-loop
+μ-loop a b m n real₀ imaginary₀ scratch₀ page₀ count at₀ block₀ real imaginary scratch page at block = count - block
+
+div-count : tie.Need-div-count Inv-loop μ-loop
+div-count c = omega (arith, some-samples _ (c .before .pre .0 .length-ok))
+
+put-heading-requires : tie.Need-put-heading-requires Inv-loop μ-loop
+put-heading-requires c κs = search needs
+
+loop-holds : tie.Need-loop-holds Inv-loop μ-loop
+loop-holds c =
+    let s = c .before .before .before .before .before in
+    (search needs, omega (arith, s .pre .0 .most, div-le-self (s .args .m) (s .args .n)), no-blocks _ _ _ (omega arith))
+
+put-block-requires : tie.Need-put-block-requires Inv-loop μ-loop
+put-block-requires c κs =
+    let i = c .before .before .before .before in
+    let l = i .before in
+    let s = l .before .before .before .before .before .before in
+    let p = s .pre .0 in
+    let v = l .loop .inv .2 in (
+      printable-block (l .loop .block) p (omega arith) (v .realWords) (v .imaginaryWords) (v .scratchWords),
+      omega (arith, whole-blocks (l .loop .block + 1) (s .args .m) (s .args .n) (p .length-ok) (omega arith), next-block (l .loop .block) (s .args .n), v .fits),
+    )
+
+loop-again : tie.Need-loop-again Inv-loop μ-loop
+loop-again c =
+    let b = c .before .before .before .before .before in
+    let l = b .before .before .before .before .before .before in
+    (search needs, search needs, one-more _ _ _ (l .loop .block) (l .loop .inv .2) (b .put-block .ensures))
+
+returns : tie.Need-returns Inv-loop μ-loop
+returns c =
+    let l = c .before in
+    let h = l .before .before .before in
+    let s = h .before .before .before in
+    let v = l .loop .inv .2 in
+    let all : l .loop .block ≡ s .args .m / s .args .n = omega (arith, l .loop .inv .0) in
+    record {
+      put = rw all at (h .put-heading .ensures then v .put);
+      fits = omega (arith, v .fits, h .put-heading .ensures .next-is, whole-blocks (l .loop .block) (s .args .m) (s .args .n) (s .pre .0 .length-ok) (l .loop .inv .0));
+      realWords = v .realWords;
+      imaginaryWords = v .imaginaryWords;
+      scratchWords = v .scratchWords;
+    }
+
+pub put-spectra-spec : {M : Type 1} → statement M
+put-spectra-spec =
+    tie.close
+    (tie.spec
+    Inv-loop
+    μ-loop
+    div-count
+    put-heading-requires
+    loop-holds
+    put-block-requires
+    (λ c. search needs)  -- add-block
+    (λ c. search needs)  -- loop-less
+    loop-again
+    (λ c. search needs)  -- same-length
+    (λ c. search needs)  -- same-length-2
+    (λ c. search needs)  -- same-length-3
+    (λ c. search needs)  -- same-length-4
+    returns)

@@ -1,0 +1,34 @@
+-- Document 01, "The pair file": all that `pairspec` prints, as bytes, from the bytes of the file.
+use mathlib.Core.List.{List, [], _∷_, _++_}
+use Prim.Native.Nat.{ℕ, zero, suc, _+_, _*_, _/_}
+use Rattle.ffct.specs.Block.{Samples, level}
+use Rattle.ffct.specs.Transforms.{PairSpectrum, pair}
+use Rattle.refusals.specs.Refusals.{Verdict, refused, refusedAt, accepted}
+use Rattle.text.specs.Lines.{heading, refusal, lines}
+use Rattle.pairfile.specs.File.{sampleCount, blockLength, samplesOfA, samplesOfB, mostSamples, fileVerdict}
+
+-- block number i of two recordings, by Pair
+abbrev pub pairAt : ℕ → Samples → Samples → ℕ → PairSpectrum
+pairAt N a b i = pair (level N) (λ n. a (i * N + n)) (λ n. b (i * N + n))
+
+-- "a line for each block and k": the lines of the blocks 0 .. count - 1
+unfoldable pub blockLines : ℕ → Samples → Samples → ℕ → List ℕ
+blockLines N a b zero = []
+blockLines N a b (suc i) = blockLines N a b i ++ lines i (pairAt N a b i .real) (pairAt N a b i .imaginary) N
+
+-- "A tail shorter than N is left out of the blocks; if m is below N there is no block."
+abbrev pub blockCount : ℕ → ℕ → ℕ
+blockCount m N = m / N
+
+abbrev pub spectra : ℕ → ℕ → Samples → Samples → List ℕ
+spectra m N a b = heading ++ blockLines N a b (blockCount m N)
+
+-- "For a refusal it prints one line only": the number alone, also for 6
+abbrev pub printed : List ℕ → Verdict → List ℕ
+printed file (refused number) = refusal number
+printed file (refusedAt number place) = refusal number
+printed file accepted = spectra (sampleCount file) (blockLength file) (samplesOfA file) (samplesOfB file)
+
+-- `pairspec` lends the reader two recordings of 4,096 words, so that 3 never holds
+unfoldable pub output : List ℕ → List ℕ
+output file = printed file (fileVerdict file (mostSamples ∷ mostSamples ∷ []))

@@ -1,0 +1,107 @@
+// All that `pairspec` prints, put into a lent page.
+use pairfile::number_of;
+use pairfile::read;
+use pairfile::sizes_of;
+use spectra::CountsAnswer;
+use spectra::count_query;
+use spectra::pair;
+use text::put_heading;
+use text::put_lines;
+use text::put_refusal;
+ghost use mathlib.Core.Bool.{true};
+ghost use mathlib.Core.Path.{_≡_};
+ghost use Prim.Native.Nat.{_+_, _*_, _/_, _≤_, _<_};
+ghost use lib.ListN.{length};
+ghost use Rattle.ffct.specs.Block.{Samples, isLength, level};
+ghost use Rattle.ffct.specs.Transforms.{pair as pairOf};
+ghost use Rattle.transforms.specs.Words.{word};
+ghost use Rattle.text.specs.Lines.{lines};
+ghost use Rattle.text.specs.Put.{Put};
+ghost use Rattle.report.specs.Output.{pairAt, spectra, output};
+ghost use Rattle.report.specs.Puts.{Printable, PutFrom};
+
+// Just Pair's products, for one block of n samples.
+fn pair_products(n: usize) -> u64
+    requires { ⌜ isLength n ≡ true ⌝ }
+    ensures { λ r. ⌜ ((x y : Samples) → r ≡ pairOf (level n) x y .products) ⌝ }
+{
+    match count_query(n) {
+        CountsAnswer::Counted(counts) => counts.pair.products,
+        CountsAnswer::BadLength => 0,
+    }
+}
+
+// The lines of block number `block`.
+fn put_block(
+    a: &[i32],
+    b: &[i32],
+    block: usize,
+    n: usize,
+    real: &mut [i32],
+    imaginary: &mut [i32],
+    scratch: &mut [i64],
+    page: &mut [u8],
+    at: usize,
+) -> usize
+    requires { ⌜ Printable (block * n + n) n (now a) (now b) (now real) (now imaginary) (now scratch) × (at + 34 * n ≤ length (now page)) ⌝ }
+    ensures { λ r. ⌜ PutFrom (now (page .entry)) at (lines block (pairAt n (word (now (a .entry))) (word (now (b .entry))) block .real) (pairAt n (word (now (a .entry))) (word (now (b .entry))) block .imaginary) n) (34 * n) r (now (page .exit)) (now (real .entry)) (now (imaginary .entry)) (now (scratch .entry)) (now (real .exit)) (now (imaginary .exit)) (now (scratch .exit)) ⌝ }
+{
+    let allowance = pair_products(n);
+    pair(a, b, block * n, n, allowance, real, imaginary, scratch);
+    put_lines(block as u64, real, imaginary, n, page, at)
+}
+
+// The heading, and the lines of every block of two recordings of m samples.
+fn put_spectra(
+    a: &[i32],
+    b: &[i32],
+    m: usize,
+    n: usize,
+    real: &mut [i32],
+    imaginary: &mut [i32],
+    scratch: &mut [i64],
+    page: &mut [u8],
+) -> usize
+    requires { ⌜ Printable m n (now a) (now b) (now real) (now imaginary) (now scratch) × (14 + 34 * m ≤ length (now page)) ⌝ }
+    ensures { λ r. ⌜ PutFrom (now (page .entry)) 0 (spectra m n (word (now (a .entry))) (word (now (b .entry)))) (14 + 34 * m) r (now (page .exit)) (now (real .entry)) (now (imaginary .entry)) (now (scratch .entry)) (now (real .exit)) (now (imaginary .exit)) (now (scratch .exit)) ⌝ }
+{
+    let count = m / n;
+    let mut at = put_heading(page, 0);
+    let mut block = 0;
+    while block < count {
+        at = put_block(a, b, block, n, real, imaginary, scratch, page, at);
+        block += 1;
+    }
+    at
+}
+
+// The whole output for a file. The page has room for 4,096 lines of 34 bytes below the heading.
+pub fn put_output(
+    file: &[u8],
+    a: &mut [i32],
+    b: &mut [i32],
+    real: &mut [i32],
+    imaginary: &mut [i32],
+    scratch: &mut [i64],
+    page: &mut [u8],
+) -> usize
+    requires { ⌜ (length (now a) ≡ 4096) × (length (now b) ≡ 4096) × (1024 ≤ length (now real)) × (1024 ≤ length (now imaginary)) × (8256 ≤ length (now scratch)) × (139278 ≤ length (now page)) ⌝ }
+    ensures { λ r. ⌜ Put (now (page .entry)) 0 (output (now (file .entry))) r (now (page .exit)) ⌝ }
+{
+    let answer = read(file, a, b);
+    let number = number_of(answer);
+    if number != 0 {
+        return put_refusal(number, page, 0);
+    }
+    let sizes = sizes_of(answer);
+    put_spectra(
+        a,
+        b,
+        sizes.samples,
+        sizes.length,
+        real,
+        imaginary,
+        scratch,
+        page,
+    )
+}
