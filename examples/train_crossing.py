@@ -4,7 +4,7 @@
     python3 examples/train_crossing.py > examples/train_crossing.pair
 
 A model, not a recording: 32 samples a second in hundredths of a microstrain. Each axle bends the near abutment as it rolls on and the far one as it rolls off;
-the deck rings at 3.4 Hz, in opposite phase at the two ends where the second mode, 7.1 Hz, is struck; a little noise comes on top. The first block of 256 samples
+the deck rings at 3.8 Hz, in opposite phase at the two ends where the second mode, 7.1 Hz, is struck; a little noise comes on top. The first block of 256 samples
 holds the crossing, the second the ringing after it; the last 88 samples are a tail that makes no block.
 """
 import math
@@ -16,7 +16,7 @@ RATE = 32            # samples a second
 SAMPLES = 600
 BLOCK = 256
 SPAN = 24.0          # metres
-SPEED = 14.0         # metres a second
+SPEED = 16.0         # metres a second
 AXLES = [car * 21.0 + offset for car in range(4) for offset in (0.0, 2.5, 14.0, 16.5)]
 WEIGHT = 2600.0      # hundredths of a microstrain for one axle above an abutment
 
@@ -38,10 +38,10 @@ def main():
     for n in range(SAMPLES):
         t = n / RATE
         places = [SPEED * (t - 1.0) - axle for axle in AXLES]
-        first = 420 * ringing(t, 3.4, 0.35, strokes)
+        first = 420 * ringing(t, 3.8, 0.25, strokes)
         second = 260 * ringing(t, 7.1, 0.6, strokes)
-        a.append(WEIGHT * sum(bending(x) for x in places) + first + second + rng.gauss(0, 40))
-        b.append(WEIGHT * sum(bending(SPAN - x) for x in places) + first - second + rng.gauss(0, 40))
+        a.append(WEIGHT * sum(bending(x) for x in places) + first + second + rng.gauss(0, 25))
+        b.append(WEIGHT * sum(bending(SPAN - x) for x in places) + first - second + rng.gauss(0, 25))
     words = [round(x) for x in a + b]
     assert all(-1_000_000 <= x <= 1_000_000 for x in words)
     sys.stdout.buffer.write(struct.pack("<II", SAMPLES, BLOCK) + struct.pack("<%di" % len(words), *words))

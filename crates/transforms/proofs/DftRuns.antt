@@ -49,8 +49,7 @@ module _ (transform : ℕ → Samples → Transform) (fold : ℕ → Samples →
   -- the even samples are put at n
   pub record Run₁ (n : ℕ) (w₀ w₁ : List ℤ) : Type 0 where
     pub ready : Ready n (dftRoom n) w₀
-    pub not-one : n ≡ 1 → ⊥
-    pub not-two : n ≡ 2 → ⊥
+    pub many : 2 < n
     pub evens-put : Filled n (n / 2) (evens (word w₀)) w₀ w₁
 
   -- they are transformed, with p products and a sums
@@ -72,15 +71,15 @@ module _ (transform : ℕ → Samples → Transform) (fold : ℕ → Samples →
   module _ {n : ℕ} {w₀ w₁ : List ℤ} (r : Run₁ n w₀ w₁) where
     -- n is 4 m, and m is the length of level l
     pub l : ℕ
-    l = quarters (r .ready .level) n (as-len (r .ready)) (r .not-one) (r .not-two) .0
+    l = quarters (r .ready .level) n (as-len (r .ready)) (r .many) .0
 
     pub level-is : r .ready .level ≡ suc (suc l)
     unfolding l
-    level-is = quarters (r .ready .level) n (as-len (r .ready)) (r .not-one) (r .not-two) .1
+    level-is = quarters (r .ready .level) n (as-len (r .ready)) (r .many) .1
 
     pub four-m : n ≡ 4 * len l
     unfolding l
-    four-m = quarters (r .ready .level) n (as-len (r .ready)) (r .not-one) (r .not-two) .2
+    four-m = quarters (r .ready .level) n (as-len (r .ready)) (r .many) .2
 
     pub room : 2 * n + (n + 1) / 2 ≤ length w₀
     room = r .ready .fits

@@ -78,7 +78,7 @@ pub halves : (L n : ℕ) → n ≡ len L → (n ≡ 1 → ⊥) → (l : ℕ) × 
 halves zero n e h = absurd (h e)
 halves (suc l) n e h = (l, refl, e)
 
-pub quarters : (L n : ℕ) → n ≡ len L → (n ≡ 1 → ⊥) → (n ≡ 2 → ⊥) → (l : ℕ) × (L ≡ suc (suc l)) × (n ≡ 4 * len l)
-quarters zero n e h g = absurd (h e)
-quarters (suc zero) n e h g = absurd (g e)
-quarters (suc (suc l)) n e h g = (l, refl, omega arith)
+pub quarters : (L n : ℕ) → n ≡ len L → 2 < n → (l : ℕ) × (L ≡ suc (suc l)) × (n ≡ 4 * len l)
+quarters zero n e h = absurd (omega arith)
+quarters (suc zero) n e h = absurd (omega arith)
+quarters (suc (suc l)) n e h = (l, refl, omega arith)

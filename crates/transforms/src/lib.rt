@@ -1,18 +1,20 @@
 // Cosine-DFT, sine-DFT and DCT in place, over words that the caller lends. The three call each other in a cycle; each function promises the definition of
 // the crate ffct, values and counts together. A part of the lent words holds the input on entry and the result on return; what a transform needs
 // for itself stands behind it, and it lends the tail of the slice on.
+pub mod base;
 pub mod fold;
 pub mod join;
 pub mod rotate;
 pub mod tally;
 
+use base::cosine_base;
+use base::sine_base;
 use fold::put_evens;
 use fold::put_folded_differences;
 use fold::put_folded_sums;
 use fold::rearrange;
 use join::join_cosine;
 use join::join_sine;
-use join::sum_and_difference;
 use rotate::rotate_all;
 use tally::Tally;
 use tally::total;
@@ -26,18 +28,8 @@ pub fn cosine_dft(wave: &[i32; 1025], w: &mut [i64], n: usize) -> Tally
     requires { ⌜ IsQuarterWave (now wave) × Ready n (dftRoom n) (now w) ⌝ }
     ensures { λ r. ⌜ Transformed cosineDft n (n / 2 + 1) (now (w .entry)) (now (w .exit)) (r .products) (r .sums) ⌝ }
 {
-    if n == 1 {
-        return Tally {
-            products: 0,
-            sums: 0,
-        };
-    }
-    if n == 2 {
-        let sums = sum_and_difference(w);
-        return Tally {
-            products: 0,
-            sums: sums,
-        };
+    if n <= 2 {
+        return cosine_base(w, n);
     }
     put_evens(w, n, n);
     let even = cosine_dft(wave, &mut w[n..], n / 2);
@@ -45,9 +37,10 @@ pub fn cosine_dft(wave: &[i32; 1025], w: &mut [i64], n: usize) -> Tally
     let folded = put_folded_sums(w, n, b);
     let odd = dct(wave, &mut w[b..], n / 4);
     let joined = join_cosine(w, n);
+    let sums = folded + joined;
     let step = Tally {
         products: 0,
-        sums: folded + joined,
+        sums: sums,
     };
     total(even, odd, step)
 }
@@ -58,12 +51,7 @@ pub fn sine_dft(wave: &[i32; 1025], w: &mut [i64], n: usize) -> Tally
     ensures { λ r. ⌜ Transformed sineDft n (n / 2 + 1) (now (w .entry)) (now (w .exit)) (r .products) (r .sums) ⌝ }
 {
     if n <= 2 {
-        w[0] = 0;
-        w[1] = 0;
-        return Tally {
-            products: 0,
-            sums: 0,
-        };
+        return sine_base(w, n);
     }
     put_evens(w, n, n);
     let even = sine_dft(wave, &mut w[n..], n / 2);
@@ -71,9 +59,10 @@ pub fn sine_dft(wave: &[i32; 1025], w: &mut [i64], n: usize) -> Tally
     let folded = put_folded_differences(w, n, b);
     let odd = dct(wave, &mut w[b..], n / 4);
     let joined = join_sine(w, n);
+    let sums = folded + joined;
     let step = Tally {
         products: 0,
-        sums: folded + joined,
+        sums: sums,
     };
     total(even, odd, step)
 }

@@ -3,10 +3,8 @@
 use Prim.Native.Nat.{ℕ, _+_, _*_, _<_}
 use native.Mathlib.Omega.{arith}
 use borrow.Author.Needs.{needs}
-use lib.ListN.{length-set}
 use Rattle.ffct.specs.Transforms.{cosineDft, sineDft, foldedSums, foldedDifferences}
-use Rattle.transforms.proofs.Levels.{some, sample-le}
-use Rattle.transforms.proofs.Bases.{cosine-one, cosine-two, dct-one, sine-few}
+use Rattle.transforms.proofs.Bases.{dct-one}
 use Rattle.transforms.proofs.DftRuns.{Run₁, Run₂, Run₃, Run₄, room, four, ready-even, ready-fold, samples₂, ready-odd, joinable, small₄, spent-small, cosine-kind, sine-kind, cosine-ends, sine-ends, sine-zeros}
 use Rattle.transforms.proofs.DctRuns as D
 use Rattle.transforms.proofs.DctRuns.{Dct₁, Dct₂, Dct₃, Dct₄, first-rearrangeable, ready-cosine, rearrangeable, ready-sine, rotatable, dct-ends}
@@ -21,13 +19,14 @@ use Rattle.transforms.proofs.+cosine_dft+dct+sine_dft.Lts-dct as dct-lt
 use Rattle.transforms.proofs.sine_dft.Reads as sine-dft
 use Rattle.transforms.proofs.sine_dft.Kinds as sine-dft-kinds
 use Rattle.transforms.proofs.+cosine_dft+dct+sine_dft.Lts-sine_dft as sine-dft-lts
+use Rattle.transforms.proofs.base.cosine_base.Reads as cosine-base-reads
+use Rattle.transforms.proofs.base.sine_base.Reads as sine-base-reads
 use Rattle.transforms.proofs.fold.put_evens.Reads as put-evens-reads
 use Rattle.transforms.proofs.fold.put_folded_differences.Reads as put-folded-differences-reads
 use Rattle.transforms.proofs.fold.put_folded_sums.Reads as put-folded-sums-reads
 use Rattle.transforms.proofs.fold.rearrange.Reads as rearrange-reads
 use Rattle.transforms.proofs.join.join_cosine.Reads as join-cosine-reads
 use Rattle.transforms.proofs.join.join_sine.Reads as join-sine-reads
-use Rattle.transforms.proofs.join.sum_and_difference.Reads as sum-and-difference-reads
 use Rattle.transforms.proofs.rotate.rotate_all.Reads as rotate-all-reads
 use Rattle.transforms.proofs.tally.total.Reads as total-reads
 use Rattle.transforms.proofs.+cosine_dft+dct+sine_dft.{statement}
@@ -65,7 +64,7 @@ sine-dft-below t =
 
 abbrev cosine-dft-calls : ℕ → cosine-dft-lts.Claims
 cosine-dft-calls t =
-    (sum-and-difference-reads.Asked, sum-and-difference-reads.Learnt, put-evens-reads.Asked, put-evens-reads.Learnt, cosine-dft-below t, cosine-dft.Post, put-folded-sums-reads.Asked, put-folded-sums-reads.Learnt, dct-below t, dct.Post, join-cosine-reads.Asked, join-cosine-reads.Learnt, total-reads.Asked, total-reads.Learnt)
+    (cosine-base-reads.Asked, cosine-base-reads.Learnt, put-evens-reads.Asked, put-evens-reads.Learnt, cosine-dft-below t, cosine-dft.Post, put-folded-sums-reads.Asked, put-folded-sums-reads.Learnt, dct-below t, dct.Post, join-cosine-reads.Asked, join-cosine-reads.Learnt, total-reads.Asked, total-reads.Learnt)
 
 abbrev dct-calls : ℕ → dct-lts.Claims
 dct-calls t =
@@ -73,39 +72,29 @@ dct-calls t =
 
 abbrev sine-dft-calls : ℕ → sine-dft-lts.Claims
 sine-dft-calls t =
-    (put-evens-reads.Asked, put-evens-reads.Learnt, sine-dft-below t, sine-dft.Post, put-folded-differences-reads.Asked, put-folded-differences-reads.Learnt, dct-below t, dct.Post, join-sine-reads.Asked, join-sine-reads.Learnt, total-reads.Asked, total-reads.Learnt)
+    (sine-base-reads.Asked, sine-base-reads.Learnt, put-evens-reads.Asked, put-evens-reads.Learnt, sine-dft-below t, sine-dft.Post, put-folded-differences-reads.Asked, put-folded-differences-reads.Learnt, dct-below t, dct.Post, join-sine-reads.Asked, join-sine-reads.Learnt, total-reads.Asked, total-reads.Learnt)
 
 -- ---- a run of `cosine_dft`
-cosine₁ : (t : ℕ) (c : cosine-dft-lts.After-put-evens (cosine-dft-calls t) (cosine-dft-at t) cosine-dft.Post) → Run₁ cosineDft foldedSums (c .before .before .before .before .args .n) (c .before .before .before .before .args .w .now) (c .put-evens .last .0)
-cosine₁ t c = record {
-  ready = c .before .before .before .before .pre .1 .1;
-  not-one = c .before .before .before .if1 .left;
-  not-two = c .before .before .if2 .left;
-  evens-put = c .put-evens .ensures;
-}
+cosine₁ : (t : ℕ) (c : cosine-dft-lts.After-put-evens (cosine-dft-calls t) (cosine-dft-at t) cosine-dft.Post) → Run₁ cosineDft foldedSums (c .before .before .before .args .n) (c .before .before .before .args .w .now) (c .put-evens .last .0)
+cosine₁ t c = record { ready = c .before .before .before .pre .1 .1; many = omega (arith, c .before .before .if1 .left); evens-put = c .put-evens .ensures }
 
 cosine₂ : (t : ℕ) (c : cosine-dft-lts.After-cosine-dft (cosine-dft-calls t) (cosine-dft-at t) cosine-dft.Post) →
-    Run₂ cosineDft foldedSums (c .before .before .before .before .before .before .before .args .n) (c .before .before .before .before .before .before .before .args .w .now) (c .before .before .before .put-evens .last .0) (c .cosine-dft .last .1 .0) (c .cosine-dft .result .products) (c .cosine-dft .result .sums)
+    Run₂ cosineDft foldedSums (c .before .before .before .before .before .before .args .n) (c .before .before .before .before .before .before .args .w .now) (c .before .before .before .put-evens .last .0) (c .cosine-dft .last .1 .0) (c .cosine-dft .result .products) (c .cosine-dft .result .sums)
 cosine₂ t c = record { so-far = cosine₁ t (c .before .before .before); even = c .cosine-dft .ensures }
 
 cosine₃ : (t : ℕ) (c : cosine-dft-lts.After-put-folded-sums (cosine-dft-calls t) (cosine-dft-at t) cosine-dft.Post) →
-    Run₃ cosineDft foldedSums (c .before .before .before .before .before .before .before .before .before .before .args .n) (c .before .before .before .before .before .before .before .before .before .before .args .w .now) (c .before .before .before .before .before .before .put-evens .last .0) (c .before .before .before .cosine-dft .last .1 .0) (c .put-folded-sums .last .0)
+    Run₃ cosineDft foldedSums (c .before .before .before .before .before .before .before .before .before .args .n) (c .before .before .before .before .before .before .before .before .before .args .w .now) (c .before .before .before .before .before .before .put-evens .last .0) (c .before .before .before .cosine-dft .last .1 .0) (c .put-folded-sums .last .0)
     (c .before .before .before .cosine-dft .result .products) (c .before .before .before .cosine-dft .result .sums) (c .put-folded-sums .result)
 cosine₃ t c = record { so-far = cosine₂ t (c .before .before .before); folded = c .put-folded-sums .ensures }
 
 cosine₄ : (t : ℕ) (c : cosine-dft-lts.After-dct (cosine-dft-calls t) (cosine-dft-at t) cosine-dft.Post) →
-    Run₄ cosineDft foldedSums (c .before .before .before .before .before .before .before .before .before .before .before .before .before .args .n) (c .before .before .before .before .before .before .before .before .before .before .before .before .before .args .w .now) (c .before .before .before .before .before .before .before .before .before .put-evens .last .0) (c .before .before .before .before .before .before .cosine-dft .last .1 .0) (c .before .before .before .put-folded-sums .last .0) (c .dct .last .1 .0)
+    Run₄ cosineDft foldedSums (c .before .before .before .before .before .before .before .before .before .before .before .before .args .n) (c .before .before .before .before .before .before .before .before .before .before .before .before .args .w .now) (c .before .before .before .before .before .before .before .before .before .put-evens .last .0) (c .before .before .before .before .before .before .cosine-dft .last .1 .0) (c .before .before .before .put-folded-sums .last .0) (c .dct .last .1 .0)
     (c .before .before .before .before .before .before .cosine-dft .result .products) (c .before .before .before .before .before .before .cosine-dft .result .sums) (c .before .before .before .put-folded-sums .result) (c .dct .result .products) (c .dct .result .sums)
 cosine₄ t c = record { so-far = cosine₃ t (c .before .before .before); odd = c .dct .ensures }
 
 -- ---- a run of `sine_dft`
 sine₁ : (t : ℕ) (c : sine-dft-lts.After-put-evens (sine-dft-calls t) (sine-dft-at t) sine-dft.Post) → Run₁ sineDft foldedDifferences (c .before .before .before .args .n) (c .before .before .before .args .w .now) (c .put-evens .last .0)
-sine₁ t c = record {
-  ready = c .before .before .before .pre .1 .1;
-  not-one = λ e. omega (arith, c .before .before .if1 .left);
-  not-two = λ e. omega (arith, c .before .before .if1 .left);
-  evens-put = c .put-evens .ensures;
-}
+sine₁ t c = record { ready = c .before .before .before .pre .1 .1; many = omega (arith, c .before .before .if1 .left); evens-put = c .put-evens .ensures }
 
 sine₂ : (t : ℕ) (c : sine-dft-lts.After-sine-dft (sine-dft-calls t) (sine-dft-at t) sine-dft.Post) →
     Run₂ sineDft foldedDifferences (c .before .before .before .before .before .before .args .n) (c .before .before .before .before .before .before .args .w .now) (c .before .before .before .put-evens .last .0) (c .sine-dft .last .1 .0) (c .sine-dft .result .products) (c .sine-dft .result .sums)
@@ -139,20 +128,17 @@ dct₄ : (t : ℕ) (c : dct-lts.After-sine-dft (dct-calls t) (dct-at t) dct.Post
     (c .before .before .before .before .before .before .cosine-dft .result .products) (c .before .before .before .before .before .before .cosine-dft .result .sums) (c .sine-dft .result .products) (c .sine-dft .result .sums)
 dct₄ t c = record { so-far = dct₃ t (c .before .before .before); sine = c .sine-dft .ensures }
 
-cosine-dft-returns : (t : ℕ) → cosine-dft-lts.Need-returns (cosine-dft-calls t) (cosine-dft-at t) cosine-dft.Post
-cosine-dft-returns t c = cosine-one (c .before .pre .1 .1) (c .if1 .taken)
-
-cosine-dft-sum-and-difference-requires : (t : ℕ) → cosine-dft-lts.Need-sum-and-difference-requires (cosine-dft-calls t) (cosine-dft-at t) cosine-dft.Post
-cosine-dft-sum-and-difference-requires t c κs = let r = c .before .before .before .pre .1 .1 in (omega (arith, r .fits, c .before .if2 .taken), λ k h. sample-le r k (omega (arith, c .before .if2 .taken)))
+cosine-dft-cosine-base-requires : (t : ℕ) → cosine-dft-lts.Need-cosine-base-requires (cosine-dft-calls t) (cosine-dft-at t) cosine-dft.Post
+cosine-dft-cosine-base-requires t c κs = (c .before .before .pre .1 .1, c .before .if1 .taken)
 
 cosine-dft-same-length : (t : ℕ) → cosine-dft-lts.Need-same-length (cosine-dft-calls t) (cosine-dft-at t) cosine-dft.Post
 cosine-dft-same-length t c = search needs
 
-cosine-dft-returns-2 : (t : ℕ) → cosine-dft-lts.Need-returns-2 (cosine-dft-calls t) (cosine-dft-at t) cosine-dft.Post
-cosine-dft-returns-2 t c = cosine-two (c .before .before .before .before .before .pre .1 .1) (c .before .before .before .if2 .taken) (c .before .sum-and-difference .ensures)
+cosine-dft-returns : (t : ℕ) → cosine-dft-lts.Need-returns (cosine-dft-calls t) (cosine-dft-at t) cosine-dft.Post
+cosine-dft-returns t c = c .before .cosine-base .ensures
 
 cosine-dft-put-evens-requires : (t : ℕ) → cosine-dft-lts.Need-put-evens-requires (cosine-dft-calls t) (cosine-dft-at t) cosine-dft.Post
-cosine-dft-put-evens-requires t c κs = let p = c .before .before .before .pre .1 .1 in (omega arith, omega (arith, p .fits))
+cosine-dft-put-evens-requires t c κs = let p = c .before .before .pre .1 .1 in (omega arith, omega (arith, p .fits))
 
 cosine-dft-mul-cosine-dft : (t : ℕ) → cosine-dft-lts.Need-mul-cosine-dft (cosine-dft-calls t) (cosine-dft-at t) cosine-dft.Post
 cosine-dft-mul-cosine-dft t c = search needs
@@ -167,7 +153,7 @@ cosine-dft-part-cosine-dft-end : (t : ℕ) → cosine-dft-lts.Need-part-cosine-d
 cosine-dft-part-cosine-dft-end t c = search needs
 
 cosine-dft-cosine-dft-requires : (t : ℕ) → cosine-dft-lts.Need-cosine-dft-requires (cosine-dft-calls t) (cosine-dft-at t) cosine-dft.Post
-cosine-dft-cosine-dft-requires t c κs = let r = cosine₁ t (c .before .before) in (omega (arith, four _ _ r, c .before .before .before .before .before .before .pre .0), (c .before .before .before .before .before .before .pre .1 .0, ready-even _ _ r))
+cosine-dft-cosine-dft-requires t c κs = let r = cosine₁ t (c .before .before) in (omega (arith, four _ _ r, c .before .before .before .before .before .pre .0), (c .before .before .before .before .before .pre .1 .0, ready-even _ _ r))
 
 cosine-dft-add-b : (t : ℕ) → cosine-dft-lts.Need-add-b (cosine-dft-calls t) (cosine-dft-at t) cosine-dft.Post
 cosine-dft-add-b t c = search needs
@@ -191,13 +177,13 @@ cosine-dft-part-dct-end : (t : ℕ) → cosine-dft-lts.Need-part-dct-end (cosine
 cosine-dft-part-dct-end t c = search needs
 
 cosine-dft-dct-requires : (t : ℕ) → cosine-dft-lts.Need-dct-requires (cosine-dft-calls t) (cosine-dft-at t) cosine-dft.Post
-cosine-dft-dct-requires t c κs = let r = cosine₃ t (c .before .before) in (omega (arith, four _ _ (r .so-far .so-far), c .before .before .before .before .before .before .before .before .before .before .before .before .pre .0), (c .before .before .before .before .before .before .before .before .before .before .before .before .pre .1 .0, ready-odd _ _ cosine-kind r))
+cosine-dft-dct-requires t c κs = let r = cosine₃ t (c .before .before) in (omega (arith, four _ _ (r .so-far .so-far), c .before .before .before .before .before .before .before .before .before .before .before .pre .0), (c .before .before .before .before .before .before .before .before .before .before .before .pre .1 .0, ready-odd _ _ cosine-kind r))
 
 cosine-dft-join-cosine-requires : (t : ℕ) → cosine-dft-lts.Need-join-cosine-requires (cosine-dft-calls t) (cosine-dft-at t) cosine-dft.Post
 cosine-dft-join-cosine-requires t c κs = let r = cosine₄ t (c .before .before) in (joinable _ _ cosine-kind r, small₄ _ _ cosine-kind r)
 
-cosine-dft-add-t30 : (t : ℕ) → cosine-dft-lts.Need-add-t30 (cosine-dft-calls t) (cosine-dft-at t) cosine-dft.Post
-cosine-dft-add-t30 t c = let s = spent-small _ _ cosine-kind (cosine₄ t (c .before .before .before .before)) in record { fits = omega (arith, c .before .join-cosine .ensures .counted, joinable _ _ cosine-kind (cosine₄ t (c .before .before .before .before))) }
+cosine-dft-add-sums : (t : ℕ) → cosine-dft-lts.Need-add-sums (cosine-dft-calls t) (cosine-dft-at t) cosine-dft.Post
+cosine-dft-add-sums t c = let s = spent-small _ _ cosine-kind (cosine₄ t (c .before .before .before .before)) in record { fits = omega (arith, c .before .join-cosine .ensures .counted, joinable _ _ cosine-kind (cosine₄ t (c .before .before .before .before))) }
 
 cosine-dft-total-requires : (t : ℕ) → cosine-dft-lts.Need-total-requires (cosine-dft-calls t) (cosine-dft-at t) cosine-dft.Post
 cosine-dft-total-requires t c κs = let s = spent-small _ _ cosine-kind (cosine₄ t (c .before .before .before .before)) in omega (arith, c .before .join-cosine .ensures .counted, joinable _ _ cosine-kind (cosine₄ t (c .before .before .before .before)))
@@ -205,8 +191,8 @@ cosine-dft-total-requires t c κs = let s = spent-small _ _ cosine-kind (cosine�
 cosine-dft-same-length-2 : (t : ℕ) → cosine-dft-lts.Need-same-length-2 (cosine-dft-calls t) (cosine-dft-at t) cosine-dft.Post
 cosine-dft-same-length-2 t c = search needs
 
-cosine-dft-returns-3 : (t : ℕ) → cosine-dft-lts.Need-returns-3 (cosine-dft-calls t) (cosine-dft-at t) cosine-dft.Post
-cosine-dft-returns-3 t c = rw (c .total .ensures .0, c .total .ensures .1) (cosine-ends (cosine₄ t (c .before .before .before .before .before)) (c .before .before .join-cosine .ensures))
+cosine-dft-returns-2 : (t : ℕ) → cosine-dft-lts.Need-returns-2 (cosine-dft-calls t) (cosine-dft-at t) cosine-dft.Post
+cosine-dft-returns-2 t c = rw (c .total .ensures .0, c .total .ensures .1) (cosine-ends (cosine₄ t (c .before .before .before .before .before)) (c .before .before .join-cosine .ensures))
 
 dct-returns : (t : ℕ) → dct-lts.Need-returns (dct-calls t) (dct-at t) dct.Post
 dct-returns t c = dct-one (c .before .pre .1 .1) (c .if1 .taken)
@@ -265,17 +251,14 @@ dct-same-length t c = search needs
 dct-returns-2 : (t : ℕ) → dct-lts.Need-returns-2 (dct-calls t) (dct-at t) dct.Post
 dct-returns-2 t c = rw (c .total .ensures .0, c .total .ensures .1) (dct-ends (dct₄ t (c .before .before .before .before .before)) (c .before .before .rotate-all .ensures))
 
-sine-dft-slice-set-of-w : (t : ℕ) → sine-dft-lts.Need-slice-set-of-w (sine-dft-calls t) (sine-dft-at t) sine-dft.Post
-sine-dft-slice-set-of-w t c = omega (arith, c .before .pre .1 .1 .fits, some (c .before .pre .1 .1))
-
-sine-dft-slice-set-of-w-2 : (t : ℕ) → sine-dft-lts.Need-slice-set-of-w-2 (sine-dft-calls t) (sine-dft-at t) sine-dft.Post
-sine-dft-slice-set-of-w-2 t c = simp length-set (omega (arith, c .before .pre .1 .1 .fits, some (c .before .pre .1 .1)))
+sine-dft-sine-base-requires : (t : ℕ) → sine-dft-lts.Need-sine-base-requires (sine-dft-calls t) (sine-dft-at t) sine-dft.Post
+sine-dft-sine-base-requires t c κs = (c .before .before .pre .1 .1, c .before .if1 .taken)
 
 sine-dft-same-length : (t : ℕ) → sine-dft-lts.Need-same-length (sine-dft-calls t) (sine-dft-at t) sine-dft.Post
 sine-dft-same-length t c = search needs
 
 sine-dft-returns : (t : ℕ) → sine-dft-lts.Need-returns (sine-dft-calls t) (sine-dft-at t) sine-dft.Post
-sine-dft-returns t c = let r = c .before .pre .1 .1 in sine-few r (c .if1 .taken) (omega (arith, r .fits, some r))
+sine-dft-returns t c = c .before .sine-base .ensures
 
 sine-dft-put-evens-requires : (t : ℕ) → sine-dft-lts.Need-put-evens-requires (sine-dft-calls t) (sine-dft-at t) sine-dft.Post
 sine-dft-put-evens-requires t c κs = let p = c .before .before .pre .1 .1 in (omega arith, omega (arith, p .fits))
@@ -323,8 +306,8 @@ sine-dft-dct-requires t c κs = let r = sine₃ t (c .before .before) in (omega 
 sine-dft-join-sine-requires : (t : ℕ) → sine-dft-lts.Need-join-sine-requires (sine-dft-calls t) (sine-dft-at t) sine-dft.Post
 sine-dft-join-sine-requires t c κs = let r = sine₄ t (c .before .before) in (joinable _ _ sine-kind r, (sine-zeros r, small₄ _ _ sine-kind r))
 
-sine-dft-add-t29 : (t : ℕ) → sine-dft-lts.Need-add-t29 (sine-dft-calls t) (sine-dft-at t) sine-dft.Post
-sine-dft-add-t29 t c = let s = spent-small _ _ sine-kind (sine₄ t (c .before .before .before .before)) in record { fits = omega (arith, c .before .join-sine .ensures .counted, joinable _ _ sine-kind (sine₄ t (c .before .before .before .before))) }
+sine-dft-add-sums : (t : ℕ) → sine-dft-lts.Need-add-sums (sine-dft-calls t) (sine-dft-at t) sine-dft.Post
+sine-dft-add-sums t c = let s = spent-small _ _ sine-kind (sine₄ t (c .before .before .before .before)) in record { fits = omega (arith, c .before .join-sine .ensures .counted, joinable _ _ sine-kind (sine₄ t (c .before .before .before .before))) }
 
 sine-dft-total-requires : (t : ℕ) → sine-dft-lts.Need-total-requires (sine-dft-calls t) (sine-dft-at t) sine-dft.Post
 sine-dft-total-requires t c κs = let s = spent-small _ _ sine-kind (sine₄ t (c .before .before .before .before)) in omega (arith, c .before .join-sine .ensures .counted, joinable _ _ sine-kind (sine₄ t (c .before .before .before .before)))
@@ -339,10 +322,9 @@ pub +cosine-dft+dct+sine-dft-spec : {M : Type 1} → statement M
 +cosine-dft+dct+sine-dft-spec = close μ-cosine-dft μ-dct μ-sine-dft (λ t. cosine-dft-lts.spec (cosine-dft-calls t)
     (cosine-dft-at t)
     cosine-dft.Post
-    (cosine-dft-returns t)
-    (cosine-dft-sum-and-difference-requires t)
+    (cosine-dft-cosine-base-requires t)
     (cosine-dft-same-length t)
-    (cosine-dft-returns-2 t)
+    (cosine-dft-returns t)
     (cosine-dft-put-evens-requires t)
     (cosine-dft-mul-cosine-dft t)
     (cosine-dft-sub-cosine-dft t)
@@ -358,10 +340,10 @@ pub +cosine-dft+dct+sine-dft-spec : {M : Type 1} → statement M
     (cosine-dft-part-dct-end t)
     (cosine-dft-dct-requires t)
     (cosine-dft-join-cosine-requires t)
-    (cosine-dft-add-t30 t)
+    (cosine-dft-add-sums t)
     (cosine-dft-total-requires t)
     (cosine-dft-same-length-2 t)
-    (cosine-dft-returns-3 t))
+    (cosine-dft-returns-2 t))
     (λ t. dct-lts.spec (dct-calls t)
     (dct-at t)
     dct.Post
@@ -387,8 +369,7 @@ pub +cosine-dft+dct+sine-dft-spec : {M : Type 1} → statement M
     λ t. sine-dft-lts.spec (sine-dft-calls t)
     (sine-dft-at t)
     sine-dft.Post
-    (sine-dft-slice-set-of-w t)
-    (sine-dft-slice-set-of-w-2 t)
+    (sine-dft-sine-base-requires t)
     (sine-dft-same-length t)
     (sine-dft-returns t)
     (sine-dft-put-evens-requires t)
@@ -406,7 +387,7 @@ pub +cosine-dft+dct+sine-dft-spec : {M : Type 1} → statement M
     (sine-dft-part-dct-end t)
     (sine-dft-dct-requires t)
     (sine-dft-join-sine-requires t)
-    (sine-dft-add-t29 t)
+    (sine-dft-add-sums t)
     (sine-dft-total-requires t)
     (sine-dft-same-length-2 t)
     (sine-dft-returns-2 t)
