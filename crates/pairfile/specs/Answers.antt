@@ -31,3 +31,13 @@ length BadLength = 0
 length RecordingTooShort = 0
 length (OutOfRange place) = 0
 length (Read sizes) = sizes .length
+
+-- the place of refusal 6, in the recording of its sample; 0 in every other answer
+abbrev pub place : FileAnswer → ℕ
+place BelowHeader = 0
+place BadCount = 0
+place BadFileLength = 0
+place BadLength = 0
+place RecordingTooShort = 0
+place (OutOfRange i) = i
+place (Read sizes) = 0

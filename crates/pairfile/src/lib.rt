@@ -10,7 +10,7 @@ ghost use lib.ListN.{length};
 ghost use Rattle.blocks.specs.Words.{Written};
 ghost use Rattle.refusals.specs.Refusals.{firstOut, number};
 ghost use Rattle.pairfile.specs.File.{samplesAt};
-ghost use Rattle.pairfile.specs.Answers.{verdictOf, samples};
+ghost use Rattle.pairfile.specs.Answers.{verdictOf, samples, place};
 ghost use Rattle.pairfile.specs.Answers.{length as Answers·length};
 ghost use Rattle.pairfile.specs.Promises.{ReadPromise};
 
@@ -134,5 +134,20 @@ pub fn sizes_of(answer: FileAnswer) -> Sizes
         FileAnswer::BadLength => none,
         FileAnswer::RecordingTooShort => none,
         FileAnswer::OutOfRange(_) => none,
+    }
+}
+
+// The place of the first sample out of range, of refusal 6; else 0.
+pub fn place_of(answer: FileAnswer) -> usize
+    ensures { λ r. ⌜ r ≡ place answer ⌝ }
+{
+    match answer {
+        FileAnswer::OutOfRange(place) => place,
+        FileAnswer::BelowHeader => 0,
+        FileAnswer::BadCount => 0,
+        FileAnswer::BadFileLength => 0,
+        FileAnswer::BadLength => 0,
+        FileAnswer::RecordingTooShort => 0,
+        FileAnswer::Read(_) => 0,
     }
 }

@@ -31,3 +31,13 @@ sums ScratchTooShort = 0
 sums AllowanceTooSmall = 0
 sums (OutOfRange place) = 0
 sums (Done tally) = tally .sums
+
+-- the place of refusal 6, in the recording; 0 in every other answer
+abbrev pub place : Answer → ℕ
+place BadLength = 0
+place BeyondRecording = 0
+place ResultTooShort = 0
+place ScratchTooShort = 0
+place AllowanceTooSmall = 0
+place (OutOfRange i) = i
+place (Done tally) = 0

@@ -10,6 +10,9 @@ use refusals::length::reaches_beyond;
 use refusals::length::scratch_words;
 use refusals::range::first_out;
 use transforms::tally::Tally;
+ghost use mathlib.Core.Path.{_≡_};
+ghost use Rattle.refusals.specs.Refusals.{number};
+ghost use Rattle.spectra.specs.Answers.{verdictOf, products, sums, place};
 ghost use Rattle.spectra.specs.Promises.{SpectrumPromise, CosinePromise, PairPromise, CountsPromise};
 
 // The answer of a call on recordings: a case for each refusal of document 01, or the counts that were spent.
@@ -169,4 +172,55 @@ pub fn count_query(length: usize) -> CountsAnswer
         return CountsAnswer::BadLength;
     }
     CountsAnswer::Counted(counts_of(length))
+}
+
+// ---- the answer of a call on recordings as plain numbers
+
+// Document 01's number of an answer; 0 where the call was accepted.
+pub fn number_of(answer: Answer) -> u64
+    ensures { λ r. ⌜ r ≡ number (verdictOf answer) ⌝ }
+{
+    match answer {
+        Answer::BadLength => 1,
+        Answer::BeyondRecording => 2,
+        Answer::ResultTooShort => 3,
+        Answer::ScratchTooShort => 4,
+        Answer::AllowanceTooSmall => 5,
+        Answer::OutOfRange(_) => 6,
+        Answer::Done(_) => 0,
+    }
+}
+
+// The counts that an accepted call spent; else 0 and 0.
+pub fn spent_of(answer: Answer) -> Tally
+    ensures { λ r. ⌜ (r .products ≡ products answer) × (r .sums ≡ sums answer) ⌝ }
+{
+    let none = Tally {
+        products: 0,
+        sums: 0,
+    };
+    match answer {
+        Answer::Done(tally) => tally,
+        Answer::BadLength => none,
+        Answer::BeyondRecording => none,
+        Answer::ResultTooShort => none,
+        Answer::ScratchTooShort => none,
+        Answer::AllowanceTooSmall => none,
+        Answer::OutOfRange(_) => none,
+    }
+}
+
+// The place of the first sample out of range, of refusal 6; else 0.
+pub fn place_of(answer: Answer) -> usize
+    ensures { λ r. ⌜ r ≡ place answer ⌝ }
+{
+    match answer {
+        Answer::OutOfRange(place) => place,
+        Answer::BadLength => 0,
+        Answer::BeyondRecording => 0,
+        Answer::ResultTooShort => 0,
+        Answer::ScratchTooShort => 0,
+        Answer::AllowanceTooSmall => 0,
+        Answer::Done(_) => 0,
+    }
 }

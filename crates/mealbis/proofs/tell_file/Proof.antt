@@ -1,0 +1,19 @@
+-- `mealbis::tell_file` meets its contract: the number fits 32 bits. Assumes nothing.
+use native.Mathlib.Omega.{arith}
+use borrow.Author.Needs.{needs}
+use Rattle.mealbis.proofs.Numbers.{file-number-small}
+use Rattle.mealbis.proofs.tell_file.Statement.{statement}
+use Rattle.mealbis.proofs.tell_file.Tie as tie
+
+cast-result : tie.Need-cast-result
+cast-result c = omega (arith, file-number-small (c .before .before .before .args .answer))
+
+pub tell-file-spec : {M : Type 1} → statement M
+tell-file-spec =
+    tie.close
+    (tie.spec
+    (λ c κs. search needs)  -- sizes-of-requires
+    (λ c κs. search needs)  -- place-of-requires
+    (λ c κs. search needs)  -- number-of-requires
+    cast-result
+    (λ c. search needs))

@@ -1,0 +1,75 @@
+-- What the exported functions promise, for every input: the record of the call that they make, and what the words hold through which C is told its answer. `number` is the
+-- number returned: document 01's number of the refusal, and 0 where the call is accepted. A word marked ′ is one after the call.
+use mathlib.Core.Bool.{true, false}
+use mathlib.Core.List.{List}
+use mathlib.Core.Path.{_≡_}
+use Prim.Native.Nat.{ℕ}
+use lib.IntN.{ℤ}
+use Rattle.ffct.specs.Block.{isLength, level}
+use Rattle.refusals.specs.Refusals.{number as numberOf}
+use Rattle.refusals.specs.Counts.{SixCounts, SixPublished}
+use Rattle.spectra.specs.declared.Answer.{Answer}
+use Rattle.spectra.specs.Answers.{verdictOf, products as productsOf, sums as sumsOf, place as placeOf}
+use Rattle.spectra.specs.Promises.{SpectrumPromise, CosinePromise, PairPromise}
+use Rattle.pairfile.specs.declared.FileAnswer.{FileAnswer}
+use Rattle.pairfile.specs.Answers as file
+use Rattle.pairfile.specs.Promises.{ReadPromise}
+
+-- ---- the calls on recordings
+
+-- The answer of a call in four plain numbers. By their definitions the counts are 0 in every refusal, and the place is 0 in every answer but refusal 6.
+pub record Told (answer : Answer) (products sums place number : ℕ) : Type 0 where
+  pub number-is : number ≡ numberOf (verdictOf answer)
+  pub products-is : products ≡ productsOf answer
+  pub sums-is : sums ≡ sumsOf answer
+  pub place-is : place ≡ placeOf answer
+
+-- There is an answer of which the promise of Spectrum holds, with these buffers before and after, and it is the answer told.
+pub record SpectrumTold (recording : List ℤ) (start N allowance : ℕ) (cosine sine scratch cosine′ sine′ scratch′ : List ℤ) (products′ sums′ place′ number : ℕ) : Type 0 where
+  pub answer : Answer
+  pub promise : SpectrumPromise recording start N allowance cosine sine scratch cosine′ sine′ scratch′ answer
+  pub told : Told answer products′ sums′ place′ number
+
+-- The same of Cosine.
+pub record CosineTold (recording : List ℤ) (start N allowance : ℕ) (coefficients scratch coefficients′ scratch′ : List ℤ) (products′ sums′ place′ number : ℕ) : Type 0 where
+  pub answer : Answer
+  pub promise : CosinePromise recording start N allowance coefficients scratch coefficients′ scratch′ answer
+  pub told : Told answer products′ sums′ place′ number
+
+-- The same of Pair.
+pub record PairTold (a b : List ℤ) (start N allowance : ℕ) (real imaginary scratch real′ imaginary′ scratch′ : List ℤ) (products′ sums′ place′ number : ℕ) : Type 0 where
+  pub answer : Answer
+  pub promise : PairPromise a b start N allowance real imaginary scratch real′ imaginary′ scratch′ answer
+  pub told : Told answer products′ sums′ place′ number
+
+-- ---- the count query, which tests 1 alone: what its record says of an answer, said of the six words. Refusal 1 and six zeros where N is not one of the eleven lengths; else 0 and
+-- the six counts of N, by the definitions and by the closed forms
+pub record NothingTold (dctP dctS spectrumP spectrumS pairP pairS number : ℕ) : Type 0 where
+  pub number-is : number ≡ 1
+  pub dct-is : (dctP ≡ 0) × (dctS ≡ 0)
+  pub spectrum-is : (spectrumP ≡ 0) × (spectrumS ≡ 0)
+  pub pair-is : (pairP ≡ 0) × (pairS ≡ 0)
+
+pub record SixTold (N dctP dctS spectrumP spectrumS pairP pairS number : ℕ) : Type 0 where
+  pub number-is : number ≡ 0
+  pub six : SixCounts (level N) dctP dctS spectrumP spectrumS pairP pairS
+  pub published : SixPublished N dctP dctS spectrumP spectrumS pairP pairS
+
+pub record CountsTold (N dctP′ dctS′ spectrumP′ spectrumS′ pairP′ pairS′ number : ℕ) : Type 0 where
+  pub refused : isLength N ≡ false → NothingTold dctP′ dctS′ spectrumP′ spectrumS′ pairP′ pairS′ number
+  pub counted : isLength N ≡ true → SixTold N dctP′ dctS′ spectrumP′ spectrumS′ pairP′ pairS′ number
+
+-- ---- reading a file
+
+-- The answer of the reader in four plain numbers. The sizes are 0 in every refusal, and the place is 0 in every answer but refusal 6.
+pub record FileTold (answer : FileAnswer) (samples length place number : ℕ) : Type 0 where
+  pub number-is : number ≡ numberOf (file.verdictOf answer)
+  pub samples-is : samples ≡ file.samples answer
+  pub length-is : length ≡ file.length answer
+  pub place-is : place ≡ file.place answer
+
+-- There is an answer of which the promise of the reader holds, with these recordings before and after, and it is the answer told.
+pub record ReadTold (bytes : List ℕ) (a b a′ b′ : List ℤ) (samples′ length′ place′ number : ℕ) : Type 0 where
+  pub answer : FileAnswer
+  pub promise : ReadPromise bytes a b a′ b′ answer
+  pub told : FileTold answer samples′ length′ place′ number

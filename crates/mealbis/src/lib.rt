@@ -1,0 +1,141 @@
+// The calls for programs in C and in Rust: plain numbers, slices as pointer and length, and the answer as document 01's number, 0 where the call is accepted. Counts,
+// sizes and place come back through lent words, which are written in every answer. No function asks anything of its input, and each promises the record of the
+// call that it makes (specs/Promises.antt). include/mealbis.h is written for who calls them.
+use pairfile::FileAnswer;
+use spectra::Answer;
+use spectra::CountsAnswer;
+ghost use Rattle.mealbis.specs.Promises.{Told, SpectrumTold, CosineTold, PairTold, CountsTold, FileTold, ReadTold};
+
+// ---- answers
+
+// An answer written to lent words, and its number.
+fn tell(answer: Answer, products: &mut u64, sums: &mut u64, place: &mut usize) -> u32
+    ensures { λ r. ⌜ Told answer (now (products .exit)) (now (sums .exit)) (now (place .exit)) r ⌝ }
+{
+    let spent = spectra::spent_of(answer);
+    *products = spent.products;
+    *sums = spent.sums;
+    *place = spectra::place_of(answer);
+    spectra::number_of(answer) as u32
+}
+
+// The same of the reader's answer.
+fn tell_file(answer: FileAnswer, samples: &mut usize, length: &mut usize, place: &mut usize) -> u32
+    ensures { λ r. ⌜ FileTold answer (now (samples .exit)) (now (length .exit)) (now (place .exit)) r ⌝ }
+{
+    let sizes = pairfile::sizes_of(answer);
+    *samples = sizes.samples;
+    *length = sizes.length;
+    *place = pairfile::place_of(answer);
+    pairfile::number_of(answer) as u32
+}
+
+// ---- the exported functions
+
+#[no_mangle]
+pub extern "C" fn mealbis_spectrum(
+    recording: &[i32],
+    start: usize,
+    length: usize,
+    allowance: u64,
+    cosine: &mut [i32],
+    sine: &mut [i32],
+    scratch: &mut [i64],
+    products: &mut u64,
+    sums: &mut u64,
+    place: &mut usize,
+) -> u32
+    ensures { λ r. ⌜ SpectrumTold (now (recording .entry)) start length allowance (now (cosine .entry)) (now (sine .entry)) (now (scratch .entry)) (now (cosine .exit)) (now (sine .exit)) (now (scratch .exit)) (now (products .exit)) (now (sums .exit)) (now (place .exit)) r ⌝ }
+{
+    let answer = spectra::spectrum(recording, start, length, allowance, cosine, sine, scratch);
+    tell(answer, products, sums, place)
+}
+
+#[no_mangle]
+pub extern "C" fn mealbis_cosine(
+    recording: &[i32],
+    start: usize,
+    length: usize,
+    allowance: u64,
+    coefficients: &mut [i32],
+    scratch: &mut [i64],
+    products: &mut u64,
+    sums: &mut u64,
+    place: &mut usize,
+) -> u32
+    ensures { λ r. ⌜ CosineTold (now (recording .entry)) start length allowance (now (coefficients .entry)) (now (scratch .entry)) (now (coefficients .exit)) (now (scratch .exit)) (now (products .exit)) (now (sums .exit)) (now (place .exit)) r ⌝ }
+{
+    let answer = spectra::cosine(recording, start, length, allowance, coefficients, scratch);
+    tell(answer, products, sums, place)
+}
+
+#[no_mangle]
+pub extern "C" fn mealbis_pair(
+    a: &[i32],
+    b: &[i32],
+    start: usize,
+    length: usize,
+    allowance: u64,
+    real: &mut [i32],
+    imaginary: &mut [i32],
+    scratch: &mut [i64],
+    products: &mut u64,
+    sums: &mut u64,
+    place: &mut usize,
+) -> u32
+    ensures { λ r. ⌜ PairTold (now (a .entry)) (now (b .entry)) start length allowance (now (real .entry)) (now (imaginary .entry)) (now (scratch .entry)) (now (real .exit)) (now (imaginary .exit)) (now (scratch .exit)) (now (products .exit)) (now (sums .exit)) (now (place .exit)) r ⌝ }
+{
+    let answer = spectra::pair(a, b, start, length, allowance, real, imaginary, scratch);
+    tell(answer, products, sums, place)
+}
+
+// All six counts of a length.
+#[no_mangle]
+pub extern "C" fn mealbis_counts(
+    length: usize,
+    dct_products: &mut u64,
+    dct_sums: &mut u64,
+    spectrum_products: &mut u64,
+    spectrum_sums: &mut u64,
+    pair_products: &mut u64,
+    pair_sums: &mut u64,
+) -> u32
+    ensures { λ r. ⌜ CountsTold length (now («dct_products» .exit)) (now («dct_sums» .exit)) (now («spectrum_products» .exit)) (now («spectrum_sums» .exit)) (now («pair_products» .exit)) (now («pair_sums» .exit)) r ⌝ }
+{
+    match spectra::count_query(length) {
+        CountsAnswer::Counted(counts) => {
+            *dct_products = counts.dct.products;
+            *dct_sums = counts.dct.sums;
+            *spectrum_products = counts.spectrum.products;
+            *spectrum_sums = counts.spectrum.sums;
+            *pair_products = counts.pair.products;
+            *pair_sums = counts.pair.sums;
+            0
+        }
+        CountsAnswer::BadLength => {
+            *dct_products = 0;
+            *dct_sums = 0;
+            *spectrum_products = 0;
+            *spectrum_sums = 0;
+            *pair_products = 0;
+            *pair_sums = 0;
+            1
+        }
+    }
+}
+
+// A pair file, to two recordings.
+#[no_mangle]
+pub extern "C" fn mealbis_read(
+    file: &[u8],
+    a: &mut [i32],
+    b: &mut [i32],
+    samples: &mut usize,
+    length: &mut usize,
+    place: &mut usize,
+) -> u32
+    ensures { λ r. ⌜ ReadTold (now (file .entry)) (now (a .entry)) (now (b .entry)) (now (a .exit)) (now (b .exit)) (now (samples .exit)) (now (length .exit)) (now (place .exit)) r ⌝ }
+{
+    let answer = pairfile::read(file, a, b);
+    tell_file(answer, samples, length, place)
+}

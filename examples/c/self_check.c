@@ -1,0 +1,233 @@
+/*
+ * Holds the library, as linked, to include/mealbis.h: each answer of each call, the words that are written in every answer, buffers that stay,
+ * NULL with count 0, and the stack. Prints each check that fails, and 'N passed, M failed'.
+ */
+#define _XOPEN_SOURCE 700
+#include <stdio.h>
+#include <string.h>
+#include <ucontext.h>
+#include "mealbis.h"
+
+#define LONGEST MEALBIS_LONGEST_BLOCK
+#define WORDS(buffer) (sizeof(buffer) / sizeof((buffer)[0]))
+#define STACK_PROMISED 8192
+
+static int32_t x[LONGEST + 8], y[LONGEST + 8], one[LONGEST + 8], two[LONGEST + 8], kept[LONGEST + 8];
+static int64_t scratch[MEALBIS_SCRATCH_WORDS(LONGEST) + 8];
+static uint8_t file[MEALBIS_FILE_BYTES(8)];
+static uint64_t products, sums, six[6];
+static size_t place, samples, length;
+static uint32_t answer;
+static int passed, failed;
+
+static void check(int holds, const char *what, size_t with)
+{
+    if (holds)
+        passed++;
+    else {
+        failed++;
+        printf("failed: %s (%zu)\n", what, with);
+    }
+}
+
+/* Sets every word that a call may write to something, so that a word left alone is seen. */
+static void mark(void)
+{
+    memset(one, 0x55, sizeof one);
+    memset(two, 0x55, sizeof two);
+    memset(kept, 0x55, sizeof kept);
+    memset(scratch, 0x55, sizeof scratch);
+    memset(six, 0x55, sizeof six);
+    memset(&products, 0x55, sizeof products);
+    memset(&sums, 0x55, sizeof sums);
+    memset(&place, 0x55, sizeof place);
+    memset(&samples, 0x55, sizeof samples);
+    memset(&length, 0x55, sizeof length);
+}
+
+/* A call refused with this number (and place) leaves 0 in the words and the buffers as they were. */
+static void refused(uint32_t number, size_t at, const char *what)
+{
+    int64_t word;
+    size_t i;
+    int same = 1;
+    memset(&word, 0x55, sizeof word);
+    for (i = 0; i < WORDS(scratch); i++)
+        same = same && scratch[i] == word;
+    check(answer == number, what, answer);
+    check(place == at, what, place);
+    check(products == 0 && sums == 0, what, number);
+    check(same && !memcmp(one, kept, sizeof one) && !memcmp(two, kept, sizeof two), what, number);
+}
+
+#define SPECTRUM(...) (mark(), answer = mealbis_spectrum(__VA_ARGS__, &products, &sums, &place))
+#define COSINE(...) (mark(), answer = mealbis_cosine(__VA_ARGS__, &products, &sums, &place))
+#define PAIR(...) (mark(), answer = mealbis_pair(__VA_ARGS__, &products, &sums, &place))
+#define READ(...) (mark(), answer = mealbis_read(__VA_ARGS__, &samples, &length, &place))
+
+static void calls(void)
+{
+    SPECTRUM(x, 16, 0, 3, 99, one, 5, two, 5, scratch, 128), refused(1, 0, "Spectrum, length 3");
+    SPECTRUM(x, 16, 9, 8, 99, one, 5, two, 5, scratch, 128), refused(2, 0, "Spectrum beyond the recording");
+    SPECTRUM(x, 16, SIZE_MAX, 8, 99, one, 5, two, 5, scratch, 128), refused(2, 0, "Spectrum, start + length overflows");
+    SPECTRUM(x, 16, 8, 8, 99, one, 4, two, 5, scratch, 128), refused(3, 0, "Spectrum, cosine too short");
+    SPECTRUM(x, 16, 8, 8, 99, one, 5, two, 4, scratch, 128), refused(3, 0, "Spectrum, sine too short");
+    SPECTRUM(x, 16, 8, 8, 99, one, 5, two, 5, scratch, 127), refused(4, 0, "Spectrum, scratch too short");
+    SPECTRUM(x, 16, 8, 8, 1, one, 5, two, 5, scratch, 128), refused(5, 0, "Spectrum, allowance 1");
+    x[9] = 1000001;
+    SPECTRUM(x, 16, 8, 8, 99, one, 5, two, 5, scratch, 128), refused(6, 9, "Spectrum, sample 9");
+    COSINE(x, 16, 8, 8, 99, one, 8, scratch, 128), refused(6, 9, "Cosine, sample 9");
+    PAIR(y, 16, x, 16, 8, 8, 99, one, 8, two, 8, scratch, 128), refused(6, 9, "Pair, sample 9 of b");
+    x[9] = -1000000;
+    COSINE(x, 16, 0, 0, 99, one, 8, scratch, 128), refused(1, 0, "Cosine, length 0");
+    COSINE(x, 16, 9, 8, 99, one, 8, scratch, 128), refused(2, 0, "Cosine beyond the recording");
+    COSINE(x, 16, 8, 8, 99, one, 7, scratch, 128), refused(3, 0, "Cosine, coefficients too short");
+    COSINE(x, 16, 8, 8, 99, one, 8, scratch, 127), refused(4, 0, "Cosine, scratch too short");
+    COSINE(x, 16, 8, 8, 11, one, 8, scratch, 128), refused(5, 0, "Cosine, allowance 11");
+    PAIR(x, 16, y, 16, 0, 2048, 99, one, 8, two, 8, scratch, 128), refused(1, 0, "Pair, length 2048");
+    PAIR(x, 16, y, 15, 8, 8, 99, one, 8, two, 8, scratch, 128), refused(2, 0, "Pair beyond b");
+    PAIR(x, 16, y, 16, 8, 8, 99, one, 8, two, 7, scratch, 128), refused(3, 0, "Pair, imaginary too short");
+    PAIR(x, 16, y, 16, 8, 8, 99, one, 8, two, 8, scratch, 127), refused(4, 0, "Pair, scratch too short");
+    PAIR(x, 16, y, 16, 8, 8, 3, one, 8, two, 8, scratch, 128), refused(5, 0, "Pair, allowance 3");
+
+    COSINE(x, 16, 8, 8, 12, one, 8, scratch, 130);
+    check(answer == 0 && products == 12 && sums == 29 && place == 0, "Cosine of 8 samples spends 12 and 29", products);
+    check(one[8] == kept[8] && scratch[0] == 0 && scratch[127] == 0 && scratch[128] != 0, "Cosine writes 8 words and clears 128", 8);
+}
+
+static void counts(void)
+{
+    size_t n, i;
+    for (n = 0; n <= 2049; n++) {
+        int a_length = n && n <= 1024 && !(n & (n - 1));
+        mark();
+        answer = mealbis_counts(n, six, six + 1, six + 2, six + 3, six + 4, six + 5);
+        if (a_length) {
+            check(answer == 0, "counts of a length", n);
+            SPECTRUM(x, LONGEST, 0, n, UINT64_MAX, one, LONGEST, two, LONGEST, scratch, WORDS(scratch));
+            mealbis_counts(n, six, six + 1, six + 2, six + 3, six + 4, six + 5);
+            check(answer == 0 && products == six[2] && sums == six[3], "Spectrum spends its counts", n);
+            PAIR(x, LONGEST, x, LONGEST, 0, n, six[4], one, LONGEST, two, LONGEST, scratch, WORDS(scratch));
+            mealbis_counts(n, six, six + 1, six + 2, six + 3, six + 4, six + 5);
+            check(answer == 0 && products == six[4] && sums == six[5], "Pair, both recordings one, spends its counts", n);
+            COSINE(x, LONGEST, 0, n, UINT64_MAX, one, LONGEST, scratch, WORDS(scratch));
+            mealbis_counts(n, six, six + 1, six + 2, six + 3, six + 4, six + 5);
+            check(answer == 0 && products == six[0] && sums == six[1], "Cosine spends its counts", n);
+        } else {
+            int zeros = 1;
+            for (i = 0; i < 6; i++)
+                zeros = zeros && six[i] == 0;
+            check(answer == 1 && zeros, "counts of no length", n);
+        }
+    }
+}
+
+static void file_refused(uint32_t number, size_t at, const char *what)
+{
+    check(answer == number && samples == 0 && length == 0, what, answer);
+    check(place == at, what, place);
+    check(!memcmp(one, kept, sizeof one) && !memcmp(two, kept, sizeof two), what, number);
+}
+
+static void files(void)
+{
+    static const uint8_t header[8] = {8, 0, 0, 0, 4, 0, 0, 0};
+    memset(file, 0, sizeof file);
+    memcpy(file, header, sizeof header);
+    file[8 + 4 * 8] = 7; /* b(0) */
+    READ(file, 7, one, 8, two, 8), file_refused(7, 0, "a file of 7 bytes");
+    file[0] = 0;
+    READ(file, sizeof file, one, 8, two, 8), file_refused(8, 0, "no samples");
+    file[0] = 8;
+    READ(file, sizeof file - 1, one, 8, two, 8), file_refused(9, 0, "a byte missing");
+    file[4] = 5;
+    READ(file, sizeof file, one, 8, two, 8), file_refused(1, 0, "blocks of 5");
+    file[4] = 4;
+    READ(file, sizeof file, one, 8, two, 7), file_refused(3, 0, "a short recording");
+    file[8 + 4 * 13 + 3] = 0x7f;
+    READ(file, sizeof file, one, 8, two, 8), file_refused(6, 5, "sample 5 of b");
+    file[8 + 4 * 13 + 3] = 0;
+    READ(file, sizeof file, one, WORDS(one), two, WORDS(two));
+    check(answer == 0 && samples == 8 && length == 4 && place == 0, "a file is read", answer);
+    check(one[0] == 0 && two[0] == 7 && one[8] == kept[8] && two[8] == kept[8], "its samples, and no more", 8);
+}
+
+/* NULL with count 0, for each buffer and for all. */
+static void empty_buffers(void)
+{
+    SPECTRUM(NULL, 0, 0, 8, 99, one, 5, two, 5, scratch, 128), refused(2, 0, "Spectrum, no recording");
+    SPECTRUM(NULL, 0, 0, 7, 99, one, 5, two, 5, scratch, 128), refused(1, 0, "Spectrum, no recording, length 7");
+    SPECTRUM(x, 16, 8, 8, 99, NULL, 0, two, 5, scratch, 128), refused(3, 0, "Spectrum, no cosine");
+    SPECTRUM(x, 16, 8, 8, 99, one, 5, NULL, 0, scratch, 128), refused(3, 0, "Spectrum, no sine");
+    SPECTRUM(x, 16, 8, 8, 99, one, 5, two, 5, NULL, 0), refused(4, 0, "Spectrum, no scratch");
+    SPECTRUM(NULL, 0, 0, 1, 0, NULL, 0, NULL, 0, NULL, 0), refused(2, 0, "Spectrum, nothing");
+    COSINE(NULL, 0, 0, 1, 0, one, 8, scratch, 128), refused(2, 0, "Cosine, no recording");
+    COSINE(x, 16, 8, 1, 0, NULL, 0, scratch, 128), refused(3, 0, "Cosine, no coefficients");
+    COSINE(x, 16, 8, 1, 0, one, 8, NULL, 0), refused(4, 0, "Cosine, no scratch");
+    COSINE(NULL, 0, 0, 1, 0, NULL, 0, NULL, 0), refused(2, 0, "Cosine, nothing");
+    PAIR(NULL, 0, y, 16, 0, 1, 0, one, 8, two, 8, scratch, 128), refused(2, 0, "Pair, no a");
+    PAIR(x, 16, NULL, 0, 0, 1, 0, one, 8, two, 8, scratch, 128), refused(2, 0, "Pair, no b");
+    PAIR(x, 16, y, 16, 0, 1, 0, NULL, 0, two, 8, scratch, 128), refused(3, 0, "Pair, no real");
+    PAIR(x, 16, y, 16, 0, 1, 0, one, 8, NULL, 0, scratch, 128), refused(3, 0, "Pair, no imaginary");
+    PAIR(x, 16, y, 16, 0, 1, 0, one, 8, two, 8, NULL, 0), refused(4, 0, "Pair, no scratch");
+    PAIR(NULL, 0, NULL, 0, 0, 1, 0, NULL, 0, NULL, 0, NULL, 0), refused(2, 0, "Pair, nothing");
+    READ(NULL, 0, one, 8, two, 8), file_refused(7, 0, "no file");
+    READ(file, sizeof file, NULL, 0, two, 8), file_refused(3, 0, "no recording a");
+    READ(file, sizeof file, one, 8, NULL, 0), file_refused(3, 0, "no recording b");
+    READ(NULL, 0, NULL, 0, NULL, 0), file_refused(7, 0, "no file and no recordings");
+}
+
+/* The stack of each call at the greatest length: it runs on a marked stack of its own. */
+static unsigned char stack[65536];
+static ucontext_t home, away;
+static int which;
+
+static void on_stack(void)
+{
+    switch (which) {
+    case 1: mealbis_spectrum(x, LONGEST, 0, LONGEST, UINT64_MAX, one, LONGEST, two, LONGEST, scratch, WORDS(scratch), &products, &sums, &place); break;
+    case 2: mealbis_cosine(x, LONGEST, 0, LONGEST, UINT64_MAX, one, LONGEST, scratch, WORDS(scratch), &products, &sums, &place); break;
+    case 3: mealbis_pair(x, LONGEST, y, LONGEST, 0, LONGEST, UINT64_MAX, one, LONGEST, two, LONGEST, scratch, WORDS(scratch), &products, &sums, &place); break;
+    case 4: mealbis_counts(LONGEST, six, six + 1, six + 2, six + 3, six + 4, six + 5); break;
+    case 5: mealbis_read(file, sizeof file, one, 8, two, 8, &samples, &length, &place); break;
+    }
+}
+
+static size_t stack_used(int call)
+{
+    size_t untouched = 0;
+    which = call;
+    memset(stack, 0xa5, sizeof stack);
+    getcontext(&away);
+    away.uc_stack.ss_sp = stack;
+    away.uc_stack.ss_size = sizeof stack;
+    away.uc_link = &home;
+    makecontext(&away, on_stack, 0);
+    swapcontext(&home, &away);
+    while (stack[untouched] == 0xa5)
+        untouched++;
+    return sizeof stack - untouched;
+}
+
+int main(int argc, char **argv)
+{
+    static const char *const names[] = {"no call", "mealbis_spectrum", "mealbis_cosine", "mealbis_pair", "mealbis_counts", "mealbis_read"};
+    size_t i, own;
+    for (i = 0; i < WORDS(x); i++) {
+        x[i] = (int32_t)(i * 7919 % 2000001) - 1000000;
+        y[i] = -x[i];
+    }
+    calls();
+    counts();
+    files();
+    empty_buffers();
+    own = stack_used(0); /* what on_stack takes itself */
+    for (i = 1; i <= 5; i++) {
+        size_t used = stack_used((int)i) - own;
+        check(used < STACK_PROMISED, names[i], used);
+        if (argc == 2 && !strcmp(argv[1], "--stack"))
+            printf("%s: %zu bytes of stack\n", names[i], used);
+    }
+    printf("%d passed, %d failed\n", passed, failed);
+    return failed != 0;
+}

@@ -1,0 +1,191 @@
+/*
+ * mealbis.h: spectra of strain blocks, for C.
+ *
+ * Link with libmealbis.a, which `rt staticlib mealbis` builds for x86-64 Linux:
+ *     cc -Iinclude program.c target/staticlib/libmealbis.a
+ * The library needs `memset` and nothing else of the C library. It is written in Rattle and proved:
+ * for every input that keeps the section "Buffers" each function answers as said here, writes
+ * nothing else, and ends. "Document 01" is docs/01-scope.md; the promises themselves are in
+ * crates/mealbis/specs/Promises.antt.
+ *
+ * ---- Numbers
+ *
+ * A sample is a whole number of hundredths of a microstrain, -1,000,000 to 1,000,000. Coefficients
+ * are in the same unit and always fit an int32_t. A block is `length` samples of a recording from
+ * `start` on, start counting from 0. `length`, N below, is 1, 2, 4, 8, .. 512 or 1,024.
+ *
+ * ---- Answers
+ *
+ * Every function returns 0 when it accepts, else the number of the first condition that holds, in
+ * the order given at the function:
+ *
+ *   1  length is not one of the eleven lengths
+ *   2  start + length is more than the words of a recording; a sum beyond SIZE_MAX is more, too
+ *   3  a result buffer is too short; in mealbis_read, a recording is shorter than the file's samples
+ *   4  scratch is shorter than 8 * length + 64 words
+ *   5  the allowance is below the products that the call spends
+ *   6  a sample of the block is out of range; *place is the first such place
+ *   7  the file is shorter than 8 bytes
+ *   8  the file's sample count is 0 or above 4,096
+ *   9  the file's length is not 8 + 8 * samples bytes
+ *
+ * After a refusal every buffer is as it was. The single words (products, sums, place, samples,
+ * length, the six counts) are written in EVERY answer, so that none keeps an old value:
+ *   - counts and sizes hold what the function says when it accepts, and 0 after a refusal;
+ *   - *place holds the place after refusal 6, and 0 in every other answer. It counts from 0 at the
+ *     first sample of the recording, not of the block.
+ *
+ * ---- Counts and the allowance
+ *
+ * products and sums are the multiplications and additions of the transform, tallied where they are
+ * made. The length alone decides them; mealbis_counts tells them beforehand. No call spends more
+ * products than its allowance: it is refused (5) before it begins. UINT64_MAX allows everything.
+ *
+ * ---- Buffers
+ *
+ *   - A buffer is a pointer and a count of WORDS, not of bytes (of bytes for the file). It may be
+ *     longer than needed; the words beyond those listed at the function stay as they are.
+ *   - What a call writes (results, scratch, the recordings of mealbis_read, the single words) must
+ *     not overlap anything else that the call is given. What it only reads may overlap: a and b of
+ *     mealbis_pair may be one recording. Recordings and files may lie in read-only memory.
+ *   - While a call runs, nobody else may write its buffers, nor read those that it writes: no other
+ *     thread, no interrupt handler, no DMA transfer.
+ *   - Pointers are aligned as their type asks: 4 bytes for int32_t, 8 for int64_t, uint64_t and
+ *     size_t, 1 for the file.
+ *   - Results, scratch and the single words may hold anything before a call. After an accepted call
+ *     the first 8 * length + 64 words of scratch are 0.
+ *   - An empty buffer (count 0) is refused, by 1, 2, 3, 4 or 7, and nothing is read or written
+ *     through its pointer. NULL with count 0 is answered in the same way: so it is in the library as
+ *     it is built today, and examples/c/self_check.c tries it for each buffer. But it is not
+ *     promised: the proof is about slices of memory and does not know a null pointer. Pass the
+ *     address of any object with count 0 to rely on nothing but the proof.
+ *   - NULL with another count, or for a single word, is the caller's error and is not tested.
+ *
+ * ---- What a call needs
+ *
+ * No heap, no lock, no file, no global state: calls with buffers of their own may run at the same
+ * time in threads and interrupt handlers.
+ *
+ * Stack: a copy of the cosine table, 4,100 bytes, and frames whose number depends on the length
+ * alone. Measured at length 1,024, in bytes: mealbis_pair 6,008, mealbis_cosine 5,832,
+ * mealbis_spectrum 5,752, mealbis_counts 112, mealbis_read 96; half the length takes some 150 less.
+ * The proof does not speak of the stack: allow 8 KiB. `self_check --stack` measures it.
+ */
+#ifndef MEALBIS_H
+#define MEALBIS_H
+
+#include <stddef.h>
+#include <stdint.h>
+
+#ifdef __cplusplus
+extern "C" {
+#endif
+
+/* The answers. */
+#define MEALBIS_ACCEPTED 0u
+#define MEALBIS_BAD_LENGTH 1u
+#define MEALBIS_BEYOND_RECORDING 2u
+#define MEALBIS_RESULT_TOO_SHORT 3u
+#define MEALBIS_SCRATCH_TOO_SHORT 4u
+#define MEALBIS_ALLOWANCE_TOO_SMALL 5u
+#define MEALBIS_OUT_OF_RANGE 6u
+#define MEALBIS_FILE_BELOW_HEADER 7u
+#define MEALBIS_BAD_SAMPLE_COUNT 8u
+#define MEALBIS_BAD_FILE_LENGTH 9u
+
+/* Sizes. */
+#define MEALBIS_LONGEST_BLOCK 1024
+#define MEALBIS_LARGEST_SAMPLE 1000000
+#define MEALBIS_MOST_FILE_SAMPLES 4096
+#define MEALBIS_SPECTRUM_WORDS(length) ((length) / 2 + 1)
+#define MEALBIS_SCRATCH_WORDS(length) (8 * (length) + 64)
+#define MEALBIS_FILE_BYTES(samples) (8 + 8 * (samples))
+
+/*
+ * Spectrum: cosine-DFT and sine-DFT of a block x(0) .. x(N-1), for k = 0 .. N/2 (k = 0 at N = 1):
+ *   cosine[k] is the sum of x(n) * cos(2 pi n k / N), sine[k] that of x(n) * sin(2 pi n k / N),
+ *   each within N/8 of document 01's exact sum.
+ * Tests 1, 2, 3, 4, 5, 6. On acceptance *products and *sums are what was spent.
+ *
+ *   recording, recording_words   the samples; only those of the block are examined
+ *   cosine, cosine_words         at least N/2 + 1 words
+ *   sine, sine_words             at least N/2 + 1 words
+ *   scratch, scratch_words       at least 8 N + 64 words
+ */
+uint32_t mealbis_spectrum(
+    const int32_t *recording, size_t recording_words,
+    size_t start, size_t length, uint64_t allowance,
+    int32_t *cosine, size_t cosine_words,
+    int32_t *sine, size_t sine_words,
+    int64_t *scratch, size_t scratch_words,
+    uint64_t *products, uint64_t *sums, size_t *place);
+
+/*
+ * Cosine: the DCT-II of a block, for k = 0 .. N-1, with no factor 2 and no special weight at k = 0:
+ *   coefficients[k] is the sum of x(n) * cos(pi (2n + 1) k / (2 N)), within (N + 1)/4 of document
+ *   01's exact sum.
+ * Tests 1, 2, 3, 4, 5, 6. On acceptance *products and *sums are what was spent.
+ *
+ *   coefficients, coefficients_words   at least N words; the rest as in mealbis_spectrum
+ */
+uint32_t mealbis_cosine(
+    const int32_t *recording, size_t recording_words,
+    size_t start, size_t length, uint64_t allowance,
+    int32_t *coefficients, size_t coefficients_words,
+    int64_t *scratch, size_t scratch_words,
+    uint64_t *products, uint64_t *sums, size_t *place);
+
+/*
+ * Pair: the complex DFT of two recordings, a + i b, for k = 0 .. N-1:
+ *   real[k] + i imaginary[k] is the sum of (a(n) + i b(n)) * exp(-2 pi i n k / N), each part within
+ *   N/4 of document 01's exact sum.
+ * One start serves both recordings, which may differ in length. Tests 1, 2, 3, 4, 5, 6; 6 examines
+ * a's block and then b's, and *place does not say in which of them the sample is: where a's sample
+ * there is in range, it is b's. On acceptance *products and *sums are what was spent.
+ *
+ *   a, a_words; b, b_words         the samples; only those of the blocks are examined
+ *   real, real_words               at least N words
+ *   imaginary, imaginary_words     at least N words
+ *   scratch, scratch_words         at least 8 N + 64 words
+ */
+uint32_t mealbis_pair(
+    const int32_t *a, size_t a_words,
+    const int32_t *b, size_t b_words,
+    size_t start, size_t length, uint64_t allowance,
+    int32_t *real, size_t real_words,
+    int32_t *imaginary, size_t imaginary_words,
+    int64_t *scratch, size_t scratch_words,
+    uint64_t *products, uint64_t *sums, size_t *place);
+
+/*
+ * The count query: what mealbis_cosine (the DCT), mealbis_spectrum and mealbis_pair spend on a block
+ * of this length; the products are the least allowance that they accept. Tests 1; after the refusal
+ * all six are 0.
+ */
+uint32_t mealbis_counts(
+    size_t length,
+    uint64_t *dct_products, uint64_t *dct_sums,
+    uint64_t *spectrum_products, uint64_t *spectrum_sums,
+    uint64_t *pair_products, uint64_t *pair_sums);
+
+/*
+ * Reads the bytes of a pair file: sample count m and block length N, 32 bits unsigned each, then m
+ * samples of a and m of b, 32 bits signed, all little-endian. Writes m words of a and m of b,
+ * *samples = m and *length = N. Tests 7, 8, 9, 1, 3, 6; 6 examines all samples of a, then those of
+ * b. A file has m / N blocks, the first at start 0; a tail shorter than N makes none.
+ *
+ *   file, file_bytes    the whole file
+ *   a, a_words          at least m words; 4,096 are enough for every file
+ *   b, b_words          the same
+ */
+uint32_t mealbis_read(
+    const uint8_t *file, size_t file_bytes,
+    int32_t *a, size_t a_words,
+    int32_t *b, size_t b_words,
+    size_t *samples, size_t *length, size_t *place);
+
+#ifdef __cplusplus
+}
+#endif
+
+#endif
