@@ -48,7 +48,7 @@ int main(void)
     answer = mealbis_spectrum(a, samples, length, length, spectrum_products, first, WORDS(first), second, WORDS(second),
                               scratch, WORDS(scratch), &products, &sums, &place);
     if (answer == MEALBIS_ACCEPTED) {
-        print_rows("Spectrum of a, block 1: k cosine sine", 26, 29);
+        print_rows("Spectrum of a, block 1: k cosine sine", 29, 32);
         printf("spent %" PRIu64 " products and %" PRIu64 " sums\n", products, sums);
     }
 

@@ -113,7 +113,7 @@ fn main() {
 
     // the second block of a, with just its allowance
     if let Ok(spent) = spectrum(a, length, length, spectrum_products, &mut first, &mut second, &mut scratch) {
-        print_rows("Spectrum of a, block 1: k cosine sine", &first, &second, 26..29);
+        print_rows("Spectrum of a, block 1: k cosine sine", &first, &second, 29..32);
         println!("spent {} products and {} sums", spent.products, spent.sums);
     }
 

@@ -1,0 +1,285 @@
+/* Times Spectrum, Cosine and Pair beside a plain C version, kissfft, FFTW and direct sums, on the same input in one run.
+
+     bench                          a table for N = 8 .. 1,024, in Markdown
+     bench CALL CONTENDER N REPEATS      that many blocks of one contender and nothing else, to count instructions
+
+   Every time is the least of many rounds, in which the contenders take turns.  bench/run builds and runs it. */
+
+#include <stdio.h>
+#include <stdlib.h>
+#include <string.h>
+#include <time.h>
+
+#include "mealbis.h"
+#include "plain.h"
+#include "table.h"
+
+#ifdef HAVE_KISSFFT
+#include <kissfft/kiss_fftr.h>
+#endif
+#ifdef HAVE_FFTW
+#include <fftw3.h>
+#endif
+
+#define LONGEST 1024
+#define START 5
+#define RECORDING (LONGEST + START + 3)
+#define ROUNDS 41
+#define ROUND_NS 300000.0
+
+static int32_t a[RECORDING], b[RECORDING];
+static int32_t first[LONGEST], second[LONGEST];
+static int64_t scratch[8 * LONGEST + 64];
+static volatile uint64_t sink;
+
+static void need(int good, const char *what)
+{
+    if (!good) {
+        fprintf(stderr, "bench: %s\n", what);
+        exit(1);
+    }
+}
+
+/* ---- ours: the whole call, with its checks; the first 8 N + 64 words of scratch are cleared */
+
+static void our_spectrum(size_t n)
+{
+    uint64_t products, sums;
+    size_t place;
+    need(mealbis_spectrum(a, RECORDING, START, n, 1 << 20, first, LONGEST, second, LONGEST,
+                          scratch, 8 * LONGEST + 64, &products, &sums, &place) == 0, "refused");
+    sink += products;
+}
+
+static void our_cosine(size_t n)
+{
+    uint64_t products, sums;
+    size_t place;
+    need(mealbis_cosine(a, RECORDING, START, n, 1 << 20, first, LONGEST,
+                        scratch, 8 * LONGEST + 64, &products, &sums, &place) == 0, "refused");
+    sink += products;
+}
+
+static void our_pair(size_t n)
+{
+    uint64_t products, sums;
+    size_t place;
+    need(mealbis_pair(a, RECORDING, b, RECORDING, START, n, 1 << 20, first, LONGEST, second, LONGEST,
+                      scratch, 8 * LONGEST + 64, &products, &sums, &place) == 0, "refused");
+    sink += products;
+}
+
+/* ---- plain C: the same whole call, bench/plain.c */
+
+static void plain_s(size_t n)
+{
+    uint64_t counts[2], place;
+    need(plain_spectrum(a, RECORDING, START, n, 1 << 20, first, LONGEST, second, LONGEST,
+                        scratch, 8 * LONGEST + 64, counts, &place) == 0, "refused");
+    sink += counts[0];
+}
+
+static void plain_c(size_t n)
+{
+    uint64_t counts[2], place;
+    need(plain_cosine(a, RECORDING, START, n, 1 << 20, first, LONGEST,
+                      scratch, 8 * LONGEST + 64, counts, &place) == 0, "refused");
+    sink += counts[0];
+}
+
+static void plain_p(size_t n)
+{
+    uint64_t counts[2], place;
+    need(plain_pair(a, RECORDING, b, RECORDING, START, n, 1 << 20, first, LONGEST, second, LONGEST,
+                    scratch, 8 * LONGEST + 64, counts, &place) == 0, "refused");
+    sink += counts[0];
+}
+
+/* ---- direct sums: cosine and sine, and the DCT, over the stored quarter wave, rounded once */
+
+static int64_t wave[4096];
+
+static void make_wave(void)
+{
+    for (size_t j = 0; j <= 1024; j++) {
+        wave[j] = quarter_wave[j];
+        wave[2048 - j] = -quarter_wave[j];
+    }
+    for (size_t j = 1; j < 2048; j++)
+        wave[4096 - j] = wave[j];
+}
+
+static int32_t direct_sum(size_t n, size_t step, size_t from)
+{
+    int64_t sum = 0;
+    size_t place = from;
+    for (size_t i = 0; i < n; i++) {
+        sum += a[START + i] * wave[place % 4096];
+        place += step;
+    }
+    return (int32_t)((sum + (1 << 29)) >> 30);
+}
+
+static void direct_spectrum(size_t n)
+{
+    for (size_t k = 0; k <= n / 2; k++) {
+        first[k] = direct_sum(n, k * (4096 / n), 0);
+        second[k] = direct_sum(n, k * (4096 / n), 3072);
+    }
+    sink += (uint64_t)first[0];
+}
+
+static void direct_cosine(size_t n)
+{
+    for (size_t k = 0; k < n; k++)
+        first[k] = direct_sum(n, 2 * k * (1024 / n), k * (1024 / n));
+    sink += (uint64_t)first[0];
+}
+
+/* ---- kissfft and FFTW: the transform alone, in floating point; nothing is checked or cleared */
+
+#ifdef HAVE_KISSFFT
+static kiss_fft_scalar kiss_in[LONGEST];
+static kiss_fft_cpx kiss_out[LONGEST];
+static kiss_fftr_cfg kiss_plan[LONGEST + 1];
+
+static void kiss_spectrum(size_t n)
+{
+    if (!kiss_plan[n])
+        kiss_plan[n] = kiss_fftr_alloc((int)n, 0, 0, 0);
+    kiss_fftr(kiss_plan[n], kiss_in, kiss_out);
+}
+#endif
+
+#ifdef HAVE_FFTW
+static double *fftw_in, *fftw_real;
+static fftw_complex *fftw_out;
+static fftw_plan fftw_r2c[LONGEST + 1], fftw_dct[LONGEST + 1];
+
+static void fftw_spectrum(size_t n)
+{
+    if (!fftw_r2c[n])
+        fftw_r2c[n] = fftw_plan_dft_r2c_1d((int)n, fftw_in, fftw_out, FFTW_ESTIMATE);
+    fftw_execute(fftw_r2c[n]);
+}
+
+static void fftw_cosine(size_t n)
+{
+    if (!fftw_dct[n])
+        fftw_dct[n] = fftw_plan_r2r_1d((int)n, fftw_in, fftw_real, FFTW_REDFT10, FFTW_ESTIMATE);
+    fftw_execute(fftw_dct[n]);
+}
+#endif
+
+/* ---- the contenders of each call; the first is ours, the second the plain version */
+
+struct contender {
+    const char *call, *name;
+    void (*block)(size_t n);
+};
+
+static const struct contender contenders[] = {
+    {"Spectrum", "ours", our_spectrum},
+    {"Spectrum", "plain C", plain_s},
+#ifdef HAVE_KISSFFT
+    {"Spectrum", "kissfft", kiss_spectrum},
+#endif
+#ifdef HAVE_FFTW
+    {"Spectrum", "FFTW r2c", fftw_spectrum},
+#endif
+    {"Spectrum", "direct sum", direct_spectrum},
+    {"Cosine", "ours", our_cosine},
+    {"Cosine", "plain C", plain_c},
+#ifdef HAVE_FFTW
+    {"Cosine", "FFTW REDFT10", fftw_cosine},
+#endif
+    {"Cosine", "direct sum", direct_cosine},
+    {"Pair", "ours", our_pair},
+    {"Pair", "plain C", plain_p},
+};
+
+#define CONTENDERS (sizeof contenders / sizeof contenders[0])
+
+static void make_input(void)
+{
+    uint32_t state = 20260911;
+    for (size_t i = 0; i < RECORDING; i++) {
+        state = state * 1664525 + 1013904223;
+        a[i] = (int32_t)(state >> 8) % 1000001;
+        state = state * 1664525 + 1013904223;
+        b[i] = -((int32_t)(state >> 8) % 1000001);
+    }
+    make_wave();
+#ifdef HAVE_KISSFFT
+    for (size_t i = 0; i < LONGEST; i++)
+        kiss_in[i] = (kiss_fft_scalar)a[START + i];
+#endif
+#ifdef HAVE_FFTW
+    fftw_in = fftw_malloc(sizeof(double) * LONGEST);
+    fftw_real = fftw_malloc(sizeof(double) * LONGEST);
+    fftw_out = fftw_malloc(sizeof(fftw_complex) * LONGEST);
+    for (size_t i = 0; i < LONGEST; i++)
+        fftw_in[i] = a[START + i];
+#endif
+}
+
+static double now(void)
+{
+    struct timespec t;
+    clock_gettime(CLOCK_MONOTONIC, &t);
+    return t.tv_sec * 1e9 + t.tv_nsec;
+}
+
+static double timed(const struct contender *c, size_t n, long repeats)
+{
+    double begin = now();
+    for (long i = 0; i < repeats; i++)
+        c->block(n);
+    return (now() - begin) / repeats;
+}
+
+static void measure(size_t n, double *best)
+{
+    long repeats[CONTENDERS];
+    for (size_t i = 0; i < CONTENDERS; i++) {
+        best[i] = timed(&contenders[i], n, 3);
+        repeats[i] = best[i] < ROUND_NS ? (long)(ROUND_NS / best[i]) + 1 : 1;
+    }
+    for (int round = 0; round < ROUNDS; round++)
+        for (size_t i = 0; i < CONTENDERS; i++) {
+            double t = timed(&contenders[i], n, repeats[i]);
+            if (t < best[i])
+                best[i] = t;
+        }
+}
+
+static void table(void)
+{
+    double best[CONTENDERS];
+    printf("| call | N | contender | ns per block | blocks per second | ours takes, times this |\n|---|---|---|---|---|---|\n");
+    for (size_t n = 8; n <= LONGEST; n *= 2) {
+        measure(n, best);
+        size_t ours = 0;
+        for (size_t i = 0; i < CONTENDERS; i++) {
+            if (strcmp(contenders[i].name, "ours") == 0)
+                ours = i;
+            printf("| %s | %zu | %s | %.0f | %.0f | %.2f |\n", contenders[i].call, n, contenders[i].name, best[i], 1e9 / best[i], best[ours] / best[i]);
+        }
+    }
+}
+
+int main(int count, char **words)
+{
+    make_input();
+    if (count == 1) {
+        table();
+        return 0;
+    }
+    need(count == 5, "usage: bench [CALL CONTENDER N REPEATS]");
+    for (size_t i = 0; i < CONTENDERS; i++)
+        if (strcmp(contenders[i].call, words[1]) == 0 && strcmp(contenders[i].name, words[2]) == 0) {
+            timed(&contenders[i], (size_t)atol(words[3]), atol(words[4]));
+            return 0;
+        }
+    need(0, "no such contender");
+}
