@@ -1,0 +1,186 @@
+// Differential tests of the library over its C interface.
+//
+//     tests/differential [--seed S] [--seconds T | --rounds R] [--table FILE] [--item CLASS INDEX]
+//
+// Document 01 is implemented here once more, and its exact sums are evaluated term by term. The answer of every call, its counts, its results and the words that it must not
+// touch are compared with them.
+// Each class of calls is gone through once, then in rounds until the time is up or R rounds are made. --table writes docs/DISTANCES.md, --item repeats one item.
+// The last line is 'N passed, 0 failed', N the calls compared.
+mod blocks;
+mod calls;
+mod circle;
+mod exact;
+mod files;
+mod hostile;
+mod known;
+mod library;
+mod random;
+mod record;
+mod run;
+mod ties;
+mod transforms;
+
+use random::Random;
+use record::{with_commas, FUNCTIONS, READ};
+use run::Run;
+use std::time::{Duration, Instant};
+
+// A class of calls: an item is made from the seed, the class and the index alone.
+struct Class {
+    name: &'static str,
+    item: fn(&mut Run, u64, &mut Random),
+    // items that every run makes, and items of each further round
+    once: u64,
+    round: u64,
+}
+
+fn classes() -> Vec<Class> {
+    let class = |name, item, once, round| Class { name, item, once, round };
+    vec![
+        class("known", known::item, known::known_calls() as u64, 0),
+        class("counts", hostile::counts_item, hostile::COUNT_LENGTHS, 10),
+        class("flawed", hostile::flawed_item, hostile::SETS, 64),
+        class("extreme", hostile::extreme_item, 3000, 100),
+        class("files", files::legal_item, 220, 11),
+        class("damaged", files::damaged_item, 220, 22),
+        class("flawed-files", files::flawed_item, files::SETS, 32),
+        class("climb", blocks::climb_item, 33, 22),
+        class("blocks", blocks::item, (blocks::PATTERNS * 11) as u64, (blocks::PATTERNS * 11) as u64),
+    ]
+}
+
+const MOST_FAILURES: usize = 10;
+
+struct Words {
+    seed: u64,
+    seconds: u64,
+    rounds: Option<u64>,
+    table: Option<String>,
+    item: Option<(String, u64)>,
+}
+
+fn main() {
+    let words = read_words();
+    println!("differential: seed {}", words.seed);
+    let mut run = Run::new();
+    known::self_check(&run.rules);
+    let rounds = match &words.item {
+        Some((name, index)) => one_item(&mut run, words.seed, name, *index),
+        None => whole_run(&mut run, &words),
+    };
+    finish(&run, &words, rounds);
+}
+
+// ---- running
+
+// every class once, then the rounds; returns their number
+fn whole_run(run: &mut Run, words: &Words) -> u64 {
+    let end = Instant::now() + Duration::from_secs(words.seconds);
+    let classes = classes();
+    let mut next = vec![0; classes.len()];
+    advance(run, words.seed, &classes, &mut next, |class| class.once);
+    let mut rounds = 0;
+    while words.rounds.map_or_else(|| Instant::now() < end, |wanted| rounds < wanted) {
+        advance(run, words.seed, &classes, &mut next, |class| class.round);
+        rounds += 1;
+    }
+    require_pairs(run);
+    rounds
+}
+
+// the next items of each class
+fn advance(run: &mut Run, seed: u64, classes: &[Class], next: &mut [u64], count: impl Fn(&Class) -> u64) {
+    for (which, class) in classes.iter().enumerate() {
+        for _ in 0..count(class) {
+            make(run, seed, which, class, next[which]);
+            next[which] += 1;
+        }
+    }
+}
+
+fn make(run: &mut Run, seed: u64, which: usize, class: &Class, index: u64) {
+    let before = run.failures.len();
+    (class.item)(run, index, &mut Random::of_item(seed, which as u64, index));
+    if run.failures.len() > before {
+        for failure in &run.failures[before..] {
+            println!("DIFFERENT {failure}");
+        }
+        println!("    again: tests/differential --seed {seed} --item {} {index}", class.name);
+        if run.failures.len() >= MOST_FAILURES {
+            println!("stopped after {} differences", run.failures.len());
+            fail(run);
+        }
+    }
+}
+
+fn one_item(run: &mut Run, seed: u64, name: &str, index: u64) -> u64 {
+    let classes = classes();
+    let which = classes.iter().position(|class| class.name == name).unwrap_or_else(|| usage());
+    make(run, seed, which, &classes[which], index);
+    0
+}
+
+// Each pair of refusals that can hold together must have been met by some call.
+fn require_pairs(run: &mut Run) {
+    for function in [0, 1, 2, READ] {
+        let (order, impossible) = if function == READ { (files::ORDER, &files::IMPOSSIBLE[..]) } else { ([1, 2, 3, 4, 5, 6], &[][..]) };
+        for pair in pairs(&order).filter(|pair| !impossible.contains(pair)) {
+            if !run.record.met(function, pair) {
+                let failure = format!("no call of {} met the refusals {} and {} together", FUNCTIONS[function], pair.0, pair.1);
+                println!("DIFFERENT {failure}");
+                run.failures.push(failure);
+            }
+        }
+    }
+}
+
+fn pairs(order: &[u32; 6]) -> impl Iterator<Item = (u32, u32)> + '_ {
+    (0..6).flat_map(|i| (i + 1..6).map(move |j| (i, j))).map(|(i, j)| (order[i], order[j]))
+}
+
+// ---- the end
+
+fn finish(run: &Run, words: &Words, rounds: u64) {
+    println!("{}", run.record.summary());
+    println!("{} blocks, {rounds} rounds", with_commas(run.record.all_blocks()));
+    if !run.failures.is_empty() {
+        fail(run);
+    }
+    if let Some(path) = &words.table {
+        let command = format!("tests/differential --seed {} --rounds {rounds} --table docs/DISTANCES.md", words.seed);
+        std::fs::write(path, run.record.document(&command)).expect("the table is written");
+    }
+    println!("{} passed, 0 failed", run.record.calls());
+}
+
+fn fail(run: &Run) -> ! {
+    let failed = run.failures.len() as u64;
+    println!("{} passed, {failed} failed", run.record.calls().saturating_sub(failed));
+    std::process::exit(1)
+}
+
+fn read_words() -> Words {
+    let mut words = Words { seed: 20260911, seconds: 45, rounds: None, table: None, item: None };
+    let mut given = std::env::args().skip(1);
+    while let Some(word) = given.next() {
+        let mut value = || given.next().unwrap_or_else(|| usage());
+        match word.as_str() {
+            "--seed" => words.seed = number(&value()),
+            "--seconds" => words.seconds = number(&value()),
+            "--rounds" => words.rounds = Some(number(&value())),
+            "--table" => words.table = Some(value()),
+            "--item" => words.item = Some((value(), number(&value()))),
+            _ => usage(),
+        }
+    }
+    words
+}
+
+fn number(word: &str) -> u64 {
+    word.parse().unwrap_or_else(|_| usage())
+}
+
+fn usage() -> ! {
+    eprintln!("usage: tests/differential [--seed S] [--seconds T | --rounds R] [--table FILE] [--item CLASS INDEX]");
+    std::process::exit(2)
+}

@@ -1,0 +1,130 @@
+// What a run has seen: calls, answers, refusals that held together, and the largest distances.
+use crate::calls::{Kind, LENGTHS};
+use crate::exact::{Part, ONE, PARTS};
+
+// The five functions of the library, in the order of FUNCTIONS.
+pub const FUNCTIONS: [&str; 5] = ["Spectrum", "Cosine", "Pair", "counts", "read"];
+pub const COUNTS: usize = 3;
+pub const READ: usize = 4;
+
+pub fn function_of(kind: Kind) -> usize {
+    match kind {
+        Kind::Spectrum => 0,
+        Kind::Cosine => 1,
+        Kind::Pair => 2,
+    }
+}
+
+#[derive(Default)]
+pub struct Record {
+    // calls by function and by the number answered
+    answers: [[u64; 10]; 5],
+    // calls on which the conditions of two refusals held, by function
+    together: [[[u64; 10]; 10]; 5],
+    // accepted blocks, and coefficients compared with their exact sums, by level
+    pub blocks: [u64; 11],
+    pub coefficients: [u64; 11],
+    largest: [[u128; 5]; 11],
+}
+
+impl Record {
+    pub fn answer(&mut self, function: usize, number: u32, holding: &[u32]) {
+        self.answers[function][number as usize] += 1;
+        for &first in holding {
+            for &second in holding {
+                self.together[function][first as usize][second as usize] += 1;
+            }
+        }
+    }
+
+    pub fn distance(&mut self, level: usize, part: Part, distance: u128) {
+        self.coefficients[level] += 1;
+        let largest = &mut self.largest[level][part as usize];
+        *largest = distance.max(*largest);
+    }
+
+    // whether some call has met both refusals together
+    pub fn met(&self, function: usize, (first, second): (u32, u32)) -> bool {
+        self.together[function][first as usize][second as usize] > 0
+    }
+
+    pub fn calls(&self) -> u64 {
+        self.answers.iter().flatten().sum()
+    }
+
+    pub fn all_blocks(&self) -> u64 {
+        self.blocks.iter().sum()
+    }
+
+    // ---- what is printed
+
+    pub fn summary(&self) -> String {
+        let mut lines = Vec::new();
+        let by_length = |of: &[u64; 11]| (0..11).map(|level| format!("{}: {}", LENGTHS[level], of[level])).collect::<Vec<_>>().join(", ");
+        lines.push(format!("blocks by length       {}", by_length(&self.blocks)));
+        lines.push(format!("held to exact sums     {}", by_length(&self.coefficients)));
+        for (function, name) in FUNCTIONS.iter().enumerate() {
+            let of = &self.answers[function];
+            let numbers: Vec<String> = (0..10).filter(|&number| of[number] > 0).map(|number| format!("{}: {}", number, of[number])).collect();
+            lines.push(format!("answers of {:<11} {}", name, numbers.join(", ")));
+        }
+        lines.join("\n")
+    }
+
+    // docs/DISTANCES.md: the largest distances beside the limits
+    pub fn document(&self, command: &str) -> String {
+        let coefficients: u64 = self.coefficients.iter().sum();
+        let rows: Vec<String> = (0..11).map(|level| self.row(level)).collect();
+        DOCUMENT
+            .replace("COMMAND", command)
+            .replace("BLOCKS", &with_commas(self.all_blocks()))
+            .replace("COEFFICIENTS", &with_commas(coefficients))
+            .replace("ROWS", &rows.join("\n"))
+    }
+
+    fn row(&self, level: usize) -> String {
+        let n = LENGTHS[level];
+        let [c, s, dct, real, imaginary] = PARTS.map(|part| decimal(self.largest[level][part as usize]));
+        let [eighth, _, dct_limit, quarter, _] = PARTS.map(|part| limit(part.limit(n)));
+        let blocks = with_commas(self.blocks[level]);
+        format!("| {n} | {blocks} | {c} | {s} | {eighth} | {dct} | {dct_limit} | {real} | {imaginary} | {quarter} |")
+    }
+}
+
+const DOCUMENT: &str = "\
+# Distances seen
+
+The limits of document 01 are proved for every accepted block. This table shows how far results were from their exact sums on BLOCKS blocks that the differential tests made: constant,
+alternating and random blocks, the ends of the range, steps, impulses, waves that excite one k, ties, and blocks changed sample by sample to take one coefficient further away. The exact sums
+of COEFFICIENTS coefficients were evaluated term by term: every k up to N = 64 and in one call of 32 on longer blocks, else some twelve k. A number is the largest distance seen, over 2^80 and to the
+nearest thousandth; beside it stands the proved limit. The proofs add up the largest error of every step; in a block these mostly cancel, so the distances seen grow more slowly than the limits.
+Up to N = 4 the cosine-DFT, the sine-DFT and Pair are made without a product and are exact.
+
+Made by
+
+    COMMAND
+
+which gives the same table again.
+
+| N | blocks | cosine-DFT | sine-DFT | limit N/8 | DCT | limit (N + 1)/4 | Pair, real | Pair, imaginary | limit N/4 |
+|--:|--:|--:|--:|--:|--:|--:|--:|--:|--:|
+ROWS
+";
+
+// a distance over 2^80, to the nearest thousandth
+fn decimal(distance: u128) -> String {
+    let one = ONE as u128;
+    let thousandths = (distance * 1000 + one / 2) / one;
+    format!("{}.{:03}", thousandths / 1000, thousandths % 1000)
+}
+
+fn limit((over, under): (usize, usize)) -> String {
+    format!("{:.3}", over as f64 / under as f64)
+}
+
+pub fn with_commas(number: u64) -> String {
+    if number < 1000 {
+        return number.to_string();
+    }
+    format!("{},{:03}", with_commas(number / 1000), number % 1000)
+}

@@ -1,0 +1,247 @@
+// Makes a call on the library and holds everything that it leaves behind to document 01.
+use crate::calls::{Call, Kind, Rules};
+use crate::exact::{distance, within, Part};
+use crate::files::File;
+use crate::library::*;
+use crate::random::Random;
+use crate::record::{function_of, Record, COUNTS, READ};
+
+pub struct Run {
+    pub rules: Rules,
+    pub record: Record,
+    // what was not as document 01 says, in words
+    pub failures: Vec<String>,
+}
+
+impl Run {
+    pub fn new() -> Run {
+        Run { rules: Rules::new(), record: Record::default(), failures: Vec::new() }
+    }
+
+    // ---- calls on recordings
+
+    // `wanted` is a coefficient to be held to its exact sum beside the usual ones; the larger of its distances is returned.
+    pub fn call(&mut self, call: &Call, wanted: usize, random: &mut Random) -> u128 {
+        let answer = self.rules.answer(call);
+        let mut lent = LentCall::new(call, random);
+        if let Some(outcome) = &answer.outcome {
+            lent.expect_results(&outcome.results, 8 * call.length + 64);
+            lent.counts.expect_counts(&[outcome.tally.products, outcome.tally.sums], 0);
+        } else {
+            lent.counts.expect_counts(&[0, 0], answer.place);
+        }
+        let number = lent.make(call);
+
+        let mut wrong = lent.differences();
+        wrong.extend(wrong_number(number, answer.number));
+        let mut apart = 0;
+        if wrong.is_empty() && number == 0 {
+            (apart, wrong) = self.distances(call, &lent.result_words(), wanted, random);
+        }
+        self.note(call, answer.number);
+        self.fail(wrong, || described(call));
+        apart
+    }
+
+    fn note(&mut self, call: &Call, number: u32) {
+        let holding: Vec<u32> = (1..=6).filter(|&condition| self.rules.holds(call, condition)).collect();
+        self.record.answer(function_of(call.kind), number, &holding);
+    }
+
+    fn distances(&mut self, call: &Call, results: &[&[i32]], wanted: usize, random: &mut Random) -> (u128, Vec<String>) {
+        let level = call.length.trailing_zeros() as usize;
+        self.record.blocks[level] += call.kind.recordings() as u64;
+        let blocks = call.blocks();
+        let (mut of_wanted, mut wrong) = (0, Vec::new());
+        for k in sampled(call, wanted, random) {
+            for (part, words) in parts(call.kind).iter().zip(results) {
+                let apart = distance(words[k], part.exact(&self.rules.circle, &blocks, k));
+                self.record.distance(level, *part, apart);
+                if k == wanted {
+                    of_wanted = apart.max(of_wanted);
+                }
+                if !within(apart, part.limit(call.length)) {
+                    wrong.push(format!("coefficient {k} is {} thousandths from its exact sum", (apart * 1000) >> 80));
+                }
+            }
+        }
+        (of_wanted, wrong)
+    }
+
+    // ---- the count query and the reader
+
+    pub fn counts(&mut self, length: usize, random: &mut Random) {
+        let expected = self.rules.counts(length);
+        let six = expected.map_or([0; 6], |c| [c.dct.products, c.dct.sums, c.spectrum.products, c.spectrum.sums, c.pair.products, c.pair.sums]);
+        let mut lent: Vec<Lent<u64>> = six.iter().map(|_| Lent::filled("a count", 1, random)).collect();
+        for (word, count) in lent.iter_mut().zip(six) {
+            word.expect(&[count]);
+        }
+        let p: Vec<*mut u64> = lent.iter_mut().map(|word| word.pointer()).collect();
+        let number = unsafe { mealbis_counts(length, p[0], p[1], p[2], p[3], p[4], p[5]) };
+
+        let mut wrong = differences(&lent.iter().map(Lent::difference).collect::<Vec<_>>());
+        let correct = if expected.is_some() { 0 } else { 1 };
+        wrong.extend(wrong_number(number, correct));
+        self.record.answer(COUNTS, correct, &[]);
+        self.fail(wrong, || format!("counts of length {length}"));
+    }
+
+    pub fn read(&mut self, file: &File, random: &mut Random) {
+        let answer = file.answer();
+        let mut bytes = Lent::holding("the file", &file.bytes, random);
+        let mut recordings = [Lent::filled("a", file.a_words, random), Lent::filled("b", file.b_words, random)];
+        let mut sizes = ["m", "N", "the place"].map(|name| Lent::<usize>::filled(name, 1, random));
+        for (recording, samples) in recordings.iter_mut().zip(&answer.samples) {
+            recording.expect(samples);
+        }
+        for (word, size) in sizes.iter_mut().zip([answer.sizes.0, answer.sizes.1, answer.place]) {
+            word.expect(&[size]);
+        }
+        let number = {
+            let [a, b] = &mut recordings;
+            let [m, n, place] = &mut sizes;
+            unsafe { mealbis_read(bytes.pointer(), bytes.len(), a.pointer(), a.len(), b.pointer(), b.len(), m.pointer(), n.pointer(), place.pointer()) }
+        };
+
+        let mut found = vec![bytes.difference()];
+        found.extend(recordings.iter().map(Lent::difference));
+        found.extend(sizes.iter().map(Lent::difference));
+        let mut wrong = differences(&found);
+        wrong.extend(wrong_number(number, answer.number));
+        self.record.answer(READ, answer.number, &file.holding());
+        self.fail(wrong, || file.described());
+    }
+
+    fn fail(&mut self, wrong: Vec<String>, what: impl Fn() -> String) {
+        if !wrong.is_empty() {
+            self.failures.push(format!("{}\n    {}", what(), wrong.join("\n    ")));
+        }
+    }
+}
+
+// ---- the memory lent to one call
+
+struct LentCall {
+    recordings: Vec<Lent<i32>>,
+    results: Vec<Lent<i32>>,
+    scratch: Lent<i64>,
+    counts: LentCounts,
+}
+
+struct LentCounts {
+    products: Lent<u64>,
+    sums: Lent<u64>,
+    place: Lent<usize>,
+}
+
+impl LentCounts {
+    fn expect_counts(&mut self, counts: &[u64; 2], place: usize) {
+        self.products.expect(&counts[..1]);
+        self.sums.expect(&counts[1..]);
+        self.place.expect(&[place]);
+    }
+}
+
+impl LentCall {
+    fn new(call: &Call, random: &mut Random) -> LentCall {
+        let names = match call.kind {
+            Kind::Spectrum => ["cosine", "sine"],
+            Kind::Cosine => ["the coefficients", ""],
+            Kind::Pair => ["real", "imaginary"],
+        };
+        LentCall {
+            recordings: call.recordings.iter().map(|samples| Lent::holding("a recording", samples, random)).collect(),
+            results: call.results.iter().zip(names).map(|(&words, name)| Lent::filled(name, words, random)).collect(),
+            scratch: Lent::filled("scratch", call.scratch, random),
+            counts: LentCounts {
+                products: Lent::filled("the products", 1, random),
+                sums: Lent::filled("the sums", 1, random),
+                place: Lent::filled("the place", 1, random),
+            },
+        }
+    }
+
+    fn expect_results(&mut self, results: &[Vec<i32>], cleared: usize) {
+        for (lent, words) in self.results.iter_mut().zip(results) {
+            lent.expect(words);
+        }
+        self.scratch.expect(&vec![0; cleared]);
+    }
+
+    fn make(&mut self, call: &Call) -> u32 {
+        let (start, length, allowance) = (call.start, call.length, call.allowance);
+        let lent: Vec<(*mut i32, usize)> = self.recordings.iter_mut().map(|r| (r.pointer(), r.len())).collect();
+        let out: Vec<(*mut i32, usize)> = self.results.iter_mut().map(|r| (r.pointer(), r.len())).collect();
+        let (a, a_len) = lent[0];
+        let (b, b_len) = if call.same_words { lent[0] } else { lent[lent.len() - 1] };
+        let ((y, y_len), (z, z_len)) = (out[0], out[out.len() - 1]);
+        let (work, work_len) = (self.scratch.pointer(), self.scratch.len());
+        let (products, sums, place) = (self.counts.products.pointer(), self.counts.sums.pointer(), self.counts.place.pointer());
+        unsafe {
+            match call.kind {
+                Kind::Spectrum => mealbis_spectrum(a, a_len, start, length, allowance, y, y_len, z, z_len, work, work_len, products, sums, place),
+                Kind::Cosine => mealbis_cosine(a, a_len, start, length, allowance, y, y_len, work, work_len, products, sums, place),
+                Kind::Pair => mealbis_pair(a, a_len, b, b_len, start, length, allowance, y, y_len, z, z_len, work, work_len, products, sums, place),
+            }
+        }
+    }
+
+    fn differences(&self) -> Vec<String> {
+        let mut found: Vec<Option<String>> = self.recordings.iter().chain(&self.results).map(Lent::difference).collect();
+        found.extend([self.scratch.difference(), self.counts.products.difference(), self.counts.sums.difference(), self.counts.place.difference()]);
+        differences(&found)
+    }
+
+    fn result_words(&self) -> Vec<&[i32]> {
+        self.results.iter().map(Lent::words).collect()
+    }
+}
+
+// ---- small parts
+
+fn wrong_number(number: u32, correct: u32) -> Option<String> {
+    if number == correct {
+        None
+    } else {
+        Some(format!("the answer is {number} and not {correct}"))
+    }
+}
+
+fn parts(kind: Kind) -> &'static [Part] {
+    match kind {
+        Kind::Spectrum => &[Part::CosineDft, Part::SineDft],
+        Kind::Cosine => &[Part::Dct],
+        Kind::Pair => &[Part::Real, Part::Imaginary],
+    }
+}
+
+// The k that are held to their exact sums: all for N up to 64 and for some longer blocks, else 0, 1, N/4, N/2, the last, the wanted one and random ones.
+fn sampled(call: &Call, wanted: usize, random: &mut Random) -> Vec<usize> {
+    let (n, listed) = (call.length, call.kind.listed(call.length));
+    if n <= 64 || random.one_in(32) {
+        return (0..listed).collect();
+    }
+    // by (9) and (10), a wave that excites k excites N − k
+    let mirrored = if wanted < listed { wanted } else { n - wanted };
+    let mut ks = vec![0, 1, n / 4, n / 2, listed - 1, mirrored];
+    ks.extend((0..6).map(|_| random.below(listed)));
+    ks
+}
+
+fn described(call: &Call) -> String {
+    let lens: Vec<usize> = call.recordings.iter().map(Vec::len).collect();
+    let blocks: Vec<&[i32]> = call.blocks().iter().map(|block| &block[..block.len().min(16)]).collect();
+    format!(
+        "{:?}: recordings of {:?} samples, start {}, length {}, allowance {}, result buffers of {:?} words, scratch of {} words{}\n    the blocks begin {:?}",
+        call.kind,
+        lens,
+        call.start,
+        call.length,
+        call.allowance,
+        call.results,
+        call.scratch,
+        if call.same_words { ", b is lent as the words of a" } else { "" },
+        blocks
+    )
+}
