@@ -6,6 +6,8 @@ pub mod Joining
 pub mod Parts
 pub mod Levels
 pub mod Bases
+pub mod Fronts
 pub mod Runs
 pub mod DftRuns
 pub mod DctRuns
+pub mod Short

@@ -1,9 +1,15 @@
 // Where the recursion ends: the transforms of short blocks, each in its place at the front of the slice.
+use crate::direct::cosine_16;
+use crate::direct::dct_8;
+use crate::direct::sine_16;
 use crate::join::sum_and_difference;
 use crate::tally::Tally;
 ghost use Prim.Native.Nat.{_+_, _/_, _≤_};
-ghost use Rattle.ffct.specs.Transforms.{cosineDft, sineDft};
-ghost use Rattle.transforms.specs.Steps.{Ready, dftRoom, Transformed};
+ghost use lib.ListN.{length};
+ghost use Rattle.circle.specs.Circle.{IsQuarterWave};
+ghost use Rattle.ffct.specs.Transforms.{cosineDft, sineDft, dct};
+ghost use Rattle.transforms.specs.Words.{word, Filled};
+ghost use Rattle.transforms.specs.Steps.{Ready, dftRoom, dctRoom, Transformed};
 
 // The cosine-DFT of one or two samples.
 pub fn cosine_base(w: &mut [i64], n: usize) -> Tally
@@ -33,5 +39,66 @@ pub fn sine_base(w: &mut [i64], n: usize) -> Tally
     Tally {
         products: 0,
         sums: 0,
+    }
+}
+
+// The first m words of one slice, to another from b on.
+fn copy_words(from: &[i64], to: &mut [i64], b: usize, m: usize)
+    requires { ⌜ (m ≤ length (now from)) × (b + m ≤ length (now to)) ⌝ }
+    ensures { λ _. ⌜ Filled b m (word (now (from .entry))) (now (to .entry)) (now (to .exit)) ⌝ }
+{
+    let mut i = 0;
+    while i < m {
+        let x = from[i];
+        to[b + i] = x;
+        i += 1;
+    }
+}
+
+// The cosine-DFT of sixteen samples, directly.
+pub fn cosine_of_16(wave: &[i32; 1025], w: &mut [i64]) -> Tally
+    requires { ⌜ IsQuarterWave (now wave) × Ready 16 (dftRoom 16) (now w) ⌝ }
+    ensures { λ r. ⌜ Transformed cosineDft 16 9 (now (w .entry)) (now (w .exit)) (r .products) (r .sums) ⌝ }
+{
+    let mut x = [0i64; 16];
+    copy_words(w, &mut x, 0, 16);
+    let r = cosine_16(wave, x);
+    let at = r.at;
+    copy_words(&at, w, 0, 9);
+    Tally {
+        products: r.products,
+        sums: r.sums,
+    }
+}
+
+// The sine-DFT of sixteen samples, directly.
+pub fn sine_of_16(wave: &[i32; 1025], w: &mut [i64]) -> Tally
+    requires { ⌜ IsQuarterWave (now wave) × Ready 16 (dftRoom 16) (now w) ⌝ }
+    ensures { λ r. ⌜ Transformed sineDft 16 9 (now (w .entry)) (now (w .exit)) (r .products) (r .sums) ⌝ }
+{
+    let mut x = [0i64; 16];
+    copy_words(w, &mut x, 0, 16);
+    let r = sine_16(wave, x);
+    let at = r.at;
+    copy_words(&at, w, 0, 9);
+    Tally {
+        products: r.products,
+        sums: r.sums,
+    }
+}
+
+// The DCT of eight samples, directly.
+pub fn dct_of_8(wave: &[i32; 1025], w: &mut [i64]) -> Tally
+    requires { ⌜ IsQuarterWave (now wave) × Ready 8 (dctRoom 8) (now w) ⌝ }
+    ensures { λ r. ⌜ Transformed dct 8 8 (now (w .entry)) (now (w .exit)) (r .products) (r .sums) ⌝ }
+{
+    let mut x = [0i64; 8];
+    copy_words(w, &mut x, 0, 8);
+    let r = dct_8(wave, x);
+    let at = r.at;
+    copy_words(&at, w, 0, 8);
+    Tally {
+        products: r.products,
+        sums: r.sums,
     }
 }

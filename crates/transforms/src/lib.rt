@@ -2,13 +2,17 @@
 // the crate ffct, values and counts together. A part of the lent words holds the input on entry and the result on return; what a transform needs
 // for itself stands behind it, and it lends the tail of the slice on.
 pub mod base;
+pub mod direct;
 pub mod fold;
 pub mod join;
 pub mod rotate;
 pub mod tally;
 
 use base::cosine_base;
+use base::cosine_of_16;
+use base::dct_of_8;
 use base::sine_base;
+use base::sine_of_16;
 use fold::put_evens;
 use fold::put_folded_differences;
 use fold::put_folded_sums;
@@ -28,6 +32,9 @@ pub fn cosine_dft(wave: &[i32; 1025], w: &mut [i64], n: usize) -> Tally
     requires { ⌜ IsQuarterWave (now wave) × Ready n (dftRoom n) (now w) ⌝ }
     ensures { λ r. ⌜ Transformed cosineDft n (n / 2 + 1) (now (w .entry)) (now (w .exit)) (r .products) (r .sums) ⌝ }
 {
+    if n == 16 {
+        return cosine_of_16(wave, w);
+    }
     if n <= 2 {
         return cosine_base(w, n);
     }
@@ -50,6 +57,9 @@ pub fn sine_dft(wave: &[i32; 1025], w: &mut [i64], n: usize) -> Tally
     requires { ⌜ IsQuarterWave (now wave) × Ready n (dftRoom n) (now w) ⌝ }
     ensures { λ r. ⌜ Transformed sineDft n (n / 2 + 1) (now (w .entry)) (now (w .exit)) (r .products) (r .sums) ⌝ }
 {
+    if n == 16 {
+        return sine_of_16(wave, w);
+    }
     if n <= 2 {
         return sine_base(w, n);
     }
@@ -72,6 +82,9 @@ pub fn dct(wave: &[i32; 1025], w: &mut [i64], n: usize) -> Tally
     requires { ⌜ IsQuarterWave (now wave) × Ready n (dctRoom n) (now w) ⌝ }
     ensures { λ r. ⌜ Transformed dctOf n n (now (w .entry)) (now (w .exit)) (r .products) (r .sums) ⌝ }
 {
+    if n == 8 {
+        return dct_of_8(wave, w);
+    }
     if n == 1 {
         return Tally {
             products: 0,

@@ -21,7 +21,7 @@ pub struct Rotation {
 }
 
 // (20), from the cosine-DFT and the sine-DFT at k, c and s being the table's entries. (c + s and s - c are sums of table entries alone.)
-fn rotate_pair(c: i64, s: i64, cosine: i64, sine: i64) -> Rotation
+pub fn rotate_pair(c: i64, s: i64, cosine: i64, sine: i64) -> Rotation
     requires { ⌜ (natAbs cosine ≤ largestSum + 128) × (natAbs sine ≤ largestSum + 128) × (natAbs c ≤ 2 ^ 30) × (natAbs s ≤ 2 ^ 30) ⌝ }
     ensures { λ r. ⌜ PairRotated c s cosine sine (r .low) (r .high) (r .products) (r .sums) ⌝ }
 {
@@ -86,7 +86,7 @@ pub struct Middle {
 }
 
 // T(512) C(n / 2), rounded.
-fn rotate_middle(wave: &[i32; 1025], cosine: i64) -> Middle
+pub fn rotate_middle(wave: &[i32; 1025], cosine: i64) -> Middle
     requires { ⌜ IsQuarterWave (now wave) × (natAbs cosine ≤ largestSum + 128) ⌝ }
     ensures { λ r. ⌜ MiddleRotated cosine (r .value) (r .products) ⌝ }
 {
