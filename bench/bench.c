@@ -253,18 +253,32 @@ static void measure(size_t n, double *best)
         }
 }
 
+/* a table for each call: its time, and how many times another contender's time that is */
 static void table(void)
 {
-    double best[CONTENDERS];
-    printf("| call | N | contender | ns per block | blocks per second | ours takes, times this |\n|---|---|---|---|---|---|\n");
-    for (size_t n = 8; n <= LONGEST; n *= 2) {
-        measure(n, best);
-        size_t ours = 0;
-        for (size_t i = 0; i < CONTENDERS; i++) {
-            if (strcmp(contenders[i].name, "ours") == 0)
-                ours = i;
-            printf("| %s | %zu | %s | %.0f | %.0f | %.2f |\n", contenders[i].call, n, contenders[i].name, best[i], 1e9 / best[i], best[ours] / best[i]);
+    static double best[11][CONTENDERS];
+    for (size_t n = 8, row = 0; n <= LONGEST; n *= 2, row++)
+        measure(n, best[row]);
+    for (size_t ours = 0; ours < CONTENDERS; ours++) {
+        if (strcmp(contenders[ours].name, "ours") != 0)
+            continue;
+        size_t end = ours + 1;
+        while (end < CONTENDERS && strcmp(contenders[end].call, contenders[ours].call) == 0)
+            end++;
+        printf("### %s\n\n| N | ns per block | blocks per second |", contenders[ours].call);
+        for (size_t i = ours + 1; i < end; i++)
+            printf(" times %s |", contenders[i].name);
+        printf("\n|--:|--:|--:|");
+        for (size_t i = ours + 1; i < end; i++)
+            printf("--:|");
+        printf("\n");
+        for (size_t n = 8, row = 0; n <= LONGEST; n *= 2, row++) {
+            printf("| %zu | %.0f | %.0f |", n, best[row][ours], 1e9 / best[row][ours]);
+            for (size_t i = ours + 1; i < end; i++)
+                printf(" %.2f |", best[row][ours] / best[row][i]);
+            printf("\n");
         }
+        printf("\n");
     }
 }
 
