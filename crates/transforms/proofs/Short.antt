@@ -1,12 +1,15 @@
 -- Short blocks, as arrays of words.
---     each                                          a fact at each place below m, from the facts one by one
---     small-word, sum-word, difference-word         what a small number, and what a butterfly's results hold as words
---     sample-sum, sample-difference                 what a fold makes of two samples
---     even-small, fold-small, rearranged-small      the samples of a step keep the condition on sizes
---     cosine-bounded, sine-bounded, dct-bounded     the sizes of coefficients
---     cosine-short, sine-short, dct-short           the coefficients of the next level, from those of the steps
+--     each                                                           a fact at each place below m, from the facts one by one
+--     bounded-word, bounded-asked                                    a word of bounded size, and what a call asks of it
+--     wings, join-asked, join-wings                                  a butterfly
+--     turn-asked, turn                                               a rotation
+--     sample-sum, sample-difference, sum-word, turned                what a fold makes of two samples
+--     even-small, sums-small, differences-small, rearranged-small    the samples of a step keep the condition on sizes
+--     cosine-bounded, sine-bounded, dct-bounded                      the sizes of coefficients
+--     cosine-few, sine-few, dct-few                                  their counts
+--     moved, cosine-short, sine-short, dct-short                     the coefficients of the next level, from those of the steps
 -- Assumes nothing.
-use mathlib.Core.Path.{_≡_, sym, _∙_, ap, ap₂, subst}
+use mathlib.Core.Path.{_≡_, sym, _∙_, ap₂, subst}
 use mathlib.Core.List.{List}
 use Prim.Native.Nat.{ℕ, zero, suc, _+_, _*_, _-_, _/_, _%_, _^_, _≤_, _<_}
 use native.Mathlib.Nat.{le-refl, le-trans, mul-le-mul-left, mul-le-mul-right}
@@ -42,6 +45,11 @@ pub each : (m : ℕ) (P : ℕ → Type 0) → Each m P → (k : ℕ) → k < m �
 each zero P e k h = absurd (omega arith)
 each (suc m) P e zero h = e .0
 each (suc m) P e (suc k) h = each m (λ i. P (suc i)) (e .1) k (omega arith)
+
+-- they are written f 0 & f 1 & .. & tt
+infixr 2 _&_
+pub _&_ : {A B : Type 0} → A → B → A × B
+a & b = (a, b)
 
 -- ---- words
 module _ {most m : ℕ} (xs : List ℤ) (b : Bounded most m xs) (l : most ≤ 2 * largestSum) (k : ℕ) (h : k < m) where

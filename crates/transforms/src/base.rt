@@ -1,7 +1,10 @@
 // Where the recursion ends: the transforms of short blocks, each in its place at the front of the slice.
 use crate::direct::cosine_16;
+use crate::direct::cosine_32;
 use crate::direct::dct_8;
+use crate::direct::dct_16;
 use crate::direct::sine_16;
+use crate::direct::sine_32;
 use crate::join::sum_and_difference;
 use crate::tally::Tally;
 ghost use Prim.Native.Nat.{_+_, _/_, _≤_};
@@ -87,6 +90,38 @@ pub fn sine_of_16(wave: &[i32; 1025], w: &mut [i64]) -> Tally
     }
 }
 
+// The cosine-DFT of thirty-two samples, directly.
+pub fn cosine_of_32(wave: &[i32; 1025], w: &mut [i64]) -> Tally
+    requires { ⌜ IsQuarterWave (now wave) × Ready 32 (dftRoom 32) (now w) ⌝ }
+    ensures { λ r. ⌜ Transformed cosineDft 32 17 (now (w .entry)) (now (w .exit)) (r .products) (r .sums) ⌝ }
+{
+    let mut x = [0i64; 32];
+    copy_words(w, &mut x, 0, 32);
+    let r = cosine_32(wave, x);
+    let at = r.at;
+    copy_words(&at, w, 0, 17);
+    Tally {
+        products: r.products,
+        sums: r.sums,
+    }
+}
+
+// The sine-DFT of thirty-two samples, directly.
+pub fn sine_of_32(wave: &[i32; 1025], w: &mut [i64]) -> Tally
+    requires { ⌜ IsQuarterWave (now wave) × Ready 32 (dftRoom 32) (now w) ⌝ }
+    ensures { λ r. ⌜ Transformed sineDft 32 17 (now (w .entry)) (now (w .exit)) (r .products) (r .sums) ⌝ }
+{
+    let mut x = [0i64; 32];
+    copy_words(w, &mut x, 0, 32);
+    let r = sine_32(wave, x);
+    let at = r.at;
+    copy_words(&at, w, 0, 17);
+    Tally {
+        products: r.products,
+        sums: r.sums,
+    }
+}
+
 // The DCT of eight samples, directly.
 pub fn dct_of_8(wave: &[i32; 1025], w: &mut [i64]) -> Tally
     requires { ⌜ IsQuarterWave (now wave) × Ready 8 (dctRoom 8) (now w) ⌝ }
@@ -97,6 +132,22 @@ pub fn dct_of_8(wave: &[i32; 1025], w: &mut [i64]) -> Tally
     let r = dct_8(wave, x);
     let at = r.at;
     copy_words(&at, w, 0, 8);
+    Tally {
+        products: r.products,
+        sums: r.sums,
+    }
+}
+
+// The DCT of sixteen samples, directly.
+pub fn dct_of_16(wave: &[i32; 1025], w: &mut [i64]) -> Tally
+    requires { ⌜ IsQuarterWave (now wave) × Ready 16 (dctRoom 16) (now w) ⌝ }
+    ensures { λ r. ⌜ Transformed dct 16 16 (now (w .entry)) (now (w .exit)) (r .products) (r .sums) ⌝ }
+{
+    let mut x = [0i64; 16];
+    copy_words(w, &mut x, 0, 16);
+    let r = dct_16(wave, x);
+    let at = r.at;
+    copy_words(&at, w, 0, 16);
     Tally {
         products: r.products,
         sums: r.sums,

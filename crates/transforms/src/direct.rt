@@ -1,4 +1,4 @@
-// Transforms of short blocks: 2, 4, 8 and 16 samples, computed directly on values, with no loop. Each step of the recursion is a small function on arrays, which says what its part
+// Transforms of short blocks: 2, 4, 8, 16 and 32 samples, computed directly on values, with no loop. Each step of the recursion is a small function on arrays, which says what its part
 // of the definition is; a transform puts them together. Every product and every sum is tallied where it is made.
 use crate::rotate::Rotation;
 use crate::rotate::rotate_middle;
@@ -157,7 +157,7 @@ pub struct Folded2 {
     pub sums: u64,
 }
 
-// The coefficients of 8 samples, with the sums that the join takes.
+// The joined coefficients of 8 samples, with the sums that the join takes.
 pub struct Joined5 {
     pub at: [i64; 5],
     pub sums: u64,
@@ -347,7 +347,7 @@ pub struct Folded4 {
     pub sums: u64,
 }
 
-// The coefficients of 16 samples, with the sums that the join takes.
+// The joined coefficients of 16 samples, with the sums that the join takes.
 pub struct Joined9 {
     pub at: [i64; 9],
     pub sums: u64,
@@ -496,5 +496,313 @@ pub fn sine_16(wave: &[i32; 1025], x: [i64; 16]) -> Dft16
         at: at,
         products: even.products + odd.products,
         sums: even.sums + folded.sums + odd.sums + joined.sums,
+    }
+}
+
+// Eight folded samples, with the sums that they take.
+pub struct Folded8 {
+    pub at: [i64; 8],
+    pub sums: u64,
+}
+
+// The coefficients of 32 samples, with the sums that the join takes.
+pub struct Joined17 {
+    pub at: [i64; 17],
+    pub sums: u64,
+}
+
+// The cosine-DFT or the sine-DFT of 32 samples, with the products and sums that it takes.
+pub struct Dft32 {
+    pub at: [i64; 17],
+    pub products: u64,
+    pub sums: u64,
+}
+
+// The even samples.
+fn evens_32(x: [i64; 32]) -> [i64; 16]
+    ensures { λ r. ⌜ Front 16 (evens (word x)) r ⌝ }
+{
+    [
+        x[0],
+        x[2],
+        x[4],
+        x[6],
+        x[8],
+        x[10],
+        x[12],
+        x[14],
+        x[16],
+        x[18],
+        x[20],
+        x[22],
+        x[24],
+        x[26],
+        x[28],
+        x[30],
+    ]
+}
+
+// x2 of (12).
+fn folded_sums_32(x: [i64; 32]) -> Folded8
+    requires { ⌜ Small 32 x ⌝ }
+    ensures { λ r. ⌜ Folded (foldedSums 32 (word x)) 8 (r .at) (r .sums) ⌝ }
+{
+    let mut sums: u64 = 0;
+    let first = x[1] + x[31];
+    sums += 1;
+    let second = x[3] + x[29];
+    sums += 1;
+    let third = x[5] + x[27];
+    sums += 1;
+    let fourth = x[7] + x[25];
+    sums += 1;
+    let fifth = x[9] + x[23];
+    sums += 1;
+    let sixth = x[11] + x[21];
+    sums += 1;
+    let seventh = x[13] + x[19];
+    sums += 1;
+    let eighth = x[15] + x[17];
+    sums += 1;
+    Folded8 {
+        at: [first, second, third, fourth, fifth, sixth, seventh, eighth],
+        sums: sums,
+    }
+}
+
+// x3 of (15): every other difference is turned round.
+fn folded_differences_32(x: [i64; 32]) -> Folded8
+    requires { ⌜ Small 32 x ⌝ }
+    ensures { λ r. ⌜ Folded (foldedDifferences 32 (word x)) 8 (r .at) (r .sums) ⌝ }
+{
+    let mut sums: u64 = 0;
+    let first = x[1] - x[31];
+    sums += 1;
+    let second = x[29] - x[3];
+    sums += 1;
+    let third = x[5] - x[27];
+    sums += 1;
+    let fourth = x[25] - x[7];
+    sums += 1;
+    let fifth = x[9] - x[23];
+    sums += 1;
+    let sixth = x[21] - x[11];
+    sums += 1;
+    let seventh = x[13] - x[19];
+    sums += 1;
+    let eighth = x[17] - x[15];
+    sums += 1;
+    Folded8 {
+        at: [first, second, third, fourth, fifth, sixth, seventh, eighth],
+        sums: sums,
+    }
+}
+
+// (12): e(k) + d(k) and e(k) - d(k); by (6) the DCT has no part in the coefficient 8.
+fn join_cosine_32(e: [i64; 9], d: [i64; 8]) -> Joined17
+    requires { ⌜ Bounded (2 * largestSum) 9 e × Bounded (2 * largestSum) 8 d ⌝ }
+    ensures { λ r. ⌜ CosineShort 8 e d (r .at) (r .sums) ⌝ }
+{
+    let first = butterfly(e[0], d[0]);
+    let second = butterfly(e[1], d[1]);
+    let third = butterfly(e[2], d[2]);
+    let fourth = butterfly(e[3], d[3]);
+    let fifth = butterfly(e[4], d[4]);
+    let sixth = butterfly(e[5], d[5]);
+    let seventh = butterfly(e[6], d[6]);
+    let eighth = butterfly(e[7], d[7]);
+    let lower = first.sums + second.sums + third.sums + fourth.sums;
+    let upper = fifth.sums + sixth.sums + seventh.sums + eighth.sums;
+    Joined17 {
+        at: [
+            first.sum,
+            second.sum,
+            third.sum,
+            fourth.sum,
+            fifth.sum,
+            sixth.sum,
+            seventh.sum,
+            eighth.sum,
+            e[8],
+            eighth.difference,
+            seventh.difference,
+            sixth.difference,
+            fifth.difference,
+            fourth.difference,
+            third.difference,
+            second.difference,
+            first.difference,
+        ],
+        sums: lower + upper,
+    }
+}
+
+// (15): d(8 - k) + e(k) and d(8 - k) - e(k); the coefficients 0 and 16 are zero, and the even samples have no part in the coefficient 8.
+fn join_sine_32(e: [i64; 9], d: [i64; 8]) -> Joined17
+    requires { ⌜ Bounded (2 * largestSum) 9 e × Bounded (2 * largestSum) 8 d ⌝ }
+    requires { ⌜ (word e 0 ≡ pos 0) × (word e 8 ≡ pos 0) ⌝ }
+    ensures { λ r. ⌜ SineShort 8 e d (r .at) (r .sums) ⌝ }
+{
+    let first = butterfly(d[7], e[1]);
+    let second = butterfly(d[6], e[2]);
+    let third = butterfly(d[5], e[3]);
+    let fourth = butterfly(d[4], e[4]);
+    let fifth = butterfly(d[3], e[5]);
+    let sixth = butterfly(d[2], e[6]);
+    let seventh = butterfly(d[1], e[7]);
+    let lower = first.sums + second.sums + third.sums + fourth.sums;
+    let upper = fifth.sums + sixth.sums + seventh.sums;
+    Joined17 {
+        at: [
+            0,
+            first.sum,
+            second.sum,
+            third.sum,
+            fourth.sum,
+            fifth.sum,
+            sixth.sum,
+            seventh.sum,
+            d[0],
+            seventh.difference,
+            sixth.difference,
+            fifth.difference,
+            fourth.difference,
+            third.difference,
+            second.difference,
+            first.difference,
+            0,
+        ],
+        sums: lower + upper,
+    }
+}
+
+// The cosine-DFT of 32 samples.
+pub fn cosine_32(wave: &[i32; 1025], x: [i64; 32]) -> Dft32
+    requires { ⌜ IsQuarterWave (now wave) × Small 32 x ⌝ }
+    ensures { λ r. ⌜ Coefficients (cosineDft 5 (word x)) 17 (r .at) (r .products) (r .sums) ⌝ }
+{
+    let samples = evens_32(x);
+    let even = cosine_16(wave, samples);
+    let folded = folded_sums_32(x);
+    let y = folded.at;
+    let odd = dct_8(wave, y);
+    let e = even.at;
+    let d = odd.at;
+    let joined = join_cosine_32(e, d);
+    let at = joined.at;
+    Dft32 {
+        at: at,
+        products: even.products + odd.products,
+        sums: even.sums + folded.sums + odd.sums + joined.sums,
+    }
+}
+
+// The sine-DFT of 32 samples.
+pub fn sine_32(wave: &[i32; 1025], x: [i64; 32]) -> Dft32
+    requires { ⌜ IsQuarterWave (now wave) × Small 32 x ⌝ }
+    ensures { λ r. ⌜ Coefficients (sineDft 5 (word x)) 17 (r .at) (r .products) (r .sums) ⌝ }
+{
+    let samples = evens_32(x);
+    let even = sine_16(wave, samples);
+    let folded = folded_differences_32(x);
+    let y = folded.at;
+    let odd = dct_8(wave, y);
+    let e = even.at;
+    let d = odd.at;
+    let joined = join_sine_32(e, d);
+    let at = joined.at;
+    Dft32 {
+        at: at,
+        products: even.products + odd.products,
+        sums: even.sums + folded.sums + odd.sums + joined.sums,
+    }
+}
+
+// (16): the even samples, then the odd ones backwards.
+fn rearranged_16(x: [i64; 16]) -> [i64; 16]
+    ensures { λ r. ⌜ Front 16 (rearranged 16 (word x)) r ⌝ }
+{
+    [
+        x[0],
+        x[2],
+        x[4],
+        x[6],
+        x[8],
+        x[10],
+        x[12],
+        x[14],
+        x[15],
+        x[13],
+        x[11],
+        x[9],
+        x[7],
+        x[5],
+        x[3],
+        x[1],
+    ]
+}
+
+// The DCT of sixteen samples, with the products and sums that it takes.
+pub struct Dct16 {
+    pub at: [i64; 16],
+    pub products: u64,
+    pub sums: u64,
+}
+
+// (18), (19) from the cosine-DFT c and the sine-DFT s.
+fn rotate_16(wave: &[i32; 1025], c: [i64; 9], s: [i64; 9]) -> Dct16
+    requires { ⌜ IsQuarterWave (now wave) × Bounded (largestSum + 128) 9 c × Bounded (largestSum + 128) 9 s ⌝ }
+    ensures { λ r. ⌜ DctShort 8 c s (r .at) (r .products) (r .sums) ⌝ }
+{
+    let first = rotate_at(wave, 64, c[1], s[1]);
+    let second = rotate_at(wave, 128, c[2], s[2]);
+    let third = rotate_at(wave, 192, c[3], s[3]);
+    let fourth = rotate_at(wave, 256, c[4], s[4]);
+    let fifth = rotate_at(wave, 320, c[5], s[5]);
+    let sixth = rotate_at(wave, 384, c[6], s[6]);
+    let seventh = rotate_at(wave, 448, c[7], s[7]);
+    let middle = rotate_middle(wave, c[8]);
+    let products = first.products + second.products + third.products + fourth.products;
+    let sums = first.sums + second.sums + third.sums + fourth.sums;
+    Dct16 {
+        at: [
+            c[0],
+            first.low,
+            second.low,
+            third.low,
+            fourth.low,
+            fifth.low,
+            sixth.low,
+            seventh.low,
+            middle.value,
+            seventh.high,
+            sixth.high,
+            fifth.high,
+            fourth.high,
+            third.high,
+            second.high,
+            first.high,
+        ],
+        products: products + fifth.products + sixth.products + seventh.products + middle.products,
+        sums: sums + fifth.sums + sixth.sums + seventh.sums,
+    }
+}
+
+// The DCT of 16 samples.
+pub fn dct_16(wave: &[i32; 1025], x: [i64; 16]) -> Dct16
+    requires { ⌜ IsQuarterWave (now wave) × Small 16 x ⌝ }
+    ensures { λ r. ⌜ Coefficients (dct 4 (word x)) 16 (r .at) (r .products) (r .sums) ⌝ }
+{
+    let samples = rearranged_16(x);
+    let cosine = cosine_16(wave, samples);
+    let sine = sine_16(wave, samples);
+    let c = cosine.at;
+    let s = sine.at;
+    let rotation = rotate_16(wave, c, s);
+    let at = rotation.at;
+    Dct16 {
+        at: at,
+        products: cosine.products + sine.products + rotation.products,
+        sums: cosine.sums + sine.sums + rotation.sums,
     }
 }

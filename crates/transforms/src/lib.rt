@@ -10,9 +10,12 @@ pub mod tally;
 
 use base::cosine_base;
 use base::cosine_of_16;
+use base::cosine_of_32;
 use base::dct_of_8;
+use base::dct_of_16;
 use base::sine_base;
 use base::sine_of_16;
+use base::sine_of_32;
 use fold::put_evens;
 use fold::put_folded_differences;
 use fold::put_folded_sums;
@@ -32,6 +35,9 @@ pub fn cosine_dft(wave: &[i32; 1025], w: &mut [i64], n: usize) -> Tally
     requires { ⌜ IsQuarterWave (now wave) × Ready n (dftRoom n) (now w) ⌝ }
     ensures { λ r. ⌜ Transformed cosineDft n (n / 2 + 1) (now (w .entry)) (now (w .exit)) (r .products) (r .sums) ⌝ }
 {
+    if n == 32 {
+        return cosine_of_32(wave, w);
+    }
     if n == 16 {
         return cosine_of_16(wave, w);
     }
@@ -57,6 +63,9 @@ pub fn sine_dft(wave: &[i32; 1025], w: &mut [i64], n: usize) -> Tally
     requires { ⌜ IsQuarterWave (now wave) × Ready n (dftRoom n) (now w) ⌝ }
     ensures { λ r. ⌜ Transformed sineDft n (n / 2 + 1) (now (w .entry)) (now (w .exit)) (r .products) (r .sums) ⌝ }
 {
+    if n == 32 {
+        return sine_of_32(wave, w);
+    }
     if n == 16 {
         return sine_of_16(wave, w);
     }
@@ -82,6 +91,9 @@ pub fn dct(wave: &[i32; 1025], w: &mut [i64], n: usize) -> Tally
     requires { ⌜ IsQuarterWave (now wave) × Ready n (dctRoom n) (now w) ⌝ }
     ensures { λ r. ⌜ Transformed dctOf n n (now (w .entry)) (now (w .exit)) (r .products) (r .sums) ⌝ }
 {
+    if n == 16 {
+        return dct_of_16(wave, w);
+    }
     if n == 8 {
         return dct_of_8(wave, w);
     }

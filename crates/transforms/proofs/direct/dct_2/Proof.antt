@@ -10,8 +10,7 @@ use Rattle.circle.specs.Circle.{T}
 use Rattle.ffct.specs.Transforms.{rearranged, rotated, dctBy, cosineDft, dct}
 use Rattle.transforms.specs.Words.{word}
 use Rattle.transforms.proofs.Mirroring.{held}
-use Rattle.transforms.proofs.Short.{each, Wings, join-asked, join-wings, sample-twice}
-use borrow.Author.Needs.{needs}
+use Rattle.transforms.proofs.Short.{_&_, each, Wings, join-asked, join-wings, sample-twice}
 use Rattle.transforms.proofs.direct.dct_2.Statement.{statement}
 use Rattle.transforms.proofs.direct.dct_2.Tie as tie
 
@@ -23,10 +22,10 @@ cosine a =
     join-wings (s .args .t2) (s .args .t2) small small 0 1 (lit< tt) (lit< tt) (a .butterfly .ensures)
 
 array-copy-out-butterfly : tie.Need-array-copy-out-butterfly
-array-copy-out-butterfly c = search needs
+array-copy-out-butterfly c = lit< tt
 
 array-copy-out-butterfly-2 : tie.Need-array-copy-out-butterfly-2
-array-copy-out-butterfly-2 c = search needs
+array-copy-out-butterfly-2 c = lit< tt
 
 butterfly-requires : tie.Need-butterfly-requires
 butterfly-requires c κs =
@@ -44,13 +43,10 @@ rotate-middle-requires c κs =
 returns : tie.Need-returns
 unfolding rearranged rotated dctBy cosineDft dct
 returns c =
-    let a = c .before .before .before .before in
     let m = c .before .before .rotate-middle .ensures in
+    let a = c .before .before .before .before in
     record {
-      values = each 2 _ (
-        cosine a .sum .is,
-        (held (c .struct-told3 .given .0 .1) (m .middle) .is ∙ ap (λ z. round (T 512 *ℤ z)) (cosine a .difference .is), tt),
-      );
+      values = each 2 _ (cosine a .sum .is & held (c .struct-told3 .given .0 .1) (m .middle) .is ∙ ap (λ z. round (T 512 *ℤ z)) (cosine a .difference .is) & tt);
       products = m .one-product;
       sums = a .butterfly .ensures .counted;
     }

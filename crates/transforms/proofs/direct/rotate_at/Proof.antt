@@ -1,4 +1,5 @@
 -- `transforms::direct::rotate_at` meets its contract: both entries are of the table. Assumes nothing.
+use Prim.Native.Nat.{_-_}
 use native.Mathlib.Omega.{arith}
 use mir.Syntax.{w64}
 use mir.Val.{ofZ}
@@ -7,7 +8,6 @@ use Rattle.whole.proofs.Words.{Word, word}
 use Rattle.circle.specs.Circle.{T}
 use Rattle.ffct.proofs.Sizes.{entry-within}
 use Rattle.transforms.proofs.Mirroring.{held}
-use Prim.Native.Nat.{_-_}
 use borrow.Author.Needs.{needs}
 use Rattle.transforms.proofs.direct.rotate_at.Statement.{statement}
 use Rattle.transforms.proofs.direct.rotate_at.Tie as tie

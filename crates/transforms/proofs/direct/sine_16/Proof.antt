@@ -9,45 +9,62 @@ use Rattle.ffct.proofs.Blocks.{dft-same, dct-same, sine-first, sine-last}
 use Rattle.transforms.specs.Words.{word}
 use Rattle.transforms.specs.Steps.{Small}
 use Rattle.transforms.proofs.Short.{even-small, differences-small, sine-bounded, dct-bounded, sine-few, dct-few, moved, sine-short}
-use borrow.Author.Needs.{needs}
 use Rattle.transforms.proofs.direct.sine_16.Statement.{statement}
 use Rattle.transforms.proofs.direct.sine_16.Tie as tie
 
 -- the even samples and the folded ones
-even : (a : tie.After-evens-16) → Small 8 (a .evens-16 .result)
-even a = even-small 4 (a .before .args .x) (a .before .pre .1) (a .evens-16 .result) (a .evens-16 .ensures)
+even : (v : tie.After-evens-16) → Small 8 (v .evens-16 .result)
+even v = even-small 4 (v .before .args .x) (v .before .pre .1) (v .evens-16 .result) (v .evens-16 .ensures)
 
-folded : (a : tie.After-folded-differences-16) → Small 4 (a .folded-differences-16 .result .at)
-folded a =
-    let s = a .before .before .before in
-    differences-small 4 (s .args .x) (s .pre .1) (a .folded-differences-16 .result .at) (a .folded-differences-16 .ensures .values)
+folded : (f : tie.After-folded-differences-16) → Small 4 (f .folded-differences-16 .result .at)
+folded f =
+    let s = f .before .before .before in
+    differences-small 4 (s .args .x) (s .pre .1) (f .folded-differences-16 .result .at) (f .folded-differences-16 .ensures .values)
 
 -- the counts are small
-spent : (a : tie.After-join-sine-16) → a .before .before .before .before .before .before .sine-8 .result .products + a .before .before .before .before .before .before .sine-8 .result .sums + a .before .before .before .before .before .folded-differences-16 .result .sums + a .before .before .before .dct-4 .result .products + a .before .before .before .dct-4 .result .sums + a .join-sine-16 .result .sums ≤ 2 ^ 20
-spent a = omega (arith, sine-few 3 (a .before .before .before .before .before .before .before .evens-16 .result) (lit≤ tt) (a .before .before .before .before .before .before .sine-8 .ensures), dct-few 2 (a .before .before .before .before .before .folded-differences-16 .result .at) (lit≤ tt) (a .before .before .before .dct-4 .ensures), a .before .before .before .before .before .folded-differences-16 .ensures .counted, a .join-sine-16 .ensures .counted)
+spent : (j : tie.After-join-sine-16) →
+    let o = j .before .before .before in
+    let f = o .before .before in
+    let e = f .before in
+    e .sine-8 .result .products + e .sine-8 .result .sums + f .folded-differences-16 .result .sums + o .dct-4 .result .products + o .dct-4 .result .sums + j .join-sine-16 .result .sums ≤ 2 ^ 20
+spent j =
+    let o = j .before .before .before in
+    let f = o .before .before in
+    let e = f .before in
+    let v = e .before in
+    omega (
+      arith,
+      sine-few 3 (v .evens-16 .result) (lit≤ tt) (e .sine-8 .ensures),
+      dct-few 2 (f .folded-differences-16 .result .at) (lit≤ tt) (o .dct-4 .ensures),
+      f .folded-differences-16 .ensures .counted,
+      j .join-sine-16 .ensures .counted,
+    )
 
 evens-16-requires : tie.Need-evens-16-requires
-evens-16-requires c κs = search needs
+evens-16-requires c κs = tt
 
 sine-8-requires : tie.Need-sine-8-requires
 sine-8-requires c κs = (c .before .pre .0, even c)
 
 folded-differences-16-requires : tie.Need-folded-differences-16-requires
-folded-differences-16-requires c κs = search needs
+folded-differences-16-requires c κs = c .before .before .pre .1
 
 dct-4-requires : tie.Need-dct-4-requires
 dct-4-requires c κs = (c .before .before .before .before .pre .0, folded (c .before))
 
 join-sine-16-requires : tie.Need-join-sine-16-requires
 join-sine-16-requires c κs =
-    let es = c .before .before .before .before .before .before .evens-16 .result in
-    let fs = c .before .before .before .before .folded-differences-16 .result .at in
-    let E = c .before .before .before .before .before .sine-8 .ensures in (
+    let o = c .before .before in
+    let f = o .before .before in
+    let e = f .before in
+    let v = e .before in
+    let x = word (v .evens-16 .result) in
+    let values = e .sine-8 .ensures .values in (
       (
-        λ k h. le-trans (sine-bounded 3 es (lit≤ tt) (even (c .before .before .before .before .before .before)) (E) (lit≤ tt) k h) (lit≤ tt),
-        λ k h. le-trans (dct-bounded 2 fs (lit≤ tt) (folded (c .before .before .before .before)) (c .before .before .dct-4 .ensures) (lit≤ tt) k h) (lit≤ tt),
+        λ k h. le-trans (sine-bounded 3 (v .evens-16 .result) (lit≤ tt) (even v) (e .sine-8 .ensures) (lit≤ tt) k h) (lit≤ tt),
+        λ k h. le-trans (dct-bounded 2 (f .folded-differences-16 .result .at) (lit≤ tt) (folded f) (o .dct-4 .ensures) (lit≤ tt) k h) (lit≤ tt),
       ),
-      (E .values 0 (lit< tt) ∙ sine-first 3 (word es), E .values 4 (lit< tt) ∙ sine-last 3 (word es) 4 refl),
+      (values 0 (lit< tt) ∙ sine-first 3 x, values 4 (lit< tt) ∙ sine-last 3 x 4 refl),
     )
 
 add-t12 : tie.Need-add-t12
@@ -64,14 +81,16 @@ add-t15 c = omega (arith, spent (c .before .before .before .before .before .befo
 
 returns : tie.Need-returns
 returns c =
-    let s = c .before .before .before .before .before .before .before .before .before .before .before .before .before .before .before in
-    let x = word (s .args .x) in
-    let even = c .before .before .before .before .before .before .before .before .before .before .before .before .before .before .evens-16 in
-    let fold = c .before .before .before .before .before .before .before .before .before .before .before .before .folded-differences-16 in
+    let j = c .before .before .before .before .before .before .before in
+    let o = j .before .before .before in
+    let f = o .before .before in
+    let e = f .before in
+    let v = e .before in
+    let x = word (v .before .args .x) in
     sine-short 2 x
-    (moved (dft-same 3 (word (even .result)) (evens x) (even .ensures) .1) (c .before .before .before .before .before .before .before .before .before .before .before .before .before .sine-8 .ensures))
-    (moved (dct-same 2 (word (fold .result .at)) (foldedDifferences 16 x) (fold .ensures .values)) (c .before .before .before .before .before .before .before .before .before .before .dct-4 .ensures))
-    (c .before .before .before .before .before .before .before .join-sine-16 .ensures) (omega arith) (omega (arith, fold .ensures .counted))
+    (moved (dft-same 3 (word (v .evens-16 .result)) (evens x) (v .evens-16 .ensures) .1) (e .sine-8 .ensures))
+    (moved (dct-same 2 (word (f .folded-differences-16 .result .at)) (foldedDifferences 16 x) (f .folded-differences-16 .ensures .values)) (o .dct-4 .ensures))
+    (j .join-sine-16 .ensures) (omega arith) (omega (arith, f .folded-differences-16 .ensures .counted))
 
 pub sine-16-spec : {M : Type 1} → statement M
 sine-16-spec =

@@ -9,45 +9,62 @@ use Rattle.ffct.proofs.Blocks.{dft-same, dct-same, sine-first, sine-last}
 use Rattle.transforms.specs.Words.{word}
 use Rattle.transforms.specs.Steps.{Small}
 use Rattle.transforms.proofs.Short.{even-small, differences-small, sine-bounded, dct-bounded, sine-few, dct-few, moved, sine-short}
-use borrow.Author.Needs.{needs}
 use Rattle.transforms.proofs.direct.sine_8.Statement.{statement}
 use Rattle.transforms.proofs.direct.sine_8.Tie as tie
 
 -- the even samples and the folded ones
-even : (a : tie.After-evens-8) → Small 4 (a .evens-8 .result)
-even a = even-small 2 (a .before .args .x) (a .before .pre .1) (a .evens-8 .result) (a .evens-8 .ensures)
+even : (v : tie.After-evens-8) → Small 4 (v .evens-8 .result)
+even v = even-small 2 (v .before .args .x) (v .before .pre .1) (v .evens-8 .result) (v .evens-8 .ensures)
 
-folded : (a : tie.After-folded-differences-8) → Small 2 (a .folded-differences-8 .result .at)
-folded a =
-    let s = a .before .before .before in
-    differences-small 2 (s .args .x) (s .pre .1) (a .folded-differences-8 .result .at) (a .folded-differences-8 .ensures .values)
+folded : (f : tie.After-folded-differences-8) → Small 2 (f .folded-differences-8 .result .at)
+folded f =
+    let s = f .before .before .before in
+    differences-small 2 (s .args .x) (s .pre .1) (f .folded-differences-8 .result .at) (f .folded-differences-8 .ensures .values)
 
 -- the counts are small
-spent : (a : tie.After-join-sine-8) → a .before .before .before .before .before .before .sine-4 .result .sums + a .before .before .before .before .before .folded-differences-8 .result .sums + a .before .before .before .dct-2 .result .products + a .before .before .before .dct-2 .result .sums + a .join-sine-8 .result .sums ≤ 2 ^ 20
-spent a = omega (arith, sine-few 2 (a .before .before .before .before .before .before .before .evens-8 .result) (lit≤ tt) (a .before .before .before .before .before .before .sine-4 .ensures), dct-few 1 (a .before .before .before .before .before .folded-differences-8 .result .at) (lit≤ tt) (a .before .before .before .dct-2 .ensures), a .before .before .before .before .before .folded-differences-8 .ensures .counted, a .join-sine-8 .ensures .counted)
+spent : (j : tie.After-join-sine-8) →
+    let o = j .before .before .before in
+    let f = o .before .before in
+    let e = f .before in
+    e .sine-4 .result .sums + f .folded-differences-8 .result .sums + o .dct-2 .result .products + o .dct-2 .result .sums + j .join-sine-8 .result .sums ≤ 2 ^ 20
+spent j =
+    let o = j .before .before .before in
+    let f = o .before .before in
+    let e = f .before in
+    let v = e .before in
+    omega (
+      arith,
+      sine-few 2 (v .evens-8 .result) (lit≤ tt) (e .sine-4 .ensures),
+      dct-few 1 (f .folded-differences-8 .result .at) (lit≤ tt) (o .dct-2 .ensures),
+      f .folded-differences-8 .ensures .counted,
+      j .join-sine-8 .ensures .counted,
+    )
 
 evens-8-requires : tie.Need-evens-8-requires
-evens-8-requires c κs = search needs
+evens-8-requires c κs = tt
 
 sine-4-requires : tie.Need-sine-4-requires
 sine-4-requires c κs = even c
 
 folded-differences-8-requires : tie.Need-folded-differences-8-requires
-folded-differences-8-requires c κs = search needs
+folded-differences-8-requires c κs = c .before .before .pre .1
 
 dct-2-requires : tie.Need-dct-2-requires
 dct-2-requires c κs = (c .before .before .before .before .pre .0, folded (c .before))
 
 join-sine-8-requires : tie.Need-join-sine-8-requires
 join-sine-8-requires c κs =
-    let es = c .before .before .before .before .before .before .evens-8 .result in
-    let fs = c .before .before .before .before .folded-differences-8 .result .at in
-    let E = c .before .before .before .before .before .sine-4 .ensures in (
+    let o = c .before .before in
+    let f = o .before .before in
+    let e = f .before in
+    let v = e .before in
+    let x = word (v .evens-8 .result) in
+    let values = e .sine-4 .ensures .values in (
       (
-        λ k h. le-trans (sine-bounded 2 es (lit≤ tt) (even (c .before .before .before .before .before .before)) (E) (lit≤ tt) k h) (lit≤ tt),
-        λ k h. le-trans (dct-bounded 1 fs (lit≤ tt) (folded (c .before .before .before .before)) (c .before .before .dct-2 .ensures) (lit≤ tt) k h) (lit≤ tt),
+        λ k h. le-trans (sine-bounded 2 (v .evens-8 .result) (lit≤ tt) (even v) (e .sine-4 .ensures) (lit≤ tt) k h) (lit≤ tt),
+        λ k h. le-trans (dct-bounded 1 (f .folded-differences-8 .result .at) (lit≤ tt) (folded f) (o .dct-2 .ensures) (lit≤ tt) k h) (lit≤ tt),
       ),
-      (E .values 0 (lit< tt) ∙ sine-first 2 (word es), E .values 2 (lit< tt) ∙ sine-last 2 (word es) 2 refl),
+      (values 0 (lit< tt) ∙ sine-first 2 x, values 2 (lit< tt) ∙ sine-last 2 x 2 refl),
     )
 
 add-t12 : tie.Need-add-t12
@@ -61,14 +78,16 @@ add-t14 c = omega (arith, spent (c .before .before .before .before .before))
 
 returns : tie.Need-returns
 returns c =
-    let s = c .before .before .before .before .before .before .before .before .before .before .before .before .before in
-    let x = word (s .args .x) in
-    let even = c .before .before .before .before .before .before .before .before .before .before .before .before .evens-8 in
-    let fold = c .before .before .before .before .before .before .before .before .before .before .folded-differences-8 in
+    let j = c .before .before .before .before .before in
+    let o = j .before .before .before in
+    let f = o .before .before in
+    let e = f .before in
+    let v = e .before in
+    let x = word (v .before .args .x) in
     sine-short 1 x
-    (moved (dft-same 2 (word (even .result)) (evens x) (even .ensures) .1) (c .before .before .before .before .before .before .before .before .before .before .before .sine-4 .ensures))
-    (moved (dct-same 1 (word (fold .result .at)) (foldedDifferences 8 x) (fold .ensures .values)) (c .before .before .before .before .before .before .before .before .dct-2 .ensures))
-    (c .before .before .before .before .before .join-sine-8 .ensures) (omega arith) (omega (arith, fold .ensures .counted))
+    (moved (dft-same 2 (word (v .evens-8 .result)) (evens x) (v .evens-8 .ensures) .1) (e .sine-4 .ensures))
+    (moved (dct-same 1 (word (f .folded-differences-8 .result .at)) (foldedDifferences 8 x) (f .folded-differences-8 .ensures .values)) (o .dct-2 .ensures))
+    (j .join-sine-8 .ensures) (omega arith) (omega (arith, f .folded-differences-8 .ensures .counted))
 
 pub sine-8-spec : {M : Type 1} → statement M
 sine-8-spec =
