@@ -67,8 +67,8 @@
  * time in threads and interrupt handlers.
  *
  * Stack: a copy of the cosine table, 4,100 bytes, and frames whose number depends on the length
- * alone. Measured at length 1,024, in bytes: mealbis_pair 6,008, mealbis_cosine 5,832,
- * mealbis_spectrum 5,752, mealbis_counts 112, mealbis_read 96; half the length takes some 150 less.
+ * alone. Measured at length 1,024, in bytes: mealbis_pair 6,992, mealbis_cosine 7,056,
+ * mealbis_spectrum 6,736, mealbis_counts 112, mealbis_read 96; shorter blocks take no more.
  * The proof does not speak of the stack: allow 8 KiB. `self_check --stack` measures it.
  */
 #ifndef MEALBIS_H
