@@ -75,7 +75,7 @@ fn put_spectra(
     at
 }
 
-// The whole output for a file. The page has room for 4,096 lines of 34 bytes below the heading.
+// The whole output for a file. The page has room for 4,096 lines of 34 bytes below the heading. What stands in the other lent words afterwards is the program's choice.
 pub fn put_output(
     file: &[u8],
     a: &mut [i32],

@@ -11,11 +11,11 @@ space = 32 ∷ []
 abbrev pub lineFeed : List ℕ
 lineFeed = 10 ∷ []
 
--- "the line `block k re im`"
+-- "the line `block k re im`": b l o c k, k, r e, i m, with spaces (32) between them, and the line feed
 abbrev pub heading : List ℕ
 heading = 98 ∷ 108 ∷ 111 ∷ 99 ∷ 107 ∷ 32 ∷ 107 ∷ 32 ∷ 114 ∷ 101 ∷ 32 ∷ 105 ∷ 109 ∷ 10 ∷ []
 
--- "For a refusal it prints one line only: `refused`, a space and the number."
+-- "For a refusal it prints one line only: `refused`, a space and the number.": r e f u s e d, the space
 abbrev pub refusal : ℕ → List ℕ
 refusal n = (114 ∷ 101 ∷ 102 ∷ 117 ∷ 115 ∷ 101 ∷ 100 ∷ 32 ∷ []) ++ number n ++ lineFeed
 
