@@ -1,4 +1,4 @@
--- What follows from `Ready`: the level of n, the sizes of the samples and of the coefficients, and that the samples of each step are ready for the step.
+-- What follows from `Ready`: the level of n, the sizes of the samples, and that the samples of each step are ready for the step.
 -- Assumes nothing.
 use mathlib.Core.Path.{_≡_, refl, sym, ap, _∙_, subst}
 use mathlib.Core.List.{List}
@@ -6,12 +6,11 @@ use Prim.Native.Nat.{ℕ, zero, suc, _+_, _*_, _/_, _≤_, _<_}
 use native.Mathlib.Nat.{le-div-iff-mul-le, mul-div-le, mul-suc, mul-le-mul-right}
 use native.Mathlib.Omega.{arith}
 use lib.IntN.{ℤ, natAbs}
-use Rattle.whole.proofs.Size.{size-within, within-size}
+use Rattle.whole.proofs.Size.{size-within}
 use Rattle.ffct.specs.Block.{Samples, largestSum}
-use Rattle.ffct.specs.Transforms.{Transform, cosineDft, sineDft, dct}
+use Rattle.ffct.specs.Transforms.{Transform}
 use Rattle.ffct.proofs.Lengths.{len, pow-len, len-pos, per, len-per, quotient}
-use Rattle.ffct.proofs.Blocks.{Same, dft-same, dct-same}
-use Rattle.ffct.proofs.Sizes.{Inner, dft-size, dct-within}
+use Rattle.ffct.proofs.Sizes.{Inner}
 use Rattle.transforms.specs.Words.{word}
 use Rattle.transforms.specs.Steps.{Ready, Gives, Transformed}
 
@@ -46,17 +45,6 @@ module _ {n room : ℕ} {words : List ℤ} (r : Ready n room words) where
   -- each sample, whatever the length
   pub sample-le : (i : ℕ) → i < n → natAbs (word words i) ≤ largestSum
   sample-le i h = omega (arith, mul-le-mul-right (natAbs (word words i)) some, r .samples i h)
-
-  -- the sizes of the coefficients of the samples x that n samples at the front are
-  module _ (x : Samples) (e : Same (r .level) (word words) x) where
-    pub cosine-le : (k : ℕ) → 2 * k ≤ n → natAbs (cosineDft (r .level) x .at k) ≤ largestSum + 128
-    cosine-le k h = subst (λ t. natAbs (t .at k) ≤ largestSum + 128) (dft-same (r .level) (word words) x e .0) (within-size (dft-size inner k (omega (arith, as-len)) .0))
-
-    pub sine-le : (k : ℕ) → 2 * k ≤ n → natAbs (sineDft (r .level) x .at k) ≤ largestSum + 128
-    sine-le k h = subst (λ t. natAbs (t .at k) ≤ largestSum + 128) (dft-same (r .level) (word words) x e .1) (within-size (dft-size inner k (omega (arith, as-len)) .1))
-
-    pub dct-le : (k : ℕ) → k < n → natAbs (dct (r .level) x .at k) ≤ largestSum + 257
-    dct-le k h = subst (λ t. natAbs (t .at k) ≤ largestSum + 257) (dct-same (r .level) (word words) x e) (within-size (dct-within inner k (omega (arith, as-len))))
 
 -- ---- the level of n
 pub len-injective : (L M : ℕ) → len L ≡ len M → L ≡ M

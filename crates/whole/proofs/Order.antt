@@ -1,12 +1,11 @@
--- The order of ℤ (`_≤ℤ_`, `_<ℤ_` of the library) at differences, and what follows.
+-- The order of ℤ (`_≤ℤ_`, `_<ℤ_` of the library) at differences. (`lib.Signed` has its laws.)
 -- Assumes nothing.
-use mathlib.Core.Path.{_≡_}
 use Prim.Native.Nat.{ℕ, _+_, _≤_, _<_}
 use native.Mathlib.Omega.{arith}
 use lib.Dec.{leb→le, ltb→lt, le→leb, lt→ltb}
-use lib.IntN.{ℤ, pos, negsuc, _+ℤ_}
+use lib.IntN.{ℤ, pos, negsuc}
 use lib.Signed.{_≤ℤ_, _<ℤ_, leZ-yes, ltZ-yes}
-use Rattle.whole.proofs.Difference.{_⊖_, plus, minus, parts, diff, ⊖-parts, ⊖-eq}
+use Rattle.whole.proofs.Difference.{_⊖_, plus, minus, ⊖-parts}
 
 le-parts : (a b : ℤ) → a ≤ℤ b → plus a + minus b ≤ plus b + minus a
 unfolding plus minus
@@ -48,19 +47,3 @@ le-⊖ p n q m h = omega (arith, le-parts _ _ h, ⊖-parts p n, ⊖-parts q m)
 
 pub lt-⊖ : (p n q m : ℕ) → (p ⊖ n) <ℤ (q ⊖ m) → p + m < q + n
 lt-⊖ p n q m h = omega (arith, lt-parts _ _ h, ⊖-parts p n, ⊖-parts q m)
-
--- ---- the laws of the order. (`lib.Signed` has reflexivity and the mixed laws.)
-pub ≤ℤ-trans : (a b c : ℤ) → a ≤ℤ b → b ≤ℤ c → a ≤ℤ c
-≤ℤ-trans a b c h k = parts-le a c (omega (arith, le-parts a b h, le-parts b c k))
-
-pub ≤ℤ-antisym : (a b : ℤ) → a ≤ℤ b → b ≤ℤ a → a ≡ b
-≤ℤ-antisym a b h k =
-    let h′ = le-parts a b h in
-    let k′ = le-parts b a k in
-    rw (parts a, parts b) (omega (arith, ⊖-eq))
-
-pub +ℤ-≤ℤ : (a b c d : ℤ) → a ≤ℤ b → c ≤ℤ d → (a +ℤ c) ≤ℤ (b +ℤ d)
-+ℤ-≤ℤ a b c d h k =
-    let h′ = le-parts a b h in
-    let k′ = le-parts c d k in
-    rw (parts a, parts b, parts c, parts d) (simp diff (omega (arith, ⊖-le)))

@@ -8,10 +8,6 @@ use Rattle.whole.specs.Sum.{sum}
 use Rattle.whole.proofs.Difference.{parts, diff}
 use Rattle.whole.proofs.Size.{near, _within_, size-within, within-add, within-le}
 
-pub sum-suc : (N : ℕ) (f : ℕ → ℤ) → sum (suc N) f ≡ sum N f +ℤ f N
-unfolding sum
-sum-suc N f = refl
-
 -- congruence: terms that are equal below N
 pub sum-cong : (N : ℕ) (f g : ℕ → ℤ) → ((n : ℕ) → n < N → f n ≡ g n) → sum N f ≡ sum N g
 unfolding sum

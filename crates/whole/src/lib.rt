@@ -6,12 +6,7 @@ ghost use Rattle.whole.specs.Round.{round as rounded};
 pub fn round(v: i64) -> i64
     ensures { λ r. ⌜ r ≡ rounded v ⌝ }
 {
-    // the shift copies the sign: it is the division by 2^30 rounded toward minus infinity
-    let quotient = v >> 30;
-    let rest = v - quotient * 1073741824;
-    if rest < 536870912 {
-        quotient
-    } else {
-        quotient + 1
-    }
+    // a shift to the right copies the sign: it is the division rounded toward minus infinity
+    let halves = v >> 29;
+    (halves + 1) >> 1
 }
