@@ -24,7 +24,7 @@
 #define LONGEST 1024
 #define START 5
 #define RECORDING (LONGEST + START + 3)
-#define ROUNDS 41
+#define ROUNDS 401
 #define ROUND_NS 300000.0
 
 static int32_t a[RECORDING], b[RECORDING];

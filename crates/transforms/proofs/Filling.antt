@@ -58,3 +58,7 @@ module _ {b m : ℕ} {f : ℕ → ℤ} {before after : List ℤ} (run : Filled b
   -- a word below the run is as it was, also in a local
   pub read-below : (k : ℕ) → k < b → SFits w64 (word after k) → Word w64 (ofZ w64 (word after k)) (word before k)
   read-below k h fits = record { is = toZ-ofZ fits ∙ run .low k h; fits = rw (run .low k h) at fits }
+
+-- a run of one word
+pub fill-one : {b : ℕ} {f : ℕ → ℤ} {words : List ℤ} {v : ℤ} → b < length words → v ≡ f 0 → Filled b 1 f words (set words b v)
+fill-one {b} {f} {words} h e = let at : b + 0 ≡ b = omega arith in rw at at (fill-more {b = b} {f = f} {before = words} fill-none (omega arith) e)

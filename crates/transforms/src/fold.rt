@@ -4,7 +4,7 @@ ghost use Prim.Native.Nat.{ℕ, _+_, _-_, _*_, _/_, _≤_, _<_};
 ghost use lib.IntN.{natAbs, _-ℤ_};
 ghost use lib.ListN.{length};
 ghost use Rattle.ffct.specs.Block.{largestSum};
-ghost use Rattle.ffct.specs.Transforms.{evens, foldedSums, foldedDifferences, alternate, rearranged};
+ghost use Rattle.ffct.specs.Transforms.{evens, foldedSums, foldedDifferences, rearranged};
 ghost use Rattle.transforms.specs.Words.{word, Filled, FilledBySums};
 
 // x1 of (12): the even ones of the n samples at the front, put at b.
@@ -63,12 +63,17 @@ pub fn put_folded_sums(w: &mut [i64], n: usize, b: usize) -> u64
     sums
 }
 
-// (-1)^i (x - y): one sum.
-fn alternating_difference(i: usize, x: i64, y: i64) -> i64
-    requires { ⌜ (natAbs x ≤ largestSum) × (natAbs y ≤ largestSum) ⌝ }
-    ensures { λ r. ⌜ r ≡ alternate i (x -ℤ y) ⌝ }
+// The word at x less the word at y, put at a place above them. Returns the sums made.
+fn put_difference(w: &mut [i64], x: usize, y: usize, place: usize) -> u64
+    requires { ⌜ (x < place) × (y < place) × (place < length (now w)) × (natAbs (word (now w) x) ≤ largestSum) × (natAbs (word (now w) y) ≤ largestSum) ⌝ }
+    ensures { λ r. ⌜ FilledBySums place 1 (λ _. word (now (w .entry)) x -ℤ word (now (w .entry)) y) (now (w .entry)) (now (w .exit)) r ⌝ }
 {
-    if i % 2 == 0 { x - y } else { y - x }
+    let mut sums: u64 = 0;
+    let first = w[x];
+    let second = w[y];
+    w[place] = first - second;
+    sums += 1;
+    sums
 }
 
 // x3 of (15): each odd sample less its mirror image, with alternating sign, put at b. Returns the sums made.
@@ -80,13 +85,17 @@ pub fn put_folded_differences(w: &mut [i64], n: usize, b: usize) -> u64
     let q = n / 4;
     let mut sums: u64 = 0;
     let mut i = 0;
-    while i < q {
-        let x = w[2 * i + 1];
-        let y = w[n - 2 * i - 1];
-        let d = alternating_difference(i, x, y);
-        w[b + i] = d;
-        sums += 1;
-        i += 1;
+    while i + 1 < q {
+        let even = put_difference(w, 2 * i + 1, n - 2 * i - 1, b + i);
+        let j = i + 1;
+        let odd = put_difference(w, n - 2 * j - 1, 2 * j + 1, b + j);
+        sums += even + odd;
+        i += 2;
+    }
+    if i < q {
+        // n = 4
+        let last = put_difference(w, 2 * i + 1, n - 2 * i - 1, b + i);
+        sums += last;
     }
     sums
 }
