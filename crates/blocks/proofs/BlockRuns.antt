@@ -9,13 +9,12 @@ use native.Mathlib.Omega.{arith}
 use lib.IntN.{ℤ, pos, natAbs}
 use lib.ListN.{length}
 use Rattle.whole.proofs.Size.{within-size}
-use Rattle.ffct.specs.Block.{Samples, AcceptedBlock, largestSum, isLength, level}
+use Rattle.ffct.specs.Block.{Samples, AcceptedBlock, largestSum, isLength, level, word}
 use Rattle.ffct.specs.Transforms.{Transform, cosineBeyond, cosineDft, sineDft, dct}
 use Rattle.ffct.proofs.Lengths.{len, pow-len, len-pos}
 use Rattle.ffct.proofs.Blocks.{Same, dft-same, dct-same, cosine-beyond-same}
 use Rattle.ffct.proofs.Counts.{FewOperations, few-operations}
 use Rattle.ffct.proofs.Sizes.{accepted-inner, dft-size, dct-within}
-use Rattle.transforms.specs.Words.{word}
 use Rattle.transforms.specs.Steps.{Ready, Gives, Transformed}
 use Rattle.blocks.specs.Words.{Written}
 use Rattle.blocks.specs.Blocks.{Workable, Cleared}

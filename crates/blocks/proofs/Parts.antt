@@ -8,12 +8,11 @@ use native.Mathlib.Omega.{arith}
 use lib.IntN.{ℤ, pos, natAbs}
 use lib.ListN.{length}
 use Rattle.whole.proofs.Cases.{le-or-lt}
-use Rattle.ffct.specs.Block.{Samples, level, largestSum}
+use Rattle.ffct.specs.Block.{Samples, level, largestSum, word}
 use Rattle.ffct.specs.Transforms.{Transform, cosineBeyond, sineBeyond, cosineDft, sineDft}
 use Rattle.ffct.proofs.Lengths.{pow-len}
 use Rattle.ffct.proofs.Steps.{cosine-low, cosine-high}
 use Rattle.ffct.proofs.Blocks.{sine-first, sine-last, sine-beyond-same}
-use Rattle.transforms.specs.Words.{word}
 use Rattle.blocks.specs.Words.{Written, WrittenBySums, Joinable}
 use Rattle.blocks.specs.Blocks.{Workable, DftsMade}
 use Rattle.blocks.proofs.BlockRuns.{power, some, n-le, again, few, cosine-small, sine-small}

@@ -18,10 +18,9 @@ use Rattle.whole.proofs.Cases.{le-or-lt}
 use Rattle.whole.proofs.Difference.{parts, diff}
 use Rattle.whole.proofs.Size.{_within_, near, size-within, within-neg, within-add, within-sub, within-fits}
 use Rattle.whole.proofs.Words.{asked, made}
-use Rattle.ffct.specs.Block.{largestSum}
+use Rattle.ffct.specs.Block.{largestSum, word}
 use Rattle.ffct.specs.Transforms.{sineBeyond}
 use Rattle.ffct.proofs.Steps.{sine-low, sine-high}
-use Rattle.transforms.specs.Words.{word}
 use Rattle.blocks.specs.Words.{WrittenBySums, Joinable}
 use Rattle.blocks.proofs.Writing.{narrows, narrowed, Ends, ends-none, ends-read, ends-front, ends-back, ends-pass, ends-all}
 

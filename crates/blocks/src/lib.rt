@@ -2,11 +2,11 @@
 pub mod words;
 
 use circle::quarter_wave;
+use steps::tally::Tally;
+use steps::tally::total;
 use transforms::cosine_dft;
 use transforms::dct;
 use transforms::sine_dft;
-use transforms::tally::Tally;
-use transforms::tally::total;
 use words::add_sine;
 use words::clear;
 use words::load;

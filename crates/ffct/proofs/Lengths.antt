@@ -18,6 +18,13 @@ pub len-pos : (L : ℕ) → 0 < len L
 len-pos zero = omega arith
 len-pos (suc L) = omega (arith, len-pos L)
 
+-- the level of a length
+pub len-injective : (L M : ℕ) → len L ≡ len M → L ≡ M
+len-injective zero zero e = refl
+len-injective zero (suc M) e = absurd (omega (arith, len-pos M))
+len-injective (suc L) zero e = absurd (omega (arith, len-pos L))
+len-injective (suc L) (suc M) e = ap suc (len-injective L M (omega arith))
+
 -- 1,024 is a multiple of each length
 unfoldable pub per : ℕ → ℕ
 per L = len (topLevel - L)

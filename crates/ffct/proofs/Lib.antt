@@ -1,5 +1,6 @@
 pub mod Examples
 pub mod Lengths
+pub mod Alternate
 pub mod ElevenLengths
 pub mod Steps
 pub mod Sums

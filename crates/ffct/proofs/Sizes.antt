@@ -5,15 +5,17 @@
 use mathlib.Core.Path.{_≡_}
 use mathlib.Core.Logic.{⊎-elim}
 use Prim.Native.Nat.{ℕ, zero, suc, _+_, _*_, _-_, _/_, _^_, _<_, _≤_}
-use native.Mathlib.Nat.{le-trans, mul-le-mul-left, le-div-iff-mul-le}
+use native.Mathlib.Nat.{le-trans, mul-le-mul-left, mul-div-le, le-div-iff-mul-le}
 use native.Mathlib.Omega.{arith}
 use lib.Dec.{T, leb, leb→le, lit<}
-use lib.IntN.{ℤ, _+ℤ_, _-ℤ_, _*ℤ_}
+use lib.IntN.{ℤ, natAbs, _+ℤ_, _-ℤ_, _*ℤ_}
 use mir.Syntax.{w32, w64}
 use mir.Val.{SFits}
 use Rattle.whole.proofs.Cases.{le-or-lt, both, below, below-at}
 use Rattle.whole.proofs.Difference.{int, parts, diff}
 use Rattle.whole.proofs.Size.{near, _within_, size-within, within-neg, within-le, within-add, within-sub, within-mul, within-fits}
+use Rattle.whole.proofs.Words.{Word}
+use Rattle.whole.proofs.Operations.{Computes, computes}
 use Rattle.circle.specs.Circle as Circle
 use Rattle.circle.specs.Circle.{B, K}
 use Rattle.circle.proofs.Wave.{K-within}
@@ -46,6 +48,14 @@ pub record Inner (L : ℕ) (x : Samples) (X : ℕ) : Type 0 where
   pub small : len L * X ≤ largestSum
   pub bounded : Bounded (len L) x X
 
+-- samples of which each has its share of the largest sum
+pub share-inner : {L : ℕ} {x : Samples} → L ≤ topLevel → ((n : ℕ) → n < len L → len L * natAbs (x n) ≤ largestSum) → Inner L x (largestSum / len L)
+share-inner {L} l h = record {
+  level = l;
+  small = mul-div-le largestSum (len L);
+  bounded = λ n i. size-within _ (le-div-iff-mul-le (len-pos L) .1 (omega (arith, h n i)));
+}
+
 dft-small : (L : ℕ) → L ≤ topLevel → dftError L (largestSum / len L) ≤ 128 * B
 unfolding both below dftError dctError
 dft-small L h = leb→le _ _ (below-at 11 (λ L. leb (dftError L (largestSum / len L)) (128 * B)) tt L (omega arith))
@@ -71,6 +81,14 @@ module _ {L : ℕ} {x : Samples} {X : ℕ} (i : Inner L x X) where
   dct-within k h =
       size _ _ _ 257 (dct-near L (per L) x X (len-per L (i .level)) (i .bounded) k h) (dct-size (per L) (len L) x k (i .bounded))
       (le-trans (dct-grows L share (dft-grows L share)) (dct-small L (i .level)))
+
+-- ---- the sums of two coefficients, on words
+module _ {p q : ℕ} {x y : ℤ} (a : Word w64 p x) (b : Word w64 q y) (h : x within 2 * largestSum) (l : y within 2 * largestSum) where
+  pub added : Computes _+ℤ_ p q x y
+  added = computes _+ℤ_ a b (within-fits (within-add h l) (lit< tt))
+
+  pub subtracted : Computes _-ℤ_ p q x y
+  subtracted = computes _-ℤ_ a b (within-fits (within-sub h l) (lit< tt))
 
 -- ---- the rotation
 pub entry-within : (j : ℕ) → j ≤ 1024 → Circle.T j within 2 ^ 30

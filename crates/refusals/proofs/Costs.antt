@@ -7,10 +7,9 @@ use native.Mathlib.Omega.{arith}
 use lib.IntN.{pos}
 use Rattle.ffct.specs.Block.{Samples, topLevel, isLength, level}
 use Rattle.ffct.specs.Transforms.{evens, foldedSums, foldedDifferences, rearranged, cosineDft, sineDft, dct, spectrum, pair}
-use Rattle.ffct.proofs.Lengths.{len, pow-len}
+use Rattle.ffct.proofs.Lengths.{len, pow-len, len-injective}
 use Rattle.ffct.proofs.Steps.{cosine-products, cosine-sums, sine-products, sine-sums, dct-products, dct-sums}
 use Rattle.ffct.proofs.Counts.{few-operations, published, nothing-at-one}
-use Rattle.transforms.proofs.Levels.{len-injective}
 use Rattle.refusals.specs.Counts.{Costs, LevelCosts, SixCounts, SixPublished}
 use Rattle.ffct.proofs.ElevenLengths.{is-power, one-level, some-level, exponent-lt}
 

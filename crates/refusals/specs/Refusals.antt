@@ -4,8 +4,7 @@ use mathlib.Core.List.{List, [], _∷_}
 use Prim.Native.Nat.{ℕ, zero, suc, _+_, _*_}
 use lib.Dec.{leb, ltb}
 use lib.IntN.{ℤ, natAbs}
-use Rattle.ffct.specs.Block.{Samples, largestSample}
-use Rattle.transforms.specs.Words.{word}
+use Rattle.ffct.specs.Block.{Samples, largestSample, word}
 
 -- ---- 1: "N is not one of the eleven lengths": `isLength` of the definitions of blocks
 

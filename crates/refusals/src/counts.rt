@@ -1,6 +1,6 @@
 // The counts of a length, by the recursions (21) to (26), level by level.
-use transforms::tally::Tally;
-use transforms::tally::total;
+use steps::tally::Tally;
+use steps::tally::total;
 ghost use mathlib.Core.Path.{_≡_};
 ghost use mathlib.Core.Bool.{true};
 ghost use Prim.Native.Nat.{_+_, _-_, _*_, _/_, _^_, _≤_};

@@ -10,10 +10,9 @@ use native.Mathlib.Omega.{arith}
 use lib.IntN.{ℤ}
 use lib.ListN.{length}
 use lib.Pow.{pow-pos}
-use Rattle.ffct.specs.Block.{Samples, isLength, level}
+use Rattle.ffct.specs.Block.{Samples, isLength, level, word}
 use Rattle.ffct.specs.Transforms.{pair as pairOf}
 use Rattle.ffct.proofs.ElevenLengths.{is-power, length-le}
-use Rattle.transforms.specs.Words.{word}
 use Rattle.blocks.specs.Words.{Written}
 use Rattle.refusals.specs.Refusals.{block}
 use Rattle.refusals.proofs.Ranges.{none-out}

@@ -8,13 +8,12 @@ use native.Mathlib.Omega.{arith}
 use lib.IntN.{ℤ, pos}
 use lib.ListN.{length, take, drop, List·getD-append}
 use lib.Seq.{length-take-le, length-front, getD-drop, getD-append-add}
-use Rattle.ffct.specs.Block.{Samples, AcceptedBlock, isLength, level}
+use Rattle.ffct.specs.Block.{Samples, AcceptedBlock, isLength, level, word}
 use Rattle.ffct.specs.Transforms.{dct, spectrum, pair}
 use Rattle.ffct.specs.Exact.{exactCosine, exactSine, exactDct, exactReal, exactImaginary, eighth, quarterOfNext, quarter, Within}
 use Rattle.ffct.proofs.Lengths.{pow-len}
 use Rattle.ffct.proofs.Blocks.{Same, dct-same, spectrum-same, pair-same}
 use Rattle.ffct.proofs.Limits.{limits, pair-limits}
-use Rattle.transforms.specs.Words.{word}
 use Rattle.blocks.specs.Words.{Written}
 use Rattle.refusals.specs.Refusals.{scratchWords, block, firstOut, accepted}
 use Rattle.spectra.specs.Calls.{Call, verdict}

@@ -10,12 +10,11 @@ use lib.IntN.{ℤ, pos}
 use lib.ListN.{length, take, drop, length-drop}
 use lib.Seq.{length-take-le, getD-take, getD-drop}
 use borrow.Author.Tests.{lt-ltb, le-ltb}
-use Rattle.transforms.specs.Words.{word}
+use Rattle.ffct.specs.Block.{word, isLength}
 use Rattle.spectra.specs.declared.Answer.{Answer}
 use Rattle.spectra.specs.declared.Answer.the-variants.{BadLength, BeyondRecording, ResultTooShort, ScratchTooShort, AllowanceTooSmall, OutOfRange}
 use Rattle.spectra.specs.Answers.{verdictOf}
 use Rattle.spectra.specs.Promises.{SpectrumPromise, CosinePromise, PairPromise, spectrumCall, cosineCall, pairCall}
-use Rattle.ffct.specs.Block.{isLength}
 use Rattle.refusals.specs.Refusals.{someBelow, scratchWords, firstOut, firstOutIn, accepted}
 use Rattle.spectra.specs.Calls.{lengthsOf, samplesOf, Call, verdict}
 use Rattle.refusals.proofs.Ranges.{first-to, first-shift, first-same}

@@ -5,8 +5,7 @@ use Prim.Native.Nat.{ℕ, _+_}
 use lib.Dec.{ltb}
 use lib.IntN.{ℤ}
 use lib.ListN.{length}
-use Rattle.ffct.specs.Block.{Samples, isLength}
-use Rattle.transforms.specs.Words.{word}
+use Rattle.ffct.specs.Block.{Samples, isLength, word}
 use Rattle.refusals.specs.Refusals.{someBelow, scratchWords, Verdict, refused, firstOutIn}
 
 abbrev pub lengthsOf : List (List ℤ) → List ℕ

@@ -9,7 +9,7 @@ use refusals::length::is_length;
 use refusals::length::reaches_beyond;
 use refusals::length::scratch_words;
 use refusals::range::first_out;
-use transforms::tally::Tally;
+use steps::tally::Tally;
 ghost use mathlib.Core.Path.{_≡_};
 ghost use Rattle.refusals.specs.Refusals.{number};
 ghost use Rattle.spectra.specs.Answers.{verdictOf, products, sums, place};

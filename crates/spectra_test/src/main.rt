@@ -7,7 +7,7 @@ use spectra::cosine;
 use spectra::count_query;
 use spectra::pair;
 use spectra::spectrum;
-use transforms::tally::Tally;
+use steps::tally::Tally;
 ghost use mathlib.Core.Path.{_≡_};
 ghost use Prim.Native.Nat.{_^_, _≤_, _<_};
 ghost use lib.ListN.{length};

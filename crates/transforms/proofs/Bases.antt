@@ -7,12 +7,11 @@ use native.Mathlib.Omega.{arith}
 use lib.IntN.{ℤ, pos}
 use lib.ListN.{length, set, length-set}
 use lib.Seq.{getD-set-same, getD-set-other}
-use Rattle.ffct.specs.Block.{Samples}
+use Rattle.ffct.specs.Block.{Samples, word}
 use Rattle.ffct.specs.Transforms.{dctBy, cosineDft, sineDft, dct}
-use Rattle.ffct.proofs.Lengths.{len, len-pos}
-use Rattle.transforms.specs.Words.{word}
+use Rattle.ffct.proofs.Lengths.{len, len-pos, len-injective}
 use Rattle.transforms.specs.Steps.{Ready, Transformed, Halved}
-use Rattle.transforms.proofs.Levels.{as-len, at-level, len-injective}
+use Rattle.transforms.proofs.Levels.{as-len, at-level}
 
 -- the sine-DFT of one or two samples
 none : (L : ℕ) (x : Samples) → len L ≤ 2 → ((k : ℕ) → sineDft L x .at k ≡ pos 0) × (sineDft L x .products ≡ 0) × (sineDft L x .sums ≡ 0)

@@ -9,14 +9,14 @@ use lib.IntN.{ℤ, natAbs}
 use lib.ListN.{length}
 use Rattle.whole.proofs.Cases.{le-or-lt}
 use Rattle.whole.proofs.Size.{within-size}
-use Rattle.ffct.specs.Block.{Samples, largestSum}
+use Rattle.ffct.specs.Block.{Samples, largestSum, word}
 use Rattle.ffct.specs.Transforms.{rearranged, rotated, cosineDft, sineDft, dct}
 use Rattle.ffct.proofs.Lengths.{len, pow-len, len-pos}
 use Rattle.ffct.proofs.Counts.{few-operations}
 use Rattle.ffct.proofs.Sizes.{dft-size}
 use Rattle.ffct.proofs.Blocks.{Same, rearranged-same, dft-same, rotated-same}
 use Rattle.ffct.proofs.Steps.{rearranged-source, dct-step, dct-products, dct-sums}
-use Rattle.transforms.specs.Words.{word, Filled}
+use Rattle.transforms.specs.Words.{Filled}
 use Rattle.transforms.specs.Steps.{Ready, dftRoom, dctRoom, Gives, Transformed, DctRotated}
 use Rattle.transforms.proofs.Parts.{part, back}
 use Rattle.transforms.proofs.Levels.{as-len, inner, at-most, divides, at-level, halves}

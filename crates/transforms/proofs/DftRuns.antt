@@ -10,7 +10,7 @@ use lib.IntN.{ℤ, pos, natAbs, _+ℤ_, _-ℤ_}
 use lib.ListN.{length}
 use Rattle.whole.proofs.Cases.{le-or-lt}
 use Rattle.whole.proofs.Size.{within-size, size-add, within-sub, size-within}
-use Rattle.ffct.specs.Block.{Samples, topLevel, largestSum}
+use Rattle.ffct.specs.Block.{Samples, topLevel, largestSum, word}
 use Rattle.ffct.specs.Transforms.{Transform, evens, foldedSums, foldedDifferences, alternate, cosineBeyond, sineBeyond, dctBeyond, apart, cosineDft, sineDft, dct}
 use Rattle.ffct.proofs.Lengths.{len, pow-len, len-pos}
 use Rattle.ffct.proofs.Counts.{few-operations}
@@ -18,7 +18,7 @@ use Rattle.ffct.proofs.Near.{alternate-within, apart-le}
 use Rattle.ffct.proofs.Sizes.{Inner, dft-size, dct-within}
 use Rattle.ffct.proofs.Blocks.{Same, dft-same, dct-same, sine-first, sine-last, cosine-beyond-same, sine-beyond-same, dct-beyond-same}
 use Rattle.ffct.proofs.Steps.{cosine-step, sine-step, cosine-products, cosine-sums, sine-products, sine-sums}
-use Rattle.transforms.specs.Words.{word, Filled, FilledBySums}
+use Rattle.transforms.specs.Words.{Filled, FilledBySums}
 use Rattle.transforms.specs.Steps.{Ready, dftRoom, dctRoom, Gives, Transformed, evenAt, oddAt, CosineJoined, SineJoined}
 use Rattle.transforms.proofs.Parts.{part, back}
 use Rattle.transforms.proofs.Levels.{as-len, inner, at-most, sample-le, at-level, quarters}

@@ -11,10 +11,10 @@ use mir.Val.{SFits, ofZ}
 use Rattle.whole.proofs.Difference.{parts, diff}
 use Rattle.whole.proofs.Size.{near, _within_, size-within}
 use Rattle.whole.proofs.Words.{Word}
-use Rattle.ffct.specs.Block.{largestSum}
+use Rattle.ffct.specs.Block.{largestSum, word}
 use Rattle.ffct.specs.Transforms.{alternate, foldedDifferences}
-use Rattle.transforms.specs.Words.{word, Filled}
-use Rattle.transforms.proofs.Alternate.{alternate-even, alternate-odd}
+use Rattle.transforms.specs.Words.{Filled}
+use Rattle.ffct.proofs.Alternate.{alternate-even, alternate-odd}
 use Rattle.transforms.proofs.Filling.{read-below, fill-join}
 
 -- the words read, and the samples that they are

@@ -5,13 +5,14 @@ use mathlib.Core.List.{List}
 use Prim.Native.Nat.{ℕ, _+_, _*_, _≤_, _<_}
 use native.Mathlib.Omega.{arith}
 use lib.IntN.{ℤ, natAbs}
-use Rattle.ffct.specs.Block.{Samples, largestSum}
+use Rattle.ffct.specs.Block.{Samples, largestSum, word}
 use Rattle.ffct.specs.Transforms.{Transform}
-use Rattle.ffct.proofs.Lengths.{len}
+use Rattle.ffct.proofs.Lengths.{len, len-injective}
 use Rattle.ffct.proofs.Blocks.{Same}
-use Rattle.transforms.specs.Words.{word, Filled}
-use Rattle.transforms.specs.Steps.{Ready, Transformed, Coefficients}
-use Rattle.transforms.proofs.Levels.{as-len, at-level, len-injective}
+use Rattle.transforms.specs.Words.{Filled}
+use Rattle.transforms.specs.Steps.{Ready, Transformed}
+use Rattle.short.specs.Short.{Coefficients}
+use Rattle.transforms.proofs.Levels.{as-len, at-level}
 
 -- the words from 0 on
 front : {n : ℕ} {f : ℕ → ℤ} {before after : List ℤ} → Filled 0 n f before after → (k : ℕ) → k < n → word after k ≡ f k

@@ -16,30 +16,16 @@ use mir.Syntax.{w64}
 use mir.Val.{SFits, toZ, ofZ}
 use Rattle.whole.specs.Round.{round}
 use Rattle.whole.proofs.Size.{_within_, size-within, within-add, within-sub, within-fits}
-use Rattle.whole.proofs.Words as Words
 use Rattle.whole.proofs.Words.{Word}
+use Rattle.whole.proofs.Operations.{Computes}
 use Rattle.circle.specs.Circle.{T}
-use Rattle.ffct.specs.Block.{largestSum}
+use Rattle.ffct.specs.Block.{largestSum, word}
 use Rattle.ffct.specs.Transforms.{apart}
+use Rattle.ffct.proofs.Sizes.{added, subtracted}
 use Rattle.ffct.proofs.Steps.{cosine-low, cosine-high, sine-low, sine-high, dct-low, dct-middle, dct-high, rotated-zero, rotated-low, rotated-middle, rotated-high}
-use Rattle.transforms.specs.Words.{word, Mirrored}
+use Rattle.transforms.specs.Words.{Mirrored}
 use Rattle.transforms.specs.Steps.{evenAt, oddAt, CosineJoined, SineJoined, PairsRotated, DctRotated}
 use Rattle.transforms.proofs.Mirroring.{mirrored-read, mirrored-stored, mirrored-kept, mirrored-beside, mirrored-each}
-
--- an operation on the words p and q, which hold x and y: what it asks, and what it makes
-pub record Computes (op : ℤ → ℤ → ℤ) (p q : ℕ) (x y : ℤ) : Type 0 where
-  pub asked : SFits w64 (op (toZ w64 p) (toZ w64 q))
-  pub made : toZ w64 (ofZ w64 (op (toZ w64 p) (toZ w64 q))) ≡ op x y
-
-pub computes : (op : ℤ → ℤ → ℤ) {p q : ℕ} {x y : ℤ} → Word w64 p x → Word w64 q y → SFits w64 (op x y) → Computes op p q x y
-computes op a b f = record { asked = Words.asked op a b f; made = Words.made op a b f .is }
-
-module _ {p q : ℕ} {x y : ℤ} (a : Word w64 p x) (b : Word w64 q y) (h : x within 2 * largestSum) (l : y within 2 * largestSum) where
-  pub added : Computes _+ℤ_ p q x y
-  added = computes _+ℤ_ a b (within-fits (within-add h l) (lit< tt))
-
-  pub subtracted : Computes _-ℤ_ p q x y
-  subtracted = computes _-ℤ_ a b (within-fits (within-sub h l) (lit< tt))
 
 -- ---- the joins: what their loops have written when they come to k = last, by E and D as `before` has them
 abbrev pub CosineRun : ℕ → ℕ → List ℤ → List ℤ → Type 0

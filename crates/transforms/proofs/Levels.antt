@@ -3,15 +3,13 @@
 use mathlib.Core.Path.{_≡_, refl, sym, ap, _∙_, subst}
 use mathlib.Core.List.{List}
 use Prim.Native.Nat.{ℕ, zero, suc, _+_, _*_, _/_, _≤_, _<_}
-use native.Mathlib.Nat.{le-div-iff-mul-le, mul-div-le, mul-suc, mul-le-mul-right}
+use native.Mathlib.Nat.{mul-suc, mul-le-mul-right}
 use native.Mathlib.Omega.{arith}
 use lib.IntN.{ℤ, natAbs}
-use Rattle.whole.proofs.Size.{size-within}
-use Rattle.ffct.specs.Block.{Samples, largestSum}
+use Rattle.ffct.specs.Block.{Samples, largestSum, word}
 use Rattle.ffct.specs.Transforms.{Transform}
-use Rattle.ffct.proofs.Lengths.{len, pow-len, len-pos, per, len-per, quotient}
-use Rattle.ffct.proofs.Sizes.{Inner}
-use Rattle.transforms.specs.Words.{word}
+use Rattle.ffct.proofs.Lengths.{len, pow-len, len-pos, len-injective, per, len-per, quotient}
+use Rattle.ffct.proofs.Sizes.{Inner, share-inner}
 use Rattle.transforms.specs.Steps.{Ready, Gives, Transformed}
 
 module _ {n room : ℕ} {words : List ℤ} (r : Ready n room words) where
@@ -23,11 +21,7 @@ module _ {n room : ℕ} {words : List ℤ} (r : Ready n room words) where
 
   -- the inner transform of ffct's laws
   pub inner : Inner (r .level) (word words) (largestSum / n)
-  inner = record {
-    level = r .small;
-    small = omega (arith, mul-div-le largestSum n, ap (λ m. m * (largestSum / n)) as-len);
-    bounded = λ i h. size-within _ (le-div-iff-mul-le some .1 (omega (arith, r .samples i (omega (arith, as-len)))));
-  }
+  inner = rw as-len (share-inner (r .small) (λ i h. rw (sym as-len) (r .samples i (omega (arith, as-len)))))
 
   -- n is at most 1,024 and divides it
   pub divides : n * (1024 / n) ≡ 1024
@@ -45,13 +39,6 @@ module _ {n room : ℕ} {words : List ℤ} (r : Ready n room words) where
   -- each sample, whatever the length
   pub sample-le : (i : ℕ) → i < n → natAbs (word words i) ≤ largestSum
   sample-le i h = omega (arith, mul-le-mul-right (natAbs (word words i)) some, r .samples i h)
-
--- ---- the level of n
-pub len-injective : (L M : ℕ) → len L ≡ len M → L ≡ M
-len-injective zero zero e = refl
-len-injective zero (suc M) e = absurd (omega arith)
-len-injective (suc L) zero e = absurd (omega arith)
-len-injective (suc L) (suc M) e = ap suc (len-injective L M (omega arith))
 
 -- what is shown at the level that `Ready` has is shown
 pub at-level : {transform : ℕ → Samples → Transform} {n room m : ℕ} {before after : List ℤ} {p a : ℕ} (r : Ready n room before) →

@@ -1,4 +1,3 @@
-pub mod Alternate
 pub mod Filling
 pub mod Folding
 pub mod Mirroring
@@ -10,4 +9,3 @@ pub mod Fronts
 pub mod Runs
 pub mod DftRuns
 pub mod DctRuns
-pub mod Short

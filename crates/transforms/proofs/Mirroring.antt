@@ -15,17 +15,12 @@ use lib.ListN.{length, set, length-set}
 use lib.Seq.{getD-set-same, getD-set-other}
 use lib.Signed.{mag}
 use mir.Syntax.{w64}
-use mir.Val.{SFits, ofZ}
-use mir.Facts.{toZ-ofZ}
+use mir.Val.{ofZ}
 use borrow.Author.Count.{below-more}
-use borrow.Author.Needs.{sfits-of}
 use Rattle.whole.proofs.Cases.{le-or-lt}
-use Rattle.whole.proofs.Words.{Word}
-use Rattle.transforms.specs.Words.{word, Mirrored}
-
--- the bits of a word that was read or returned, and is known to be y
-pub held : {x y : ℤ} → mag x < 2 ^ 63 → x ≡ y → Word w64 (ofZ w64 x) y
-held {x} l e = let f : SFits w64 x = sfits-of l in record { is = toZ-ofZ f ∙ e; fits = rw e at f }
+use Rattle.whole.proofs.Words.{Word, held}
+use Rattle.transforms.specs.Words.{Mirrored}
+use Rattle.ffct.specs.Block.{word}
 
 -- a place is below m, at m, or above
 around : {A : Type 0} (m k : ℕ) → (k < m → A) → (k ≡ m → A) → (m < k → A) → A

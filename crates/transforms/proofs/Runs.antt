@@ -7,7 +7,8 @@ use Prim.Native.Nat.{ℕ, _+_, _-_, _≤_, _<_}
 use native.Mathlib.Omega.{arith}
 use lib.IntN.{ℤ}
 use lib.ListN.{length}
-use Rattle.transforms.specs.Words.{word, Filled}
+use Rattle.transforms.specs.Words.{Filled}
+use Rattle.ffct.specs.Block.{word}
 use Rattle.transforms.proofs.Parts.{part, back, part-length, part-at, back-length, back-front, back-at}
 
 -- m words f are put at n, and the tail from n on is lent

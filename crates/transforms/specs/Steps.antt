@@ -6,9 +6,9 @@ use lib.IntN.{ℤ, natAbs, _+ℤ_, _-ℤ_, _*ℤ_}
 use lib.ListN.{length}
 use Rattle.whole.specs.Round.{round}
 use Rattle.circle.specs.Circle.{T}
-use Rattle.ffct.specs.Block.{Samples, topLevel, largestSum}
+use Rattle.ffct.specs.Block.{Samples, topLevel, largestSum, word}
 use Rattle.ffct.specs.Transforms.{Transform, cosineBeyond, sineBeyond, dctBeyond, apart, rotated}
-use Rattle.transforms.specs.Words.{word, Mirrored}
+use Rattle.transforms.specs.Words.{Mirrored}
 
 -- ---- what a transform of n samples asks of the slice that it is lent: n is one of the eleven lengths, there is room, and n times the size of each sample is at most
 -- 1,024 times 1,000,000, which holds of an accepted block and of the samples of every step
@@ -63,14 +63,7 @@ pub record SineJoined (n : ℕ) (before after : List ℤ) (sums : ℕ) : Type 0 
   pub counted : sums ≡ n / 2 - 2
   pub len : length after ≡ length before
 
--- ---- one rotation by (20)
-pub record PairRotated (c s C S first second : ℤ) (products sums : ℕ) : Type 0 where
-  pub low : first ≡ round (c *ℤ C -ℤ s *ℤ S)
-  pub high : second ≡ round (s *ℤ C +ℤ c *ℤ S)
-  pub three-products : products ≡ 3
-  pub three-sums : sums ≡ 3
-
--- the pairs k, n - k, for k from 1 up to n/2, with C at n and S at n + n/2 + 1
+-- ---- the rotation: the pairs k, n - k, for k from 1 up to n/2, with C at n and S at n + n/2 + 1
 pub record PairsRotated (n : ℕ) (before after : List ℤ) (p a : ℕ) : Type 0 where
   pub words :
       Mirrored 1 (n / 2) n n
@@ -80,60 +73,9 @@ pub record PairsRotated (n : ℕ) (before after : List ℤ) (p a : ℕ) : Type 0
   pub products : p ≡ 3 * (n / 2 - 1)
   pub sums : a ≡ 3 * (n / 2 - 1)
 
--- DCT(n/2), from the cosine-DFT there
-pub record MiddleRotated (C value : ℤ) (products : ℕ) : Type 0 where
-  pub middle : value ≡ round (T 512 *ℤ C)
-  pub one-product : products ≡ 1
-
 -- the cosine-DFT stands at n .. n + n/2, the sine-DFT after it; the DCT goes to the front
 pub record DctRotated (n : ℕ) (before after : List ℤ) (p a : ℕ) : Type 0 where
   pub words : (k : ℕ) → k < n → word after k ≡ rotated n (λ j. word before (n + j)) (λ j. word before (n + n / 2 + 1 + j)) k
   pub products : p ≡ 3 * (n / 2 - 1) + 1
   pub sums : a ≡ 3 * (n / 2 - 1)
   pub len : length after ≡ length before
-
--- ---- short blocks, as arrays of words
-
--- the condition of `Ready` on the sizes of n samples
-abbrev pub Small : ℕ → List ℤ → Type 0
-Small n x = (k : ℕ) → k < n → n * natAbs (word x k) ≤ largestSum
-
--- and those of the steps on m coefficients: each is at most `most` in size
-abbrev pub Bounded : ℕ → ℕ → List ℤ → Type 0
-Bounded most m x = (k : ℕ) → k < m → natAbs (word x k) ≤ most
-
--- the first m words are f 0, f 1, .. f (m - 1)
-abbrev pub Front : ℕ → (ℕ → ℤ) → List ℤ → Type 0
-Front m f words = (k : ℕ) → k < m → word words k ≡ f k
-
--- the first m coefficients of a transform, with its counts, p products and a sums
-pub record Coefficients (t : Transform) (m : ℕ) (at : List ℤ) (p a : ℕ) : Type 0 where
-  pub values : Front m (t .at) at
-  pub products : p ≡ t .products
-  pub sums : a ≡ t .sums
-
--- the sum and the difference of two numbers
-pub record Butterfly (x y sum difference : ℤ) (sums : ℕ) : Type 0 where
-  pub added : sum ≡ x +ℤ y
-  pub subtracted : difference ≡ x -ℤ y
-  pub counted : sums ≡ 2
-
--- the m samples x of a step, each of them a sum
-pub record Folded (x : Samples) (m : ℕ) (at : List ℤ) (sums : ℕ) : Type 0 where
-  pub values : Front m x at
-  pub counted : sums ≡ m
-
--- the joins of (12) and (15) for 4 q samples: E are the coefficients of the even samples, D those of the DCT
-pub record CosineShort (q : ℕ) (E D at : List ℤ) (sums : ℕ) : Type 0 where
-  pub values : Front (2 * q + 1) (λ k. cosineBeyond (2 * q) (word E) k +ℤ dctBeyond q (word D) k) at
-  pub counted : sums ≡ 2 * q
-
-pub record SineShort (q : ℕ) (E D at : List ℤ) (sums : ℕ) : Type 0 where
-  pub values : Front (2 * q + 1) (λ k. sineBeyond (2 * q) (word E) k +ℤ dctBeyond q (word D) (apart q k)) at
-  pub counted : sums ≡ 2 * q - 2
-
--- the rotation for 2 m samples, from their cosine-DFT C and their sine-DFT S
-pub record DctShort (m : ℕ) (C S at : List ℤ) (p a : ℕ) : Type 0 where
-  pub values : Front (2 * m) (rotated (2 * m) (word C) (word S)) at
-  pub products : p ≡ 3 * (m - 1) + 1
-  pub sums : a ≡ 3 * (m - 1)

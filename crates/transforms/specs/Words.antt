@@ -2,12 +2,9 @@
 use mathlib.Core.List.{List}
 use mathlib.Core.Path.{_≡_}
 use Prim.Native.Nat.{ℕ, _+_, _-_, _≤_, _<_}
-use lib.IntN.{ℤ, pos}
-use lib.ListN.{length, getD}
-
--- word k, and 0 past the end. `word words` are the samples that stand at the front of a slice
-abbrev pub word : List ℤ → ℕ → ℤ
-word words k = getD words k (pos 0)
+use lib.IntN.{ℤ}
+use lib.ListN.{length}
+use Rattle.ffct.specs.Block.{word}
 
 -- the m words from b on now hold f 0, f 1, .. f (m - 1); all others are as before
 pub record Filled (b m : ℕ) (f : ℕ → ℤ) (before after : List ℤ) : Type 0 where

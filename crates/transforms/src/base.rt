@@ -1,17 +1,18 @@
 // Where the recursion ends: the transforms of short blocks, each in its place at the front of the slice.
-use crate::direct::cosine_16;
-use crate::direct::cosine_32;
-use crate::direct::dct_8;
-use crate::direct::dct_16;
-use crate::direct::sine_16;
-use crate::direct::sine_32;
 use crate::join::sum_and_difference;
-use crate::tally::Tally;
+use short::cosine_16;
+use short::cosine_32;
+use short::dct_8;
+use short::dct_16;
+use short::sine_16;
+use short::sine_32;
+use steps::tally::Tally;
 ghost use Prim.Native.Nat.{_+_, _/_, _≤_};
 ghost use lib.ListN.{length};
 ghost use Rattle.circle.specs.Circle.{IsQuarterWave};
 ghost use Rattle.ffct.specs.Transforms.{cosineDft, sineDft, dct};
-ghost use Rattle.transforms.specs.Words.{word, Filled};
+ghost use Rattle.transforms.specs.Words.{Filled};
+ghost use Rattle.ffct.specs.Block.{word};
 ghost use Rattle.transforms.specs.Steps.{Ready, dftRoom, dctRoom, Transformed};
 
 // The cosine-DFT of one or two samples.

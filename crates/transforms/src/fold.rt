@@ -3,9 +3,9 @@ ghost use mathlib.Core.Path.{_≡_};
 ghost use Prim.Native.Nat.{ℕ, _+_, _-_, _*_, _/_, _≤_, _<_};
 ghost use lib.IntN.{natAbs, _-ℤ_};
 ghost use lib.ListN.{length};
-ghost use Rattle.ffct.specs.Block.{largestSum};
+ghost use Rattle.ffct.specs.Block.{largestSum, word};
 ghost use Rattle.ffct.specs.Transforms.{evens, foldedSums, foldedDifferences, rearranged};
-ghost use Rattle.transforms.specs.Words.{word, Filled, FilledBySums};
+ghost use Rattle.transforms.specs.Words.{Filled, FilledBySums};
 
 // x1 of (12): the even ones of the n samples at the front, put at b.
 pub fn put_evens(w: &mut [i64], n: usize, b: usize)

@@ -4,8 +4,8 @@ ghost use mathlib.Core.Path.{_≡_};
 ghost use Prim.Native.Nat.{ℕ, _+_, _-_, _*_, _/_, _≤_, _<_};
 ghost use lib.IntN.{pos, natAbs, _+ℤ_, _-ℤ_};
 ghost use lib.ListN.{length};
-ghost use Rattle.ffct.specs.Block.{largestSum};
-ghost use Rattle.transforms.specs.Words.{word, Mirrored};
+ghost use Rattle.ffct.specs.Block.{largestSum, word};
+ghost use Rattle.transforms.specs.Words.{Mirrored};
 ghost use Rattle.transforms.specs.Steps.{evenAt, oddAt, CosineJoined, SineJoined, Halved};
 
 // N = 2: the sum and the difference of the two samples at the front, in their place.

@@ -2,11 +2,9 @@
 // the crate ffct, values and counts together. A part of the lent words holds the input on entry and the result on return; what a transform needs
 // for itself stands behind it, and it lends the tail of the slice on.
 pub mod base;
-pub mod direct;
 pub mod fold;
 pub mod join;
 pub mod rotate;
-pub mod tally;
 
 use base::cosine_base;
 use base::cosine_of_16;
@@ -23,8 +21,8 @@ use fold::rearrange;
 use join::join_cosine;
 use join::join_sine;
 use rotate::rotate_all;
-use tally::Tally;
-use tally::total;
+use steps::tally::Tally;
+use steps::tally::total;
 ghost use Prim.Native.Nat.{_+_, _/_};
 ghost use Rattle.circle.specs.Circle.{IsQuarterWave};
 ghost use Rattle.ffct.specs.Transforms.{cosineDft, sineDft, dct as dctOf};

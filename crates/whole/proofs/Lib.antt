@@ -6,5 +6,6 @@ pub mod Size
 pub mod Floor
 pub mod Rounding
 pub mod Words
+pub mod Operations
 pub mod Sums
 pub mod Powers

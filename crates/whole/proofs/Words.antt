@@ -1,16 +1,17 @@
 -- Signed machine words. A local of a signed type holds bits, `ofZ w x`, and an operation reads them, `toZ w p`: what comes out
 -- of an operation whose result fits is the result on the numbers.
 -- Assumes nothing.
-use mathlib.Core.Path.{_≡_}
+use mathlib.Core.Path.{_≡_, _∙_}
 use mathlib.Core.Bool.{false, true≢false}
-use Prim.Native.Nat.{ℕ}
+use Prim.Native.Nat.{ℕ, _^_, _<_}
 use native.Mathlib.Nat.{lt-of-le-of-lt}
 use lib.Dec.{T, leb}
 use lib.IntN.{ℤ, pos, negsuc}
-use lib.Signed.{shrZ, ltZ, nonNeg, mag-shr}
-use mir.Syntax.{Width}
+use lib.Signed.{shrZ, ltZ, nonNeg, mag, mag-shr}
+use mir.Syntax.{Width, w64}
 use mir.Val.{SFits, hbits, toZ, ofZ}
 use mir.Facts.{toZ-ofZ, sfits-widen}
+use borrow.Author.Needs.{sfits-of}
 
 -- the bits p are the number x, which fits
 pub record Word (w : Width) (p : ℕ) (x : ℤ) : Type 0 where
@@ -20,6 +21,10 @@ pub record Word (w : Width) (p : ℕ) (x : ℤ) : Type 0 where
 -- what a parameter or a call's result holds
 pub word : {w : Width} {x : ℤ} → SFits w x → Word w (ofZ w x) x
 word f = record { is = toZ-ofZ f; fits = f }
+
+-- the same of 64 bits that were read or returned, and are known to be y
+pub held : {x y : ℤ} → mag x < 2 ^ 63 → x ≡ y → Word w64 (ofZ w64 x) y
+held {x} l e = let f : SFits w64 x = sfits-of l in record { is = toZ-ofZ f ∙ e; fits = rw e at f }
 
 -- what a sum, a difference or a product asks, and what it gives
 module _ {w : Width} (op : ℤ → ℤ → ℤ) {p q : ℕ} {x y : ℤ} (a : Word w p x) (b : Word w q y) (f : SFits w (op x y)) where

@@ -34,7 +34,7 @@ use Rattle.transforms.proofs.fold.rearrange.Reads as rearrange-reads
 use Rattle.transforms.proofs.join.join_cosine.Reads as join-cosine-reads
 use Rattle.transforms.proofs.join.join_sine.Reads as join-sine-reads
 use Rattle.transforms.proofs.rotate.rotate_all.Reads as rotate-all-reads
-use Rattle.transforms.proofs.tally.total.Reads as total-reads
+use Rattle.steps.proofs.tally.total.Reads as total-reads
 use Rattle.transforms.proofs.+cosine_dft+dct+sine_dft.{statement}
 use Rattle.transforms.proofs.+cosine_dft+dct+sine_dft.Tie.{close}
 

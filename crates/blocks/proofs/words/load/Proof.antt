@@ -7,7 +7,7 @@ use mir.Val.{ofZ}
 use borrow.Author.Needs.{needs, sfits-of}
 use Rattle.whole.proofs.Words as Words
 use Rattle.whole.proofs.Words.{Word, widens, widened}
-use Rattle.transforms.specs.Words.{word}
+use Rattle.ffct.specs.Block.{word}
 use Rattle.blocks.proofs.Writing.{Ends, ends-none, ends-front, ends-all}
 use Rattle.blocks.proofs.words.load.Statement.{statement}
 use Rattle.blocks.proofs.words.load.Tie as tie

@@ -2,7 +2,7 @@
 use Prim.Native.Nat.{_-_, _≤_}
 use native.Mathlib.Omega.{arith}
 use borrow.Author.Needs.{needs}
-use Rattle.transforms.specs.Words.{word}
+use Rattle.ffct.specs.Block.{word}
 use Rattle.blocks.proofs.Writing.{narrows, narrowed, Ends, ends-none, ends-front, ends-all}
 use Rattle.blocks.proofs.words.store.Statement.{statement}
 use Rattle.blocks.proofs.words.store.Tie as tie

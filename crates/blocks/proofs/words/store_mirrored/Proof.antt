@@ -5,7 +5,7 @@ use native.Mathlib.Omega.{arith}
 use borrow.Author.Needs.{needs}
 use Rattle.ffct.specs.Transforms.{cosineBeyond}
 use Rattle.ffct.proofs.Steps.{cosine-low, cosine-high}
-use Rattle.transforms.specs.Words.{word}
+use Rattle.ffct.specs.Block.{word}
 use Rattle.blocks.proofs.Writing.{narrows, narrowed, Ends, ends-none, ends-join, ends-back, ends-all}
 use Rattle.blocks.proofs.words.store_mirrored.Statement.{statement}
 use Rattle.blocks.proofs.words.store_mirrored.Tie as tie

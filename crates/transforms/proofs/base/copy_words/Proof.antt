@@ -4,7 +4,8 @@ use Prim.Native.Nat.{_-_, _≤_}
 use native.Mathlib.Omega.{arith}
 use borrow.Author.Needs.{needs, sfits-of}
 use mir.Facts.{toZ-ofZ}
-use Rattle.transforms.specs.Words.{word, Filled}
+use Rattle.transforms.specs.Words.{Filled}
+use Rattle.ffct.specs.Block.{word}
 use Rattle.transforms.proofs.Filling.{fill-none, fill-more, fill-all}
 use Rattle.transforms.proofs.base.copy_words.Statement.{statement}
 use Rattle.transforms.proofs.base.copy_words.Tie as tie

@@ -7,7 +7,8 @@ use borrow.Author.Needs.{needs}
 use lib.IntN.{ℤ}
 use Rattle.ffct.specs.Transforms.{evens, rearranged}
 use Rattle.ffct.proofs.Steps.{rearranged-near, rearranged-far}
-use Rattle.transforms.specs.Words.{word, Filled}
+use Rattle.transforms.specs.Words.{Filled}
+use Rattle.ffct.specs.Block.{word}
 use Rattle.transforms.proofs.Filling.{fill-all, fill-join}
 use Rattle.transforms.proofs.fold.rearrange.Statement.{statement}
 use Rattle.transforms.proofs.fold.rearrange.Tie as tie

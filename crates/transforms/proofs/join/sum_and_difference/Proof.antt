@@ -10,10 +10,10 @@ use mir.Syntax.{w64}
 use mir.Val.{ofZ}
 use borrow.Author.Needs.{needs}
 use Rattle.whole.proofs.Size.{_within_, size-within}
-use Rattle.ffct.specs.Block.{largestSum}
-use Rattle.transforms.specs.Words.{word}
-use Rattle.transforms.proofs.Mirroring.{held}
-use Rattle.transforms.proofs.Joining.{Computes, added, subtracted}
+use Rattle.ffct.specs.Block.{largestSum, word}
+use Rattle.whole.proofs.Words.{held}
+use Rattle.whole.proofs.Operations.{Computes}
+use Rattle.ffct.proofs.Sizes.{added, subtracted}
 use Rattle.transforms.proofs.join.sum_and_difference.Statement.{statement}
 use Rattle.transforms.proofs.join.sum_and_difference.Tie as tie
 

@@ -8,10 +8,10 @@ use mir.Syntax.{w64}
 use mir.Val.{toZ, ofZ}
 use borrow.Author.Needs.{needs}
 use Rattle.whole.specs.Round.{round}
-use Rattle.whole.proofs.Words.{Word}
+use Rattle.whole.proofs.Words.{Word, held}
 use Rattle.circle.specs.Circle.{T}
-use Rattle.transforms.specs.Words.{word}
-use Rattle.transforms.proofs.Mirroring.{held, mirrored-read, mirrored-beside}
+use Rattle.ffct.specs.Block.{word}
+use Rattle.transforms.proofs.Mirroring.{mirrored-read, mirrored-beside}
 use Rattle.transforms.proofs.Joining.{dct-rotated}
 use Rattle.transforms.proofs.rotate.rotate_all.Statement.{statement}
 use Rattle.transforms.proofs.rotate.rotate_all.Tie as tie

@@ -11,11 +11,11 @@ use mir.Syntax.{w64}
 use mir.Val.{ofZ}
 use borrow.Author.Needs.{needs}
 use Rattle.whole.proofs.Size.{within-size}
-use Rattle.whole.proofs.Words.{Word}
+use Rattle.whole.proofs.Words.{Word, held}
 use Rattle.circle.specs.Circle.{T}
 use Rattle.ffct.proofs.Sizes.{entry-within}
-use Rattle.transforms.specs.Words.{word}
-use Rattle.transforms.proofs.Mirroring.{held, mirrored-none, mirrored-more, mirrored-read}
+use Rattle.ffct.specs.Block.{word}
+use Rattle.transforms.proofs.Mirroring.{mirrored-none, mirrored-more, mirrored-read}
 use Rattle.transforms.proofs.Joining.{RotationRun}
 use Rattle.transforms.proofs.rotate.rotate_pairs.Statement.{statement}
 use Rattle.transforms.proofs.rotate.rotate_pairs.Tie as tie

@@ -1,0 +1,88 @@
+-- `short::cosine_4` meets its contract: two butterflies and a sum of samples, as (12) has them. Assumes nothing.
+use mathlib.Core.Path.{refl, sym, _∙_}
+use native.Mathlib.Omega.{arith}
+use lib.Dec.{lit<}
+use lib.IntN.{_-ℤ_, +ℤ-idr}
+use Rattle.whole.proofs.Size.{within-size}
+use Rattle.ffct.specs.Transforms.{cosineBeyond, dctBeyond, dctBy, cosineDft}
+use Rattle.ffct.specs.Block.{word}
+use Rattle.short.proofs.Short.{_&_, each, Wings, wings, join-asked, join-wings, sample-twice, sample-sum, sum-within, sum-word}
+use borrow.Author.Needs.{needs}
+use Rattle.short.proofs.cosine_4.Statement.{statement}
+use Rattle.short.proofs.cosine_4.Tie as tie
+
+-- x(0) + x(2) and x(0) - x(2)
+even : (a : tie.After-butterfly) → let x = a .before .before .before .args .t1 in Wings (word x 0) (word x 2) (a .butterfly .result .sum) (a .butterfly .result .difference)
+even a =
+    let s = a .before .before .before in
+    let small = sample-twice (s .args .t1) (s .pre) in
+    join-wings (s .args .t1) (s .args .t1) small small 0 2 (lit< tt) (lit< tt) (a .butterfly .ensures)
+
+array-copy-out-butterfly : tie.Need-array-copy-out-butterfly
+array-copy-out-butterfly c = lit< tt
+
+array-copy-out-butterfly-2 : tie.Need-array-copy-out-butterfly-2
+array-copy-out-butterfly-2 c = lit< tt
+
+butterfly-requires : tie.Need-butterfly-requires
+butterfly-requires c κs =
+    let s = c .before .before in
+    let small = sample-twice (s .args .t1) (s .pre) in
+    join-asked (s .args .t1) (s .args .t1) small small 0 2 (lit< tt) (lit< tt)
+
+array-copy-out-odd : tie.Need-array-copy-out-odd
+array-copy-out-odd c = lit< tt
+
+array-copy-out-odd-2 : tie.Need-array-copy-out-odd-2
+array-copy-out-odd-2 c = lit< tt
+
+add-odd : tie.Need-add-odd
+add-odd c = let s = c .before .before .before .before .before in sample-sum (s .args .t1) (s .pre) 1 3 (lit< tt) (lit< tt) .asked
+
+add-sums : tie.Need-add-sums
+add-sums c = record { fits = lit< tt }
+
+butterfly-requires-2 : tie.Need-butterfly-requires-2
+butterfly-requires-2 c κs =
+    let a = c .before .before .before in
+    let s = a .before .before .before in
+    let x = s .args .t1 in
+    rw (even a .sum .is, sum-word x (s .pre) 1 3 (lit< tt) (lit< tt) .is)
+    (within-size (sum-within x (s .pre) 0 2 (lit< tt) (lit< tt)), within-size (sum-within x (s .pre) 1 3 (lit< tt) (lit< tt)))
+
+add-t18 : tie.Need-add-t18
+add-t18 c = search needs
+
+add-t19 : tie.Need-add-t19
+add-t19 c = search needs
+
+returns : tie.Need-returns
+unfolding cosineBeyond dctBeyond dctBy cosineDft
+returns c =
+    let b = c .before .before .before .before in
+    let a = b .before .before .before .before in
+    let s = a .before .before .before in
+    let x = s .args .t1 in
+    let sum = sum-within x (s .pre) in
+    let joined = wings (even a .sum) (sum-word x (s .pre) 1 3 (lit< tt) (lit< tt)) (sum 0 2 (lit< tt) (lit< tt)) (sum 1 3 (lit< tt) (lit< tt)) (b .butterfly2 .ensures) in
+    record {
+      values = each 3 _ (joined .sum .is & even a .difference .is ∙ sym (+ℤ-idr (word x 0 -ℤ word x 2)) & joined .difference .is & tt);
+      products = refl;
+      sums = omega (arith, a .butterfly .ensures .counted, b .butterfly2 .ensures .counted);
+    }
+
+pub cosine-4-spec : {M : Type 1} → statement M
+cosine-4-spec =
+    tie.close
+    (tie.spec
+    array-copy-out-butterfly
+    array-copy-out-butterfly-2
+    butterfly-requires
+    array-copy-out-odd
+    array-copy-out-odd-2
+    add-odd
+    add-sums
+    butterfly-requires-2
+    add-t18
+    add-t19
+    returns)

@@ -1,0 +1,124 @@
+-- `short::join_cosine_16` meets its contract: the butterflies are (12), and the coefficient in the middle is moved. Assumes nothing.
+use mathlib.Core.Path.{_≡_, sym, _∙_}
+use Prim.Native.Nat.{_+_}
+use native.Mathlib.Nat.{le-refl}
+use native.Mathlib.Omega.{arith}
+use lib.Dec.{lit<}
+use lib.IntN.{+ℤ-idr}
+use Rattle.ffct.specs.Transforms.{cosineBeyond, dctBeyond}
+use Rattle.ffct.specs.Block.{word}
+use Rattle.short.proofs.Short.{_&_, each, bounded-word, join-asked, join-wings}
+use Rattle.short.proofs.join_cosine_16.Statement.{statement}
+use Rattle.short.proofs.join_cosine_16.Tie as tie
+
+-- the sums that they take
+counted : (a₄ : tie.After-butterfly4) →
+    let a₃ = a₄ .before .before .before in
+    let a₂ = a₃ .before .before .before in
+    let a₁ = a₂ .before .before .before in
+    a₁ .butterfly .result .sums + a₂ .butterfly2 .result .sums + a₃ .butterfly3 .result .sums + a₄ .butterfly4 .result .sums ≡ 8
+counted a₄ =
+    let a₃ = a₄ .before .before .before in
+    let a₂ = a₃ .before .before .before in
+    let a₁ = a₂ .before .before .before in
+    omega (arith, a₁ .butterfly .ensures .counted, a₂ .butterfly2 .ensures .counted, a₃ .butterfly3 .ensures .counted, a₄ .butterfly4 .ensures .counted)
+
+array-copy-out-butterfly : tie.Need-array-copy-out-butterfly
+array-copy-out-butterfly c = lit< tt
+
+array-copy-out-butterfly-2 : tie.Need-array-copy-out-butterfly-2
+array-copy-out-butterfly-2 c = lit< tt
+
+butterfly-requires : tie.Need-butterfly-requires
+butterfly-requires c κs = let s = c .before .before in join-asked (s .args .t1) (s .args .t2) (s .pre .0) (s .pre .1) 0 0 (lit< tt) (lit< tt)
+
+array-copy-out-butterfly-3 : tie.Need-array-copy-out-butterfly-3
+array-copy-out-butterfly-3 c = lit< tt
+
+array-copy-out-butterfly-4 : tie.Need-array-copy-out-butterfly-4
+array-copy-out-butterfly-4 c = lit< tt
+
+butterfly-requires-2 : tie.Need-butterfly-requires-2
+butterfly-requires-2 c κs = let s = c .before .before .before .before .before in join-asked (s .args .t1) (s .args .t2) (s .pre .0) (s .pre .1) 1 1 (lit< tt) (lit< tt)
+
+array-copy-out-butterfly-5 : tie.Need-array-copy-out-butterfly-5
+array-copy-out-butterfly-5 c = lit< tt
+
+array-copy-out-butterfly-6 : tie.Need-array-copy-out-butterfly-6
+array-copy-out-butterfly-6 c = lit< tt
+
+butterfly-requires-3 : tie.Need-butterfly-requires-3
+butterfly-requires-3 c κs = let s = c .before .before .before .before .before .before .before .before in join-asked (s .args .t1) (s .args .t2) (s .pre .0) (s .pre .1) 2 2 (lit< tt) (lit< tt)
+
+array-copy-out-butterfly-7 : tie.Need-array-copy-out-butterfly-7
+array-copy-out-butterfly-7 c = lit< tt
+
+array-copy-out-butterfly-8 : tie.Need-array-copy-out-butterfly-8
+array-copy-out-butterfly-8 c = lit< tt
+
+butterfly-requires-4 : tie.Need-butterfly-requires-4
+butterfly-requires-4 c κs = let s = c .before .before .before .before .before .before .before .before .before .before .before in join-asked (s .args .t1) (s .args .t2) (s .pre .0) (s .pre .1) 3 3 (lit< tt) (lit< tt)
+
+array-copy-out-t11 : tie.Need-array-copy-out-t11
+array-copy-out-t11 c = lit< tt
+
+add-t30 : tie.Need-add-t30
+add-t30 c = omega (arith, counted (c .before .before .before .before .before .before .before))
+
+add-t31 : tie.Need-add-t31
+add-t31 c = omega (arith, counted (c .before .before .before .before .before .before .before .before))
+
+add-t32 : tie.Need-add-t32
+add-t32 c = omega (arith, counted (c .before .before .before .before .before .before .before .before .before))
+
+returns : tie.Need-returns
+unfolding cosineBeyond dctBeyond
+returns c =
+    let a₄ = c .before .before .before .before .before .before .before .before .before in
+    let a₃ = a₄ .before .before .before in
+    let a₂ = a₃ .before .before .before in
+    let a₁ = a₂ .before .before .before in
+    let s = a₁ .before .before .before in
+    let e = s .args .t1 in
+    let d = s .args .t2 in
+    let first = join-wings e d (s .pre .0) (s .pre .1) 0 0 (lit< tt) (lit< tt) (a₁ .butterfly .ensures) in
+    let second = join-wings e d (s .pre .0) (s .pre .1) 1 1 (lit< tt) (lit< tt) (a₂ .butterfly2 .ensures) in
+    let third = join-wings e d (s .pre .0) (s .pre .1) 2 2 (lit< tt) (lit< tt) (a₃ .butterfly3 .ensures) in
+    let fourth = join-wings e d (s .pre .0) (s .pre .1) 3 3 (lit< tt) (lit< tt) (a₄ .butterfly4 .ensures) in
+    record {
+      values = each 9 _ (
+          first .sum .is &
+          second .sum .is &
+          third .sum .is &
+          fourth .sum .is &
+          bounded-word e (s .pre .0) (le-refl _) 4 (lit< tt) .is ∙ sym (+ℤ-idr (word e 4)) &
+          fourth .difference .is &
+          third .difference .is &
+          second .difference .is &
+          first .difference .is &
+          tt
+          );
+      counted = counted a₄;
+    }
+
+pub join-cosine-16-spec : {M : Type 1} → statement M
+join-cosine-16-spec =
+    tie.close
+    (tie.spec
+    array-copy-out-butterfly
+    array-copy-out-butterfly-2
+    butterfly-requires
+    array-copy-out-butterfly-3
+    array-copy-out-butterfly-4
+    butterfly-requires-2
+    array-copy-out-butterfly-5
+    array-copy-out-butterfly-6
+    butterfly-requires-3
+    array-copy-out-butterfly-7
+    array-copy-out-butterfly-8
+    butterfly-requires-4
+    array-copy-out-t11
+    add-t30
+    add-t31
+    add-t32
+    returns)

@@ -1,0 +1,80 @@
+-- `short::join_cosine_8` meets its contract: the butterflies are (12), and the coefficient in the middle is moved. Assumes nothing.
+use mathlib.Core.Path.{_≡_, sym, _∙_}
+use Prim.Native.Nat.{_+_}
+use native.Mathlib.Nat.{le-refl}
+use native.Mathlib.Omega.{arith}
+use lib.Dec.{lit<}
+use lib.IntN.{+ℤ-idr}
+use Rattle.ffct.specs.Transforms.{cosineBeyond, dctBeyond}
+use Rattle.ffct.specs.Block.{word}
+use Rattle.short.proofs.Short.{_&_, each, bounded-word, join-asked, join-wings}
+use Rattle.short.proofs.join_cosine_8.Statement.{statement}
+use Rattle.short.proofs.join_cosine_8.Tie as tie
+
+-- the sums that they take
+counted : (a₂ : tie.After-butterfly2) →
+    let a₁ = a₂ .before .before .before in
+    a₁ .butterfly .result .sums + a₂ .butterfly2 .result .sums ≡ 4
+counted a₂ =
+    let a₁ = a₂ .before .before .before in
+    omega (arith, a₁ .butterfly .ensures .counted, a₂ .butterfly2 .ensures .counted)
+
+array-copy-out-butterfly : tie.Need-array-copy-out-butterfly
+array-copy-out-butterfly c = lit< tt
+
+array-copy-out-butterfly-2 : tie.Need-array-copy-out-butterfly-2
+array-copy-out-butterfly-2 c = lit< tt
+
+butterfly-requires : tie.Need-butterfly-requires
+butterfly-requires c κs = let s = c .before .before in join-asked (s .args .t1) (s .args .t2) (s .pre .0) (s .pre .1) 0 0 (lit< tt) (lit< tt)
+
+array-copy-out-butterfly-3 : tie.Need-array-copy-out-butterfly-3
+array-copy-out-butterfly-3 c = lit< tt
+
+array-copy-out-butterfly-4 : tie.Need-array-copy-out-butterfly-4
+array-copy-out-butterfly-4 c = lit< tt
+
+butterfly-requires-2 : tie.Need-butterfly-requires-2
+butterfly-requires-2 c κs = let s = c .before .before .before .before .before in join-asked (s .args .t1) (s .args .t2) (s .pre .0) (s .pre .1) 1 1 (lit< tt) (lit< tt)
+
+array-copy-out-t9 : tie.Need-array-copy-out-t9
+array-copy-out-t9 c = lit< tt
+
+add-t20 : tie.Need-add-t20
+add-t20 c = omega (arith, counted (c .before .before .before .before .before))
+
+returns : tie.Need-returns
+unfolding cosineBeyond dctBeyond
+returns c =
+    let a₂ = c .before .before .before .before .before in
+    let a₁ = a₂ .before .before .before in
+    let s = a₁ .before .before .before in
+    let e = s .args .t1 in
+    let d = s .args .t2 in
+    let first = join-wings e d (s .pre .0) (s .pre .1) 0 0 (lit< tt) (lit< tt) (a₁ .butterfly .ensures) in
+    let second = join-wings e d (s .pre .0) (s .pre .1) 1 1 (lit< tt) (lit< tt) (a₂ .butterfly2 .ensures) in
+    record {
+      values = each 5 _ (
+          first .sum .is &
+          second .sum .is &
+          bounded-word e (s .pre .0) (le-refl _) 2 (lit< tt) .is ∙ sym (+ℤ-idr (word e 2)) &
+          second .difference .is &
+          first .difference .is &
+          tt
+          );
+      counted = counted a₂;
+    }
+
+pub join-cosine-8-spec : {M : Type 1} → statement M
+join-cosine-8-spec =
+    tie.close
+    (tie.spec
+    array-copy-out-butterfly
+    array-copy-out-butterfly-2
+    butterfly-requires
+    array-copy-out-butterfly-3
+    array-copy-out-butterfly-4
+    butterfly-requires-2
+    array-copy-out-t9
+    add-t20
+    returns)

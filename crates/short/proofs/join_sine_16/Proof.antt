@@ -1,0 +1,104 @@
+-- `short::join_sine_16` meets its contract: the butterflies are (15), and the coefficient in the middle is moved. Assumes nothing.
+use mathlib.Core.Path.{_≡_, sym, _∙_, ap}
+use Prim.Native.Nat.{_+_}
+use native.Mathlib.Nat.{le-refl}
+use native.Mathlib.Omega.{arith}
+use lib.Dec.{lit<}
+use lib.IntN.{pos, negℤ, _+ℤ_, +ℤ-idl, +ℤ-comm}
+use Rattle.ffct.specs.Transforms.{sineBeyond, dctBeyond, apart}
+use Rattle.ffct.specs.Block.{word}
+use Rattle.short.proofs.Short.{_&_, each, bounded-word, join-asked, join-wings}
+use Rattle.short.proofs.join_sine_16.Statement.{statement}
+use Rattle.short.proofs.join_sine_16.Tie as tie
+
+-- the sums that they take
+counted : (a₃ : tie.After-butterfly3) →
+    let a₂ = a₃ .before .before .before in
+    let a₁ = a₂ .before .before .before in
+    a₁ .butterfly .result .sums + a₂ .butterfly2 .result .sums + a₃ .butterfly3 .result .sums ≡ 6
+counted a₃ =
+    let a₂ = a₃ .before .before .before in
+    let a₁ = a₂ .before .before .before in
+    omega (arith, a₁ .butterfly .ensures .counted, a₂ .butterfly2 .ensures .counted, a₃ .butterfly3 .ensures .counted)
+
+array-copy-out-butterfly : tie.Need-array-copy-out-butterfly
+array-copy-out-butterfly c = lit< tt
+
+array-copy-out-butterfly-2 : tie.Need-array-copy-out-butterfly-2
+array-copy-out-butterfly-2 c = lit< tt
+
+butterfly-requires : tie.Need-butterfly-requires
+butterfly-requires c κs = let s = c .before .before in join-asked (s .args .t2) (s .args .t1) (s .pre .0 .1) (s .pre .0 .0) 3 1 (lit< tt) (lit< tt)
+
+array-copy-out-butterfly-3 : tie.Need-array-copy-out-butterfly-3
+array-copy-out-butterfly-3 c = lit< tt
+
+array-copy-out-butterfly-4 : tie.Need-array-copy-out-butterfly-4
+array-copy-out-butterfly-4 c = lit< tt
+
+butterfly-requires-2 : tie.Need-butterfly-requires-2
+butterfly-requires-2 c κs = let s = c .before .before .before .before .before in join-asked (s .args .t2) (s .args .t1) (s .pre .0 .1) (s .pre .0 .0) 2 2 (lit< tt) (lit< tt)
+
+array-copy-out-butterfly-5 : tie.Need-array-copy-out-butterfly-5
+array-copy-out-butterfly-5 c = lit< tt
+
+array-copy-out-butterfly-6 : tie.Need-array-copy-out-butterfly-6
+array-copy-out-butterfly-6 c = lit< tt
+
+butterfly-requires-3 : tie.Need-butterfly-requires-3
+butterfly-requires-3 c κs = let s = c .before .before .before .before .before .before .before .before in join-asked (s .args .t2) (s .args .t1) (s .pre .0 .1) (s .pre .0 .0) 1 3 (lit< tt) (lit< tt)
+
+array-copy-out-t10 : tie.Need-array-copy-out-t10
+array-copy-out-t10 c = lit< tt
+
+add-t25 : tie.Need-add-t25
+add-t25 c = omega (arith, counted (c .before .before .before .before .before .before))
+
+add-t26 : tie.Need-add-t26
+add-t26 c = omega (arith, counted (c .before .before .before .before .before .before .before))
+
+returns : tie.Need-returns
+unfolding sineBeyond dctBeyond apart
+returns c =
+    let a₃ = c .before .before .before .before .before .before .before in
+    let a₂ = a₃ .before .before .before in
+    let a₁ = a₂ .before .before .before in
+    let s = a₁ .before .before .before in
+    let e = s .args .t1 in
+    let d = s .args .t2 in
+    let first = join-wings d e (s .pre .0 .1) (s .pre .0 .0) 3 1 (lit< tt) (lit< tt) (a₁ .butterfly .ensures) in
+    let second = join-wings d e (s .pre .0 .1) (s .pre .0 .0) 2 2 (lit< tt) (lit< tt) (a₂ .butterfly2 .ensures) in
+    let third = join-wings d e (s .pre .0 .1) (s .pre .0 .0) 1 3 (lit< tt) (lit< tt) (a₃ .butterfly3 .ensures) in
+    record {
+      values = each 9 _ (
+          sym (ap (λ z. z +ℤ pos 0) (s .pre .1 .0)) &
+          first .sum .is ∙ +ℤ-comm (word d 3) (word e 1) &
+          second .sum .is ∙ +ℤ-comm (word d 2) (word e 2) &
+          third .sum .is ∙ +ℤ-comm (word d 1) (word e 3) &
+          bounded-word d (s .pre .0 .1) (le-refl _) 0 (lit< tt) .is ∙ sym (ap (λ z. z +ℤ word d 0) (s .pre .1 .1) ∙ +ℤ-idl (word d 0)) &
+          third .difference .is ∙ +ℤ-comm (word d 1) (negℤ (word e 3)) &
+          second .difference .is ∙ +ℤ-comm (word d 2) (negℤ (word e 2)) &
+          first .difference .is ∙ +ℤ-comm (word d 3) (negℤ (word e 1)) &
+          sym (ap (λ z. negℤ z +ℤ pos 0) (s .pre .1 .0)) &
+          tt
+          );
+      counted = counted a₃;
+    }
+
+pub join-sine-16-spec : {M : Type 1} → statement M
+join-sine-16-spec =
+    tie.close
+    (tie.spec
+    array-copy-out-butterfly
+    array-copy-out-butterfly-2
+    butterfly-requires
+    array-copy-out-butterfly-3
+    array-copy-out-butterfly-4
+    butterfly-requires-2
+    array-copy-out-butterfly-5
+    array-copy-out-butterfly-6
+    butterfly-requires-3
+    array-copy-out-t10
+    add-t25
+    add-t26
+    returns)

@@ -1,0 +1,3 @@
+// What the steps of every transform share: the rotation of a pair of coefficients, and the tally.
+pub mod rotation;
+pub mod tally;
