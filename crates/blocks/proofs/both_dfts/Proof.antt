@@ -29,9 +29,6 @@ sine c =
     let s = b .before .before .before .before .before in
     sine-left (again (s .pre .2) (cosine b .len)) (s .pre .3) (c .before .before .before .load2 .ensures) (c .sine-dft .ensures)
 
-load-requires : tie.Need-load-requires
-load-requires c κs = search needs
-
 cosine-dft-requires : tie.Need-cosine-dft-requires
 cosine-dft-requires c κs =
     let s = c .before .before .before .before in
@@ -42,9 +39,6 @@ store-mirrored-requires c κs =
     let g = cosine (c .before .before .before) in
     let k = c .before .before .before .before .before .before .before .before .pre .1 in
     ((some k refl, omega (arith, k .room, g .len), c .before .before .before .before .before .before .before .before .pre .4), sized g (omega arith) (cosine-small k refl))
-
-load-requires-2 : tie.Need-load-requires-2
-load-requires-2 c κs = search needs
 
 sine-dft-requires : tie.Need-sine-dft-requires
 sine-dft-requires c κs =
@@ -58,12 +52,6 @@ total-requires c κs =
     let h = sine (c .before) in
     let s = c .before .before .before .before .before .before .before .before .before .before .before .before .before .before .before .before in
     omega (arith, g .products, g .sums, h .products, h .sums, few (s .pre .1) refl .cosine, few (s .pre .2) (s .pre .3) .sine)
-
-same-length : tie.Need-same-length
-same-length c = search needs
-
-same-length-2 : tie.Need-same-length-2
-same-length-2 c = search needs
 
 returns : tie.Need-returns
 returns c =
@@ -82,12 +70,12 @@ pub both-dfts-spec : {M : Type 1} → statement M
 both-dfts-spec =
     tie.close
     (tie.spec
-    load-requires
+    (λ c κs. search needs)  -- load-requires
     cosine-dft-requires
     store-mirrored-requires
-    load-requires-2
+    (λ c κs. search needs)  -- load-requires-2
     sine-dft-requires
     total-requires
-    same-length
-    same-length-2
+    (λ c. search needs)  -- same-length
+    (λ c. search needs)  -- same-length-2
     returns)

@@ -8,9 +8,6 @@ use Rattle.blocks.proofs.BlockRuns.{ready, dct-left, dct-small, sized, 
 use Rattle.blocks.proofs.cosine_of.Statement.{statement}
 use Rattle.blocks.proofs.cosine_of.Tie as tie
 
-quarter-wave-requires : tie.Need-quarter-wave-requires
-quarter-wave-requires c κs = search needs
-
 load-requires : tie.Need-load-requires
 load-requires c κs = let k = c .before .before .pre .0 in omega (arith, k .room)
 
@@ -26,15 +23,6 @@ store-requires c κs =
     let g = dct-left k refl l (c .before .before .before .dct .ensures) in
     ((omega (arith, k .room, g .len), c .before .before .before .before .before .before .before .before .before .before .pre .1), sized g (omega arith) (dct-small k refl))
 
-clear-requires : tie.Need-clear-requires
-clear-requires c κs = search needs
-
-same-length : tie.Need-same-length
-same-length c = search needs
-
-same-length-2 : tie.Need-same-length-2
-same-length-2 c = search needs
-
 returns : tie.Need-returns
 returns c =
     let k = c .before .before .before .before .before .before .before .before .before .before .before .before .before .before .before .pre .0 in
@@ -46,11 +34,11 @@ pub cosine-of-spec : {M : Type 1} → statement M
 cosine-of-spec =
     tie.close
     (tie.spec
-    quarter-wave-requires
+    (λ c κs. search needs)  -- quarter-wave-requires
     load-requires
     dct-requires
     store-requires
-    clear-requires
-    same-length
-    same-length-2
+    (λ c κs. search needs)  -- clear-requires
+    (λ c. search needs)  -- same-length
+    (λ c. search needs)  -- same-length-2
     returns)

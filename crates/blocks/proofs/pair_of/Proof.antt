@@ -32,12 +32,6 @@ imaginary-part : (c : tie.After-subtract-sine) →
     Part _-ℤ_ (length (s .args .a .now)) (s .args .b .now) (s .args .a .now) (s .args .imaginary .now) (c .subtract-sine .last .1 .0) (d .both-dfts2 .result .products) (d .both-dfts2 .result .sums) (c .subtract-sine .result)
 imaginary-part c = let d = c .before .before .before .before .before in part (imaginary-blocks (d .before .before .before .before .before .before .before .before .before .before)) (d .both-dfts2 .ensures) _-ℤ_ (c .subtract-sine .ensures)
 
-quarter-wave-requires : tie.Need-quarter-wave-requires
-quarter-wave-requires c κs = search needs
-
-both-dfts-requires : tie.Need-both-dfts-requires
-both-dfts-requires c κs = search needs
-
 add-sine-requires : tie.Need-add-sine-requires
 add-sine-requires c κs =
     let d = c .before .before .before .before in
@@ -57,23 +51,11 @@ subtract-sine-requires c κs =
     let r = d .before .before .before .before .before .before .before .before .before .before in
     joinable (imaginary-blocks r) (d .both-dfts2 .ensures) (r .before .before .before .before .before .pre .4)
 
-clear-requires : tie.Need-clear-requires
-clear-requires c κs = search needs
-
 add-sums : tie.Need-add-sums
 add-sums c = omega (arith, real-part (c .before .before .before .before .before .before .before .before .before .before .before .before .before .before) .few, imaginary-part (c .before .before .before .before) .few)
 
 total-requires : tie.Need-total-requires
 total-requires c κs = omega (arith, real-part (c .before .before .before .before .before .before .before .before .before .before .before .before .before .before) .few, imaginary-part (c .before .before .before .before) .few)
-
-same-length : tie.Need-same-length
-same-length c = search needs
-
-same-length-2 : tie.Need-same-length-2
-same-length-2 c = search needs
-
-same-length-3 : tie.Need-same-length-3
-same-length-3 c = search needs
 
 returns : tie.Need-returns
 unfolding pair spectrum
@@ -94,15 +76,15 @@ pub pair-of-spec : {M : Type 1} → statement M
 pair-of-spec =
     tie.close
     (tie.spec
-    quarter-wave-requires
-    both-dfts-requires
+    (λ c κs. search needs)  -- quarter-wave-requires
+    (λ c κs. search needs)  -- both-dfts-requires
     add-sine-requires
     both-dfts-requires-2
     subtract-sine-requires
-    clear-requires
+    (λ c κs. search needs)  -- clear-requires
     add-sums
     total-requires
-    same-length
-    same-length-2
-    same-length-3
+    (λ c. search needs)  -- same-length
+    (λ c. search needs)  -- same-length-2
+    (λ c. search needs)  -- same-length-3
     returns)

@@ -9,9 +9,6 @@ use Rattle.blocks.proofs.BlockRuns.{ready, again, few, cosine-left, cos
 use Rattle.blocks.proofs.spectrum_of.Statement.{statement}
 use Rattle.blocks.proofs.spectrum_of.Tie as tie
 
-quarter-wave-requires : tie.Need-quarter-wave-requires
-quarter-wave-requires c κs = search needs
-
 load-requires : tie.Need-load-requires
 load-requires c κs = let k = c .before .before .pre .0 in omega (arith, k .room)
 
@@ -19,9 +16,6 @@ cosine-dft-requires : tie.Need-cosine-dft-requires
 cosine-dft-requires c κs =
     let k = c .before .before .before .before .before .before .pre .0 in
     (c .before .before .before .before .before .quarter-wave .ensures, ready k refl (c .before .before .before .load .ensures) (dftRoom (length (c .before .before .before .before .before .before .args .block .now))) (omega arith))
-
-add-store : tie.Need-add-store
-add-store c = search needs
 
 store-requires : tie.Need-store-requires
 store-requires c κs =
@@ -44,9 +38,6 @@ sine-dft-requires c κs =
     let g = cosine-left k refl l (c .before .before .before .before .before .before .before .before .before .before .cosine-dft .ensures) in
     (c .before .before .before .before .before .before .before .before .before .before .before .before .before .before .before .before .quarter-wave .ensures, ready (again k (g .len)) refl (c .before .before .before .load2 .ensures) (dftRoom (length (c .before .before .before .before .before .before .before .before .before .before .before .before .before .before .before .before .before .args .block .now))) (omega arith))
 
-add-store-2 : tie.Need-add-store-2
-add-store-2 c = search needs
-
 store-requires-2 : tie.Need-store-requires-2
 store-requires-2 c κs =
     let k = c .before .before .before .before .before .before .before .before .before .before .before .before .before .before .before .before .before .before .before .before .before .pre .0 in
@@ -56,9 +47,6 @@ store-requires-2 c κs =
     let s = sine-left (again k (g .len)) refl m (c .before .before .before .sine-dft .ensures) in
     ((omega (arith, k .room, g .len, s .len), c .before .before .before .before .before .before .before .before .before .before .before .before .before .before .before .before .before .before .before .before .before .pre .2), sized s (omega arith) (sine-small k refl))
 
-clear-requires : tie.Need-clear-requires
-clear-requires c κs = search needs
-
 total-requires : tie.Need-total-requires
 total-requires c κs =
     let k = c .before .before .before .before .before .before .before .before .before .before .before .before .before .before .before .before .before .before .before .before .before .before .before .before .before .before .pre .0 in
@@ -66,15 +54,6 @@ total-requires c κs =
     let g = cosine-left k refl l (c .before .before .before .before .before .before .before .before .before .before .before .before .before .before .before .before .before .before .before .cosine-dft .ensures) in
     let s = sine-left (again k (g .len)) refl (c .before .before .before .before .before .before .before .before .before .before .before .before .load2 .ensures) (c .before .before .before .before .before .before .before .before .sine-dft .ensures) in
     omega (arith, g .products, g .sums, s .products, s .sums, few k refl .cosine, few k refl .sine)
-
-same-length : tie.Need-same-length
-same-length c = search needs
-
-same-length-2 : tie.Need-same-length-2
-same-length-2 c = search needs
-
-same-length-3 : tie.Need-same-length-3
-same-length-3 c = search needs
 
 returns : tie.Need-returns
 unfolding spectrum
@@ -97,18 +76,18 @@ pub spectrum-of-spec : {M : Type 1} → statement M
 spectrum-of-spec =
     tie.close
     (tie.spec
-    quarter-wave-requires
+    (λ c κs. search needs)  -- quarter-wave-requires
     load-requires
     cosine-dft-requires
-    add-store
+    (λ c. search needs)  -- add-store
     store-requires
     load-requires-2
     sine-dft-requires
-    add-store-2
+    (λ c. search needs)  -- add-store-2
     store-requires-2
-    clear-requires
+    (λ c κs. search needs)  -- clear-requires
     total-requires
-    same-length
-    same-length-2
-    same-length-3
+    (λ c. search needs)  -- same-length
+    (λ c. search needs)  -- same-length-2
+    (λ c. search needs)  -- same-length-3
     returns)

@@ -11,41 +11,17 @@ Inv-loop wave j₀ j = IsQuarterWave wave × (j ≤ 1025)
 abbrev μ-loop : tie.MeasureT-loop
 μ-loop wave j₀ j = 1025 - j
 
-quarter-wave-requires : tie.Need-quarter-wave-requires Inv-loop μ-loop
-quarter-wave-requires c κs = search needs
-
-loop-holds : tie.Need-loop-holds Inv-loop μ-loop
-loop-holds c = search needs
-
-wave-at-requires : tie.Need-wave-at-requires Inv-loop μ-loop
-wave-at-requires c κs = search needs
-
-write-entry-requires : tie.Need-write-entry-requires Inv-loop μ-loop
-write-entry-requires c κs = search needs
-
-add-j : tie.Need-add-j Inv-loop μ-loop
-add-j c = search needs
-
-loop-less : tie.Need-loop-less Inv-loop μ-loop
-loop-less c = search needs
-
-loop-again : tie.Need-loop-again Inv-loop μ-loop
-loop-again c = search needs
-
-returns : tie.Need-returns Inv-loop μ-loop
-returns c = search needs
-
 pub main-spec : {M : Type 1} → statement M
 main-spec =
     tie.close
     (tie.spec
     Inv-loop
     μ-loop
-    quarter-wave-requires
-    loop-holds
-    wave-at-requires
-    write-entry-requires
-    add-j
-    loop-less
-    loop-again
-    returns)
+    (λ c κs. search needs)  -- quarter-wave-requires
+    (λ c. search needs)  -- loop-holds
+    (λ c κs. search needs)  -- wave-at-requires
+    (λ c κs. search needs)  -- write-entry-requires
+    (λ c. search needs)  -- add-j
+    (λ c. search needs)  -- loop-less
+    (λ c. search needs)  -- loop-again
+    (λ c. search needs))  -- returns

@@ -20,9 +20,6 @@ abbrev μ-loop : tie.MeasureT-loop
 div-count : tie.Need-div-count Inv-loop μ-loop
 div-count c = omega (arith, some-samples _ (c .before .pre .0 .length-ok))
 
-put-heading-requires : tie.Need-put-heading-requires Inv-loop μ-loop
-put-heading-requires c κs = search needs
-
 loop-holds : tie.Need-loop-holds Inv-loop μ-loop
 loop-holds c =
     let s = c .before .before .before .before .before in
@@ -67,7 +64,7 @@ put-spectra-spec =
     Inv-loop
     μ-loop
     div-count
-    put-heading-requires
+    (λ c κs. search needs)  -- put-heading-requires
     loop-holds
     put-block-requires
     (λ c. search needs)  -- add-block

@@ -25,14 +25,8 @@ folded a =
 spent : (a : tie.After-join-cosine-32) → a .before .before .before .before .before .before .cosine-16 .result .products + a .before .before .before .before .before .before .cosine-16 .result .sums + a .before .before .before .before .before .folded-sums-32 .result .sums + a .before .before .before .dct-8 .result .products + a .before .before .before .dct-8 .result .sums + a .join-cosine-32 .result .sums ≤ 2 ^ 20
 spent a = omega (arith, cosine-few 4 (a .before .before .before .before .before .before .before .evens-32 .result) (lit≤ tt) (a .before .before .before .before .before .before .cosine-16 .ensures), dct-few 3 (a .before .before .before .before .before .folded-sums-32 .result .at) (lit≤ tt) (a .before .before .before .dct-8 .ensures), a .before .before .before .before .before .folded-sums-32 .ensures .counted, a .join-cosine-32 .ensures .counted)
 
-evens-32-requires : tie.Need-evens-32-requires
-evens-32-requires c κs = search needs
-
 cosine-16-requires : tie.Need-cosine-16-requires
 cosine-16-requires c κs = (c .before .pre .0, even c)
-
-folded-sums-32-requires : tie.Need-folded-sums-32-requires
-folded-sums-32-requires c κs = search needs
 
 dct-8-requires : tie.Need-dct-8-requires
 dct-8-requires c κs = (c .before .before .before .before .pre .0, folded (c .before))
@@ -72,9 +66,9 @@ pub cosine-32-spec : {M : Type 1} → statement M
 cosine-32-spec =
     tie.close
     (tie.spec
-    evens-32-requires
+    (λ c κs. search needs)  -- evens-32-requires
     cosine-16-requires
-    folded-sums-32-requires
+    (λ c κs. search needs)  -- folded-sums-32-requires
     dct-8-requires
     join-cosine-32-requires
     add-t12

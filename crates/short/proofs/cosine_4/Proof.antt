@@ -50,12 +50,6 @@ butterfly-requires-2 c κs =
     rw (even a .sum .is, sum-word x (s .pre) 1 3 (lit< tt) (lit< tt) .is)
     (within-size (sum-within x (s .pre) 0 2 (lit< tt) (lit< tt)), within-size (sum-within x (s .pre) 1 3 (lit< tt) (lit< tt)))
 
-add-t18 : tie.Need-add-t18
-add-t18 c = search needs
-
-add-t19 : tie.Need-add-t19
-add-t19 c = search needs
-
 returns : tie.Need-returns
 unfolding cosineBeyond dctBeyond dctBy cosineDft
 returns c =
@@ -83,6 +77,6 @@ cosine-4-spec =
     add-odd
     add-sums
     butterfly-requires-2
-    add-t18
-    add-t19
+    (λ c. search needs)  -- add-t18
+    (λ c. search needs)  -- add-t19
     returns)

@@ -19,9 +19,6 @@ moves a = rearranged-small 8 (a .before .args .x) (a .rearranged-16 .result) (a 
 spent : (a : tie.After-rotate-16) → a .before .before .before .before .cosine-16 .result .products + a .before .before .before .before .cosine-16 .result .sums + a .before .before .before .sine-16 .result .products + a .before .before .before .sine-16 .result .sums + a .rotate-16 .result .products + a .rotate-16 .result .sums ≤ 2 ^ 20
 spent a = omega (arith, cosine-few 4 (a .before .before .before .before .before .rearranged-16 .result) (lit≤ tt) (a .before .before .before .before .cosine-16 .ensures), sine-few 4 (a .before .before .before .before .before .rearranged-16 .result) (lit≤ tt) (a .before .before .before .sine-16 .ensures), a .rotate-16 .ensures .products, a .rotate-16 .ensures .sums)
 
-rearranged-16-requires : tie.Need-rearranged-16-requires
-rearranged-16-requires c κs = search needs
-
 cosine-16-requires : tie.Need-cosine-16-requires
 cosine-16-requires c κs = (c .before .pre .0, moves c)
 
@@ -57,7 +54,7 @@ pub dct-16-spec : {M : Type 1} → statement M
 dct-16-spec =
     tie.close
     (tie.spec
-    rearranged-16-requires
+    (λ c κs. search needs)  -- rearranged-16-requires
     cosine-16-requires
     sine-16-requires
     rotate-16-requires

@@ -7,54 +7,6 @@ use borrow.Author.Needs.{needs}
 use Rattle.short.proofs.rearranged_16.Statement.{statement}
 use Rattle.short.proofs.rearranged_16.Tie as tie
 
-array-copy-out-t5 : tie.Need-array-copy-out-t5
-array-copy-out-t5 c = search needs
-
-array-copy-out-t8 : tie.Need-array-copy-out-t8
-array-copy-out-t8 c = search needs
-
-array-copy-out-t11 : tie.Need-array-copy-out-t11
-array-copy-out-t11 c = search needs
-
-array-copy-out-t14 : tie.Need-array-copy-out-t14
-array-copy-out-t14 c = search needs
-
-array-copy-out-t17 : tie.Need-array-copy-out-t17
-array-copy-out-t17 c = search needs
-
-array-copy-out-t20 : tie.Need-array-copy-out-t20
-array-copy-out-t20 c = search needs
-
-array-copy-out-t23 : tie.Need-array-copy-out-t23
-array-copy-out-t23 c = search needs
-
-array-copy-out-t26 : tie.Need-array-copy-out-t26
-array-copy-out-t26 c = search needs
-
-array-copy-out-t29 : tie.Need-array-copy-out-t29
-array-copy-out-t29 c = search needs
-
-array-copy-out-t32 : tie.Need-array-copy-out-t32
-array-copy-out-t32 c = search needs
-
-array-copy-out-t35 : tie.Need-array-copy-out-t35
-array-copy-out-t35 c = search needs
-
-array-copy-out-t38 : tie.Need-array-copy-out-t38
-array-copy-out-t38 c = search needs
-
-array-copy-out-t41 : tie.Need-array-copy-out-t41
-array-copy-out-t41 c = search needs
-
-array-copy-out-t44 : tie.Need-array-copy-out-t44
-array-copy-out-t44 c = search needs
-
-array-copy-out-t47 : tie.Need-array-copy-out-t47
-array-copy-out-t47 c = search needs
-
-array-copy-out-t50 : tie.Need-array-copy-out-t50
-array-copy-out-t50 c = search needs
-
 returns : tie.Need-returns
 unfolding rearranged
 returns c = each 16 _ (
@@ -108,20 +60,20 @@ pub rearranged-16-spec : {M : Type 1} → statement M
 rearranged-16-spec =
     tie.close
     (tie.spec
-    array-copy-out-t5
-    array-copy-out-t8
-    array-copy-out-t11
-    array-copy-out-t14
-    array-copy-out-t17
-    array-copy-out-t20
-    array-copy-out-t23
-    array-copy-out-t26
-    array-copy-out-t29
-    array-copy-out-t32
-    array-copy-out-t35
-    array-copy-out-t38
-    array-copy-out-t41
-    array-copy-out-t44
-    array-copy-out-t47
-    array-copy-out-t50
+    (λ c. search needs)  -- array-copy-out-t5
+    (λ c. search needs)  -- array-copy-out-t8
+    (λ c. search needs)  -- array-copy-out-t11
+    (λ c. search needs)  -- array-copy-out-t14
+    (λ c. search needs)  -- array-copy-out-t17
+    (λ c. search needs)  -- array-copy-out-t20
+    (λ c. search needs)  -- array-copy-out-t23
+    (λ c. search needs)  -- array-copy-out-t26
+    (λ c. search needs)  -- array-copy-out-t29
+    (λ c. search needs)  -- array-copy-out-t32
+    (λ c. search needs)  -- array-copy-out-t35
+    (λ c. search needs)  -- array-copy-out-t38
+    (λ c. search needs)  -- array-copy-out-t41
+    (λ c. search needs)  -- array-copy-out-t44
+    (λ c. search needs)  -- array-copy-out-t47
+    (λ c. search needs)  -- array-copy-out-t50
     returns)

@@ -17,23 +17,11 @@ use Rattle.short.proofs.rotate_16.Tie as tie
 counted : (a : tie.After-rotate-middle) → (a .before .before .before .before .before .before .before .before .before .before .before .before .before .before .before .before .before .before .before .before .rotate-at .result .products + a .before .before .before .before .before .before .before .before .before .before .before .before .before .before .before .before .before .rotate-at2 .result .products + a .before .before .before .before .before .before .before .before .before .before .before .before .before .before .rotate-at3 .result .products + a .before .before .before .before .before .before .before .before .before .before .before .rotate-at4 .result .products + a .before .before .before .before .before .before .before .before .rotate-at5 .result .products + a .before .before .before .before .before .rotate-at6 .result .products + a .before .before .rotate-at7 .result .products + a .rotate-middle .result .products ≡ 22) × (a .before .before .before .before .before .before .before .before .before .before .before .before .before .before .before .before .before .before .before .before .rotate-at .result .sums + a .before .before .before .before .before .before .before .before .before .before .before .before .before .before .before .before .before .rotate-at2 .result .sums + a .before .before .before .before .before .before .before .before .before .before .before .before .before .before .rotate-at3 .result .sums + a .before .before .before .before .before .before .before .before .before .before .before .rotate-at4 .result .sums + a .before .before .before .before .before .before .before .before .rotate-at5 .result .sums + a .before .before .before .before .before .rotate-at6 .result .sums + a .before .before .rotate-at7 .result .sums ≡ 21)
 counted a = omega (arith, a .before .before .before .before .before .before .before .before .before .before .before .before .before .before .before .before .before .before .before .before .rotate-at .ensures, a .before .before .before .before .before .before .before .before .before .before .before .before .before .before .before .before .before .rotate-at2 .ensures, a .before .before .before .before .before .before .before .before .before .before .before .before .before .before .rotate-at3 .ensures, a .before .before .before .before .before .before .before .before .before .before .before .rotate-at4 .ensures, a .before .before .before .before .before .before .before .before .rotate-at5 .ensures, a .before .before .before .before .before .rotate-at6 .ensures, a .before .before .rotate-at7 .ensures, a .rotate-middle .ensures)
 
-array-copy-out-rotate-at : tie.Need-array-copy-out-rotate-at
-array-copy-out-rotate-at c = search needs
-
-array-copy-out-rotate-at-2 : tie.Need-array-copy-out-rotate-at-2
-array-copy-out-rotate-at-2 c = search needs
-
 rotate-at-requires : tie.Need-rotate-at-requires
 rotate-at-requires c κs =
     let s = c .before .before in
     let asked = turn-asked (s .args .t2) (s .args .t3) (s .pre .1) (s .pre .2) 1 (lit< tt) in
     (s .pre .0, lit≤ tt, asked .0, asked .1)
-
-array-copy-out-rotate-at-3 : tie.Need-array-copy-out-rotate-at-3
-array-copy-out-rotate-at-3 c = search needs
-
-array-copy-out-rotate-at-4 : tie.Need-array-copy-out-rotate-at-4
-array-copy-out-rotate-at-4 c = search needs
 
 rotate-at-requires-2 : tie.Need-rotate-at-requires-2
 rotate-at-requires-2 c κs =
@@ -41,23 +29,11 @@ rotate-at-requires-2 c κs =
     let asked = turn-asked (s .args .t2) (s .args .t3) (s .pre .1) (s .pre .2) 2 (lit< tt) in
     (s .pre .0, lit≤ tt, asked .0, asked .1)
 
-array-copy-out-rotate-at-5 : tie.Need-array-copy-out-rotate-at-5
-array-copy-out-rotate-at-5 c = search needs
-
-array-copy-out-rotate-at-6 : tie.Need-array-copy-out-rotate-at-6
-array-copy-out-rotate-at-6 c = search needs
-
 rotate-at-requires-3 : tie.Need-rotate-at-requires-3
 rotate-at-requires-3 c κs =
     let s = c .before .before .before .before .before .before .before .before in
     let asked = turn-asked (s .args .t2) (s .args .t3) (s .pre .1) (s .pre .2) 3 (lit< tt) in
     (s .pre .0, lit≤ tt, asked .0, asked .1)
-
-array-copy-out-rotate-at-7 : tie.Need-array-copy-out-rotate-at-7
-array-copy-out-rotate-at-7 c = search needs
-
-array-copy-out-rotate-at-8 : tie.Need-array-copy-out-rotate-at-8
-array-copy-out-rotate-at-8 c = search needs
 
 rotate-at-requires-4 : tie.Need-rotate-at-requires-4
 rotate-at-requires-4 c κs =
@@ -65,23 +41,11 @@ rotate-at-requires-4 c κs =
     let asked = turn-asked (s .args .t2) (s .args .t3) (s .pre .1) (s .pre .2) 4 (lit< tt) in
     (s .pre .0, lit≤ tt, asked .0, asked .1)
 
-array-copy-out-rotate-at-9 : tie.Need-array-copy-out-rotate-at-9
-array-copy-out-rotate-at-9 c = search needs
-
-array-copy-out-rotate-at-10 : tie.Need-array-copy-out-rotate-at-10
-array-copy-out-rotate-at-10 c = search needs
-
 rotate-at-requires-5 : tie.Need-rotate-at-requires-5
 rotate-at-requires-5 c κs =
     let s = c .before .before .before .before .before .before .before .before .before .before .before .before .before .before in
     let asked = turn-asked (s .args .t2) (s .args .t3) (s .pre .1) (s .pre .2) 5 (lit< tt) in
     (s .pre .0, lit≤ tt, asked .0, asked .1)
-
-array-copy-out-rotate-at-11 : tie.Need-array-copy-out-rotate-at-11
-array-copy-out-rotate-at-11 c = search needs
-
-array-copy-out-rotate-at-12 : tie.Need-array-copy-out-rotate-at-12
-array-copy-out-rotate-at-12 c = search needs
 
 rotate-at-requires-6 : tie.Need-rotate-at-requires-6
 rotate-at-requires-6 c κs =
@@ -89,20 +53,11 @@ rotate-at-requires-6 c κs =
     let asked = turn-asked (s .args .t2) (s .args .t3) (s .pre .1) (s .pre .2) 6 (lit< tt) in
     (s .pre .0, lit≤ tt, asked .0, asked .1)
 
-array-copy-out-rotate-at-13 : tie.Need-array-copy-out-rotate-at-13
-array-copy-out-rotate-at-13 c = search needs
-
-array-copy-out-rotate-at-14 : tie.Need-array-copy-out-rotate-at-14
-array-copy-out-rotate-at-14 c = search needs
-
 rotate-at-requires-7 : tie.Need-rotate-at-requires-7
 rotate-at-requires-7 c κs =
     let s = c .before .before .before .before .before .before .before .before .before .before .before .before .before .before .before .before .before .before .before .before in
     let asked = turn-asked (s .args .t2) (s .args .t3) (s .pre .1) (s .pre .2) 7 (lit< tt) in
     (s .pre .0, lit≤ tt, asked .0, asked .1)
-
-array-copy-out-rotate-middle : tie.Need-array-copy-out-rotate-middle
-array-copy-out-rotate-middle c = search needs
 
 rotate-middle-requires : tie.Need-rotate-middle-requires
 rotate-middle-requires c κs = let s = c .before .before .before .before .before .before .before .before .before .before .before .before .before .before .before .before .before .before .before .before .before .before in (s .pre .0, bounded-asked (s .args .t2) (s .pre .1) (lit≤ tt) 8 (lit< tt))
@@ -124,9 +79,6 @@ add-sums-2 c = omega (arith, counted (c .before .before .before .before .before 
 
 add-sums-3 : tie.Need-add-sums-3
 add-sums-3 c = omega (arith, counted (c .before .before .before .before .before .before .before .before))
-
-array-copy-out-t21 : tie.Need-array-copy-out-t21
-array-copy-out-t21 c = search needs
 
 add-t49 : tie.Need-add-t49
 add-t49 c = omega (arith, counted (c .before .before .before .before .before .before .before .before .before .before .before .before .before .before .before .before .before .before))
@@ -218,28 +170,28 @@ pub rotate-16-spec : {M : Type 1} → statement M
 rotate-16-spec =
     tie.close
     (tie.spec
-    array-copy-out-rotate-at
-    array-copy-out-rotate-at-2
+    (λ c. search needs)  -- array-copy-out-rotate-at
+    (λ c. search needs)  -- array-copy-out-rotate-at-2
     rotate-at-requires
-    array-copy-out-rotate-at-3
-    array-copy-out-rotate-at-4
+    (λ c. search needs)  -- array-copy-out-rotate-at-3
+    (λ c. search needs)  -- array-copy-out-rotate-at-4
     rotate-at-requires-2
-    array-copy-out-rotate-at-5
-    array-copy-out-rotate-at-6
+    (λ c. search needs)  -- array-copy-out-rotate-at-5
+    (λ c. search needs)  -- array-copy-out-rotate-at-6
     rotate-at-requires-3
-    array-copy-out-rotate-at-7
-    array-copy-out-rotate-at-8
+    (λ c. search needs)  -- array-copy-out-rotate-at-7
+    (λ c. search needs)  -- array-copy-out-rotate-at-8
     rotate-at-requires-4
-    array-copy-out-rotate-at-9
-    array-copy-out-rotate-at-10
+    (λ c. search needs)  -- array-copy-out-rotate-at-9
+    (λ c. search needs)  -- array-copy-out-rotate-at-10
     rotate-at-requires-5
-    array-copy-out-rotate-at-11
-    array-copy-out-rotate-at-12
+    (λ c. search needs)  -- array-copy-out-rotate-at-11
+    (λ c. search needs)  -- array-copy-out-rotate-at-12
     rotate-at-requires-6
-    array-copy-out-rotate-at-13
-    array-copy-out-rotate-at-14
+    (λ c. search needs)  -- array-copy-out-rotate-at-13
+    (λ c. search needs)  -- array-copy-out-rotate-at-14
     rotate-at-requires-7
-    array-copy-out-rotate-middle
+    (λ c. search needs)  -- array-copy-out-rotate-middle
     rotate-middle-requires
     add-products
     add-products-2
@@ -247,7 +199,7 @@ rotate-16-spec =
     add-sums
     add-sums-2
     add-sums-3
-    array-copy-out-t21
+    (λ c. search needs)  -- array-copy-out-t21
     add-t49
     add-t48
     add-t53

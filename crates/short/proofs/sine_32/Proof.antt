@@ -26,14 +26,8 @@ folded a =
 spent : (a : tie.After-join-sine-32) → a .before .before .before .before .before .before .sine-16 .result .products + a .before .before .before .before .before .before .sine-16 .result .sums + a .before .before .before .before .before .folded-differences-32 .result .sums + a .before .before .before .dct-8 .result .products + a .before .before .before .dct-8 .result .sums + a .join-sine-32 .result .sums ≤ 2 ^ 20
 spent a = omega (arith, sine-few 4 (a .before .before .before .before .before .before .before .evens-32 .result) (lit≤ tt) (a .before .before .before .before .before .before .sine-16 .ensures), dct-few 3 (a .before .before .before .before .before .folded-differences-32 .result .at) (lit≤ tt) (a .before .before .before .dct-8 .ensures), a .before .before .before .before .before .folded-differences-32 .ensures .counted, a .join-sine-32 .ensures .counted)
 
-evens-32-requires : tie.Need-evens-32-requires
-evens-32-requires c κs = search needs
-
 sine-16-requires : tie.Need-sine-16-requires
 sine-16-requires c κs = (c .before .pre .0, even c)
-
-folded-differences-32-requires : tie.Need-folded-differences-32-requires
-folded-differences-32-requires c κs = search needs
 
 dct-8-requires : tie.Need-dct-8-requires
 dct-8-requires c κs = (c .before .before .before .before .pre .0, folded (c .before))
@@ -77,9 +71,9 @@ pub sine-32-spec : {M : Type 1} → statement M
 sine-32-spec =
     tie.close
     (tie.spec
-    evens-32-requires
+    (λ c κs. search needs)  -- evens-32-requires
     sine-16-requires
-    folded-differences-32-requires
+    (λ c κs. search needs)  -- folded-differences-32-requires
     dct-8-requires
     join-sine-32-requires
     add-t12

@@ -36,9 +36,6 @@ one-more block re im k p l = rw add-one (p then l)
 loop-holds : tie.Need-loop-holds Inv-loop μ-loop
 loop-holds c = (search needs, search needs, no-lines _ _ _ (omega arith))
 
-put-line-requires : tie.Need-put-line-requires Inv-loop μ-loop
-put-line-requires c κs = search needs
-
 loop-again : tie.Need-loop-again Inv-loop μ-loop
 loop-again c =
     let l = c .before .before .before .before .before .before .before in
@@ -67,7 +64,7 @@ put-lines-spec =
     (λ c. search needs)  -- shared-slice-copy-out-re
     (λ c. search needs)  -- mul-im
     (λ c. search needs)  -- shared-slice-copy-out-im
-    put-line-requires
+    (λ c κs. search needs)  -- put-line-requires
     (λ c. search needs)  -- add-k
     (λ c. search needs)  -- loop-less
     loop-again

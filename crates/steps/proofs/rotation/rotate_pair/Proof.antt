@@ -29,53 +29,11 @@ module _ (a : tie.Start) where
   m3 : let v = a .args in Word w64 (done _*ℤ_ (ofZ w64 (v .cosine)) (done _-ℤ_ (ofZ w64 (v .s)) (ofZ w64 (v .c)))) (v .cosine *ℤ (v .s -ℤ v .c))
   m3 = made _*ℤ_ (word (a .fits .cosine)) (made _-ℤ_ (word (a .fits .s)) (word (a .fits .c)) (fits .difference)) (fits .m3)
 
-add-s1 : tie.Need-add-s1
-add-s1 c = search (needs, fits c)
-
-add-sums : tie.Need-add-sums
-add-sums c = search needs
-
-mul-m1 : tie.Need-mul-m1
-mul-m1 c = search (needs, fits c)
-
-add-products : tie.Need-add-products
-add-products c = search needs
-
-add-m2 : tie.Need-add-m2
-add-m2 c = search (needs, fits c)
-
-mul-m2 : tie.Need-mul-m2
-mul-m2 c = search (needs, fits c)
-
-add-products-2 : tie.Need-add-products-2
-add-products-2 c = search needs
-
-sub-m3 : tie.Need-sub-m3
-sub-m3 c = search (needs, fits c)
-
-mul-m3 : tie.Need-mul-m3
-mul-m3 c = search (needs, fits c)
-
-add-products-3 : tie.Need-add-products-3
-add-products-3 c = search needs
-
 sub-round : tie.Need-sub-round
 sub-round c = asked _-ℤ_ (m1 c) (m2 c) (fits c .first)
 
-round-requires : tie.Need-round-requires
-round-requires c κs = search needs
-
-add-sums-2 : tie.Need-add-sums-2
-add-sums-2 c = search needs
-
 add-round : tie.Need-add-round
 add-round c = asked _+ℤ_ (m1 (c .before)) (m3 (c .before)) (fits (c .before) .second)
-
-round-requires-2 : tie.Need-round-requires-2
-round-requires-2 c κs = search needs
-
-add-sums-3 : tie.Need-add-sums-3
-add-sums-3 c = search needs
 
 returns : tie.Need-returns
 returns c =
@@ -94,20 +52,20 @@ pub rotate-pair-spec : {M : Type 1} → statement M
 rotate-pair-spec =
     tie.close
     (tie.spec
-    add-s1
-    add-sums
-    mul-m1
-    add-products
-    add-m2
-    mul-m2
-    add-products-2
-    sub-m3
-    mul-m3
-    add-products-3
+    (λ c. search (needs, fits c))  -- add-s1
+    (λ c. search needs)  -- add-sums
+    (λ c. search (needs, fits c))  -- mul-m1
+    (λ c. search needs)  -- add-products
+    (λ c. search (needs, fits c))  -- add-m2
+    (λ c. search (needs, fits c))  -- mul-m2
+    (λ c. search needs)  -- add-products-2
+    (λ c. search (needs, fits c))  -- sub-m3
+    (λ c. search (needs, fits c))  -- mul-m3
+    (λ c. search needs)  -- add-products-3
     sub-round
-    round-requires
-    add-sums-2
+    (λ c κs. search needs)  -- round-requires
+    (λ c. search needs)  -- add-sums-2
     add-round
-    round-requires-2
-    add-sums-3
+    (λ c κs. search needs)  -- round-requires-2
+    (λ c. search needs)  -- add-sums-3
     returns)

@@ -16,32 +16,8 @@ Inv-loop w₀ n q h b sums₀ k₀ w sums k = ((k ≤ q) × (sums ≡ 2 * k)) ×
 abbrev μ-loop : tie.MeasureT-loop
 μ-loop w₀ n q h b sums₀ k₀ w sums k = q - k
 
-add-b : tie.Need-add-b Inv-loop μ-loop
-add-b c = search needs
-
-add-b-2 : tie.Need-add-b-2 Inv-loop μ-loop
-add-b-2 c = search needs
-
 loop-holds : tie.Need-loop-holds Inv-loop μ-loop
 loop-holds c = (omega arith, mirrored-none)
-
-add-e : tie.Need-add-e Inv-loop μ-loop
-add-e c = search needs
-
-mul-e : tie.Need-mul-e Inv-loop μ-loop
-mul-e c = search needs
-
-slice-copy-out-e : tie.Need-slice-copy-out-e Inv-loop μ-loop
-slice-copy-out-e c = search needs
-
-add-d : tie.Need-add-d Inv-loop μ-loop
-add-d c = search needs
-
-mul-d : tie.Need-mul-d Inv-loop μ-loop
-mul-d c = search needs
-
-slice-copy-out-d : tie.Need-slice-copy-out-d Inv-loop μ-loop
-slice-copy-out-d c = search needs
 
 -- what a turn makes of E(k) and D(k)
 turn : (c : tie.After-d Inv-loop μ-loop) →
@@ -52,41 +28,14 @@ turn c = let l = c .before .before .before in join-turn (l .loop .inv .1) (l .be
 add-w : tie.Need-add-w Inv-loop μ-loop
 add-w c = turn c .sum .asked
 
-mul-w : tie.Need-mul-w Inv-loop μ-loop
-mul-w c = search needs
-
-slice-set-from-w : tie.Need-slice-set-from-w Inv-loop μ-loop
-slice-set-from-w c = search needs
-
-add-sums : tie.Need-add-sums Inv-loop μ-loop
-add-sums c = search needs
-
 sub-w : tie.Need-sub-w Inv-loop μ-loop
 sub-w c = turn c .difference .asked
-
-sub-t13 : tie.Need-sub-t13 Inv-loop μ-loop
-sub-t13 c = search needs
-
-mul-t12 : tie.Need-mul-t12 Inv-loop μ-loop
-mul-t12 c = search needs
 
 slice-set-from-w-2 : tie.Need-slice-set-from-w-2 Inv-loop μ-loop
 slice-set-from-w-2 c = simp length-set (omega arith)
 
-add-sums-2 : tie.Need-add-sums-2 Inv-loop μ-loop
-add-sums-2 c = search needs
-
-add-k : tie.Need-add-k Inv-loop μ-loop
-add-k c = search needs
-
-loop-less : tie.Need-loop-less Inv-loop μ-loop
-loop-less c = search needs
-
 loop-again : tie.Need-loop-again Inv-loop μ-loop
 loop-again c = (omega arith, mirrored-more (omega arith) (turn c .sum .made) (turn c .difference .made) (c .before .before .before .loop .inv .1))
-
-same-length : tie.Need-same-length Inv-loop μ-loop
-same-length c = search needs
 
 returns : tie.Need-returns Inv-loop μ-loop
 returns c =
@@ -99,26 +48,26 @@ add-and-subtract-spec =
     (tie.spec
     Inv-loop
     μ-loop
-    add-b
-    add-b-2
+    (λ c. search needs)  -- add-b
+    (λ c. search needs)  -- add-b-2
     loop-holds
-    add-e
-    mul-e
-    slice-copy-out-e
-    add-d
-    mul-d
-    slice-copy-out-d
+    (λ c. search needs)  -- add-e
+    (λ c. search needs)  -- mul-e
+    (λ c. search needs)  -- slice-copy-out-e
+    (λ c. search needs)  -- add-d
+    (λ c. search needs)  -- mul-d
+    (λ c. search needs)  -- slice-copy-out-d
     add-w
-    mul-w
-    slice-set-from-w
-    add-sums
+    (λ c. search needs)  -- mul-w
+    (λ c. search needs)  -- slice-set-from-w
+    (λ c. search needs)  -- add-sums
     sub-w
-    sub-t13
-    mul-t12
+    (λ c. search needs)  -- sub-t13
+    (λ c. search needs)  -- mul-t12
     slice-set-from-w-2
-    add-sums-2
-    add-k
-    loop-less
+    (λ c. search needs)  -- add-sums-2
+    (λ c. search needs)  -- add-k
+    (λ c. search needs)  -- loop-less
     loop-again
-    same-length
+    (λ c. search needs)  -- same-length
     returns)

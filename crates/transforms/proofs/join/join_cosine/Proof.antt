@@ -6,27 +6,6 @@ use Rattle.transforms.proofs.Joining.{cosine-joined}
 use Rattle.transforms.proofs.join.join_cosine.Statement.{statement}
 use Rattle.transforms.proofs.join.join_cosine.Tie as tie
 
-add-and-subtract-requires : tie.Need-add-and-subtract-requires
-add-and-subtract-requires c κs = search needs
-
-add-e : tie.Need-add-e
-add-e c = search needs
-
-mul-e : tie.Need-mul-e
-mul-e c = search needs
-
-slice-copy-out-e : tie.Need-slice-copy-out-e
-slice-copy-out-e c = search needs
-
-mul-e-2 : tie.Need-mul-e-2
-mul-e-2 c = search needs
-
-slice-set-from-e : tie.Need-slice-set-from-e
-slice-set-from-e c = search needs
-
-same-length : tie.Need-same-length
-same-length c = search needs
-
 returns : tie.Need-returns
 returns c =
     let pairs = c .before .before .add-and-subtract .ensures in
@@ -36,11 +15,11 @@ pub join-cosine-spec : {M : Type 1} → statement M
 join-cosine-spec =
     tie.close
     (tie.spec
-    add-and-subtract-requires
-    add-e
-    mul-e
-    slice-copy-out-e
-    mul-e-2
-    slice-set-from-e
-    same-length
+    (λ c κs. search needs)  -- add-and-subtract-requires
+    (λ c. search needs)  -- add-e
+    (λ c. search needs)  -- mul-e
+    (λ c. search needs)  -- slice-copy-out-e
+    (λ c. search needs)  -- mul-e-2
+    (λ c. search needs)  -- slice-set-from-e
+    (λ c. search needs)  -- same-length
     returns)

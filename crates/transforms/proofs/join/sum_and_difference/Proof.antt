@@ -17,12 +17,6 @@ use Rattle.ffct.proofs.Sizes.{added, subtracted}
 use Rattle.transforms.proofs.join.sum_and_difference.Statement.{statement}
 use Rattle.transforms.proofs.join.sum_and_difference.Tie as tie
 
-slice-copy-out-x : tie.Need-slice-copy-out-x
-slice-copy-out-x c = search needs
-
-slice-copy-out-y : tie.Need-slice-copy-out-y
-slice-copy-out-y c = search needs
-
 module _ (c : tie.After-y) where
   abbrev w : List ℤ
   w = c .before .before .args .w .now
@@ -39,23 +33,8 @@ module _ (c : tie.After-y) where
 add-w : tie.Need-add-w
 add-w c = sum c .asked
 
-slice-set-from-w : tie.Need-slice-set-from-w
-slice-set-from-w c = search needs
-
-add-sums : tie.Need-add-sums
-add-sums c = search needs
-
 sub-w : tie.Need-sub-w
 sub-w c = difference c .asked
-
-slice-set-from-w-2 : tie.Need-slice-set-from-w-2
-slice-set-from-w-2 c = search needs
-
-add-sums-2 : tie.Need-add-sums-2
-add-sums-2 c = search needs
-
-same-length : tie.Need-same-length
-same-length c = search needs
 
 returns : tie.Need-returns
 returns c = record {
@@ -69,13 +48,13 @@ pub sum-and-difference-spec : {M : Type 1} → statement M
 sum-and-difference-spec =
     tie.close
     (tie.spec
-    slice-copy-out-x
-    slice-copy-out-y
+    (λ c. search needs)  -- slice-copy-out-x
+    (λ c. search needs)  -- slice-copy-out-y
     add-w
-    slice-set-from-w
-    add-sums
+    (λ c. search needs)  -- slice-set-from-w
+    (λ c. search needs)  -- add-sums
     sub-w
-    slice-set-from-w-2
-    add-sums-2
-    same-length
+    (λ c. search needs)  -- slice-set-from-w-2
+    (λ c. search needs)  -- add-sums-2
+    (λ c. search needs)  -- same-length
     returns)

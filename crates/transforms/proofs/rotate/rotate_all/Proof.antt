@@ -16,24 +16,6 @@ use Rattle.transforms.proofs.Joining.{dct-rotated}
 use Rattle.transforms.proofs.rotate.rotate_all.Statement.{statement}
 use Rattle.transforms.proofs.rotate.rotate_all.Tie as tie
 
-rotate-pairs-requires : tie.Need-rotate-pairs-requires
-rotate-pairs-requires c κs = search needs
-
-mul-first : tie.Need-mul-first
-mul-first c = search needs
-
-slice-copy-out-first : tie.Need-slice-copy-out-first
-slice-copy-out-first c = search needs
-
-slice-set-from-first : tie.Need-slice-set-from-first
-slice-set-from-first c = search needs
-
-add-cosine : tie.Need-add-cosine
-add-cosine c = search needs
-
-mul-cosine : tie.Need-mul-cosine
-mul-cosine c = search needs
-
 slice-copy-out-cosine : tie.Need-slice-copy-out-cosine
 slice-copy-out-cosine c = simp length-set (omega (arith, c .before .before .rotate-pairs .ensures .words .len))
 
@@ -50,17 +32,8 @@ rotate-middle-requires c κs =
     let pre = c .before .before .before .before .before .pre in
     (pre .0 .0, rw (middle c .is) (pre .1 _ (omega arith)))
 
-mul-value : tie.Need-mul-value
-mul-value c = search needs
-
 slice-set-from-value : tie.Need-slice-set-from-value
 slice-set-from-value c = simp length-set (omega (arith, c .before .before .before .before .before .rotate-pairs .ensures .words .len))
-
-add-products : tie.Need-add-products
-add-products c = search needs
-
-same-length : tie.Need-same-length
-same-length c = search needs
 
 returns : tie.Need-returns
 returns c =
@@ -76,16 +49,16 @@ pub rotate-all-spec : {M : Type 1} → statement M
 rotate-all-spec =
     tie.close
     (tie.spec
-    rotate-pairs-requires
-    mul-first
-    slice-copy-out-first
-    slice-set-from-first
-    add-cosine
-    mul-cosine
+    (λ c κs. search needs)  -- rotate-pairs-requires
+    (λ c. search needs)  -- mul-first
+    (λ c. search needs)  -- slice-copy-out-first
+    (λ c. search needs)  -- slice-set-from-first
+    (λ c. search needs)  -- add-cosine
+    (λ c. search needs)  -- mul-cosine
     slice-copy-out-cosine
     rotate-middle-requires
-    mul-value
+    (λ c. search needs)  -- mul-value
     slice-set-from-value
-    add-products
-    same-length
+    (λ c. search needs)  -- add-products
+    (λ c. search needs)  -- same-length
     returns)

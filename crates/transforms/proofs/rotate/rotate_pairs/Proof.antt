@@ -51,9 +51,6 @@ turn c =
       mirror = held (c .before .before .wave-at2 .ok) (c .before .before .wave-at2 .ensures);
     }
 
-div-step : tie.Need-div-step Inv-loop μ-loop
-div-step c = search needs
-
 loop-holds : tie.Need-loop-holds Inv-loop μ-loop
 loop-holds c = (omega arith, mirrored-none)
 
@@ -69,30 +66,6 @@ sub-wave-at c = place (c .before .before .before .args .n) (c .before .before .l
 wave-at-requires-2 : tie.Need-wave-at-requires-2 Inv-loop μ-loop
 wave-at-requires-2 c κs = (c .before .before .before .pre .0 .0, omega arith)
 
-add-x : tie.Need-add-x Inv-loop μ-loop
-add-x c = search needs
-
-mul-x : tie.Need-mul-x Inv-loop μ-loop
-mul-x c = search needs
-
-slice-copy-out-x : tie.Need-slice-copy-out-x Inv-loop μ-loop
-slice-copy-out-x c = search needs
-
-add-y : tie.Need-add-y Inv-loop μ-loop
-add-y c = search needs
-
-add-y-2 : tie.Need-add-y-2 Inv-loop μ-loop
-add-y-2 c = search needs
-
-add-y-3 : tie.Need-add-y-3 Inv-loop μ-loop
-add-y-3 c = search needs
-
-mul-y : tie.Need-mul-y Inv-loop μ-loop
-mul-y c = search needs
-
-slice-copy-out-y : tie.Need-slice-copy-out-y Inv-loop μ-loop
-slice-copy-out-y c = search needs
-
 rotate-pair-requires : tie.Need-rotate-pair-requires Inv-loop μ-loop
 rotate-pair-requires c κs =
     let t = turn c in
@@ -105,32 +78,8 @@ rotate-pair-requires c κs =
     rw (t .cosine .is, t .sine .is, t .entry .is, t .mirror .is)
     (sizes k (omega arith), rw e at (sizes (n / 2 + 1 + k) (omega arith)), within-size (entry-within _ h), within-size (entry-within _ (omega arith)))
 
-mul-low : tie.Need-mul-low Inv-loop μ-loop
-mul-low c = search needs
-
-slice-set-from-low : tie.Need-slice-set-from-low Inv-loop μ-loop
-slice-set-from-low c = search needs
-
-sub-high : tie.Need-sub-high Inv-loop μ-loop
-sub-high c = search needs
-
-mul-high : tie.Need-mul-high Inv-loop μ-loop
-mul-high c = search needs
-
 slice-set-from-high : tie.Need-slice-set-from-high Inv-loop μ-loop
 slice-set-from-high c = simp length-set (omega arith)
-
-add-products : tie.Need-add-products Inv-loop μ-loop
-add-products c = search needs
-
-add-sums : tie.Need-add-sums Inv-loop μ-loop
-add-sums c = search needs
-
-add-k : tie.Need-add-k Inv-loop μ-loop
-add-k c = search needs
-
-loop-less : tie.Need-loop-less Inv-loop μ-loop
-loop-less c = search needs
 
 loop-again : tie.Need-loop-again Inv-loop μ-loop
 loop-again c =
@@ -139,9 +88,6 @@ loop-again c =
     let low = held (c .before .before .before .struct-told .given .0 .1) (r .low) in
     let high = held (c .before .before .struct-told2 .given .1 .0 .1) (r .high) in
     (omega arith, mirrored-more (omega arith) (low .is) (high .is) (c .before .before .before .before .before .before .before .before .before .before .loop .inv .1))
-
-same-length : tie.Need-same-length Inv-loop μ-loop
-same-length c = search needs
 
 returns : tie.Need-returns Inv-loop μ-loop
 returns c =
@@ -154,30 +100,30 @@ rotate-pairs-spec =
     (tie.spec
     Inv-loop
     μ-loop
-    div-step
+    (λ c. search needs)  -- div-step
     loop-holds
     mul-j
     wave-at-requires
     sub-wave-at
     wave-at-requires-2
-    add-x
-    mul-x
-    slice-copy-out-x
-    add-y
-    add-y-2
-    add-y-3
-    mul-y
-    slice-copy-out-y
+    (λ c. search needs)  -- add-x
+    (λ c. search needs)  -- mul-x
+    (λ c. search needs)  -- slice-copy-out-x
+    (λ c. search needs)  -- add-y
+    (λ c. search needs)  -- add-y-2
+    (λ c. search needs)  -- add-y-3
+    (λ c. search needs)  -- mul-y
+    (λ c. search needs)  -- slice-copy-out-y
     rotate-pair-requires
-    mul-low
-    slice-set-from-low
-    sub-high
-    mul-high
+    (λ c. search needs)  -- mul-low
+    (λ c. search needs)  -- slice-set-from-low
+    (λ c. search needs)  -- sub-high
+    (λ c. search needs)  -- mul-high
     slice-set-from-high
-    add-products
-    add-sums
-    add-k
-    loop-less
+    (λ c. search needs)  -- add-products
+    (λ c. search needs)  -- add-sums
+    (λ c. search needs)  -- add-k
+    (λ c. search needs)  -- loop-less
     loop-again
-    same-length
+    (λ c. search needs)  -- same-length
     returns)
