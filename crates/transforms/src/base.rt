@@ -1,9 +1,11 @@
 // Where the recursion ends: the transforms of short blocks, each in its place at the front of the slice.
 use crate::join::sum_and_difference;
+use short::cosine_8;
 use short::cosine_16;
 use short::cosine_32;
 use short::dct_8;
 use short::dct_16;
+use short::sine_8;
 use short::sine_16;
 use short::sine_32;
 use steps::tally::Tally;
@@ -56,6 +58,38 @@ fn copy_words(from: &[i64], to: &mut [i64], b: usize, m: usize)
         let x = from[i];
         to[b + i] = x;
         i += 1;
+    }
+}
+
+// The cosine-DFT of eight samples, directly.
+pub fn cosine_of_8(wave: &[i32; 1025], w: &mut [i64]) -> Tally
+    requires { ⌜ IsQuarterWave (now wave) × Ready 8 (dftRoom 8) (now w) ⌝ }
+    ensures { λ r. ⌜ Transformed cosineDft 8 5 (now (w .entry)) (now (w .exit)) (r .products) (r .sums) ⌝ }
+{
+    let mut x = [0i64; 8];
+    copy_words(w, &mut x, 0, 8);
+    let r = cosine_8(wave, x);
+    let at = r.at;
+    copy_words(&at, w, 0, 5);
+    Tally {
+        products: r.products,
+        sums: r.sums,
+    }
+}
+
+// The sine-DFT of eight samples, directly.
+pub fn sine_of_8(wave: &[i32; 1025], w: &mut [i64]) -> Tally
+    requires { ⌜ IsQuarterWave (now wave) × Ready 8 (dftRoom 8) (now w) ⌝ }
+    ensures { λ r. ⌜ Transformed sineDft 8 5 (now (w .entry)) (now (w .exit)) (r .products) (r .sums) ⌝ }
+{
+    let mut x = [0i64; 8];
+    copy_words(w, &mut x, 0, 8);
+    let r = sine_8(wave, x);
+    let at = r.at;
+    copy_words(&at, w, 0, 5);
+    Tally {
+        products: r.products,
+        sums: r.sums,
     }
 }
 

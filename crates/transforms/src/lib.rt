@@ -7,11 +7,13 @@ pub mod join;
 pub mod rotate;
 
 use base::cosine_base;
+use base::cosine_of_8;
 use base::cosine_of_16;
 use base::cosine_of_32;
 use base::dct_of_8;
 use base::dct_of_16;
 use base::sine_base;
+use base::sine_of_8;
 use base::sine_of_16;
 use base::sine_of_32;
 use fold::put_evens;
@@ -38,6 +40,9 @@ pub fn cosine_dft(wave: &[i32; 1025], w: &mut [i64], n: usize) -> Tally
     }
     if n == 16 {
         return cosine_of_16(wave, w);
+    }
+    if n == 8 {
+        return cosine_of_8(wave, w);
     }
     if n <= 2 {
         return cosine_base(w, n);
@@ -66,6 +71,9 @@ pub fn sine_dft(wave: &[i32; 1025], w: &mut [i64], n: usize) -> Tally
     }
     if n == 16 {
         return sine_of_16(wave, w);
+    }
+    if n == 8 {
+        return sine_of_8(wave, w);
     }
     if n <= 2 {
         return sine_base(w, n);
