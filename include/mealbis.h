@@ -67,8 +67,8 @@
  * time in threads and interrupt handlers.
  *
  * Stack: a copy of the cosine table, 4,100 bytes, and frames whose number depends on the length
- * alone. Measured at length 1,024, in bytes: mealbis_pair 6,992, mealbis_cosine 7,056,
- * mealbis_spectrum 6,736, mealbis_counts 112, mealbis_read 96; shorter blocks take no more.
+ * alone. Measured at length 1,024, in bytes: mealbis_pair 6,264, mealbis_cosine 6,248,
+ * mealbis_spectrum 6,008, mealbis_counts 112, mealbis_read 96; shorter blocks take no more.
  * The proof does not speak of the stack: allow 8 KiB. `self_check --stack` measures it.
  */
 #ifndef MEALBIS_H
