@@ -39,18 +39,6 @@ spent j =
       j .join-cosine-16 .ensures .counted,
     )
 
-evens-16-requires : tie.Need-evens-16-requires
-evens-16-requires c κs = tt
-
-cosine-8-requires : tie.Need-cosine-8-requires
-cosine-8-requires c κs = (c .before .pre .0, even c)
-
-folded-sums-16-requires : tie.Need-folded-sums-16-requires
-folded-sums-16-requires c κs = c .before .before .pre .1
-
-dct-4-requires : tie.Need-dct-4-requires
-dct-4-requires c κs = (c .before .before .before .before .pre .0, folded (c .before))
-
 join-cosine-16-requires : tie.Need-join-cosine-16-requires
 join-cosine-16-requires c κs =
     let o = c .before .before in
@@ -60,18 +48,6 @@ join-cosine-16-requires c κs =
       λ k h. le-trans (cosine-bounded 3 (v .evens-16 .result) (lit≤ tt) (even v) (e .cosine-8 .ensures) (lit≤ tt) k h) (lit≤ tt),
       λ k h. le-trans (dct-bounded 2 (f .folded-sums-16 .result .at) (lit≤ tt) (folded f) (o .dct-4 .ensures) (lit≤ tt) k h) (lit≤ tt),
     )
-
-add-t12 : tie.Need-add-t12
-add-t12 c = omega (arith, spent (c .before .before .before))
-
-add-t13 : tie.Need-add-t13
-add-t13 c = omega (arith, spent (c .before .before .before .before .before))
-
-add-t14 : tie.Need-add-t14
-add-t14 c = omega (arith, spent (c .before .before .before .before .before .before))
-
-add-t15 : tie.Need-add-t15
-add-t15 c = omega (arith, spent (c .before .before .before .before .before .before .before))
 
 returns : tie.Need-returns
 returns c =
@@ -90,13 +66,13 @@ pub cosine-16-spec : {M : Type 1} → statement M
 cosine-16-spec =
     tie.close
     (tie.spec
-    evens-16-requires
-    cosine-8-requires
-    folded-sums-16-requires
-    dct-4-requires
+    (λ c κs. tt)  -- evens-16-requires
+    (λ c κs. (c .before .pre .0, even c))  -- cosine-8-requires
+    (λ c κs. c .before .before .pre .1)  -- folded-sums-16-requires
+    (λ c κs. (c .before .before .before .before .pre .0, folded (c .before)))  -- dct-4-requires
     join-cosine-16-requires
-    add-t12
-    add-t13
-    add-t14
-    add-t15
+    (λ c. omega (arith, spent (c .before .before .before)))  -- add-t12
+    (λ c. omega (arith, spent (c .before .before .before .before .before)))  -- add-t13
+    (λ c. omega (arith, spent (c .before .before .before .before .before .before)))  -- add-t14
+    (λ c. omega (arith, spent (c .before .before .before .before .before .before .before)))  -- add-t15
     returns)

@@ -25,12 +25,6 @@ folded a =
 spent : (a : tie.After-join-cosine-32) → a .before .before .before .before .before .before .cosine-16 .result .products + a .before .before .before .before .before .before .cosine-16 .result .sums + a .before .before .before .before .before .folded-sums-32 .result .sums + a .before .before .before .dct-8 .result .products + a .before .before .before .dct-8 .result .sums + a .join-cosine-32 .result .sums ≤ 2 ^ 20
 spent a = omega (arith, cosine-few 4 (a .before .before .before .before .before .before .before .evens-32 .result) (lit≤ tt) (a .before .before .before .before .before .before .cosine-16 .ensures), dct-few 3 (a .before .before .before .before .before .folded-sums-32 .result .at) (lit≤ tt) (a .before .before .before .dct-8 .ensures), a .before .before .before .before .before .folded-sums-32 .ensures .counted, a .join-cosine-32 .ensures .counted)
 
-cosine-16-requires : tie.Need-cosine-16-requires
-cosine-16-requires c κs = (c .before .pre .0, even c)
-
-dct-8-requires : tie.Need-dct-8-requires
-dct-8-requires c κs = (c .before .before .before .before .pre .0, folded (c .before))
-
 join-cosine-32-requires : tie.Need-join-cosine-32-requires
 join-cosine-32-requires c κs =
     let es = c .before .before .before .before .before .before .evens-32 .result in
@@ -38,18 +32,6 @@ join-cosine-32-requires c κs =
       λ k h. le-trans (cosine-bounded 4 es (lit≤ tt) (even (c .before .before .before .before .before .before)) (c .before .before .before .before .before .cosine-16 .ensures) (lit≤ tt) k h) (lit≤ tt),
       λ k h. le-trans (dct-bounded 3 fs (lit≤ tt) (folded (c .before .before .before .before)) (c .before .before .dct-8 .ensures) (lit≤ tt) k h) (lit≤ tt),
     )
-
-add-t12 : tie.Need-add-t12
-add-t12 c = omega (arith, spent (c .before .before .before))
-
-add-t13 : tie.Need-add-t13
-add-t13 c = omega (arith, spent (c .before .before .before .before .before))
-
-add-t14 : tie.Need-add-t14
-add-t14 c = omega (arith, spent (c .before .before .before .before .before .before))
-
-add-t15 : tie.Need-add-t15
-add-t15 c = omega (arith, spent (c .before .before .before .before .before .before .before))
 
 returns : tie.Need-returns
 returns c =
@@ -67,12 +49,12 @@ cosine-32-spec =
     tie.close
     (tie.spec
     (λ c κs. search needs)  -- evens-32-requires
-    cosine-16-requires
+    (λ c κs. (c .before .pre .0, even c))  -- cosine-16-requires
     (λ c κs. search needs)  -- folded-sums-32-requires
-    dct-8-requires
+    (λ c κs. (c .before .before .before .before .pre .0, folded (c .before)))  -- dct-8-requires
     join-cosine-32-requires
-    add-t12
-    add-t13
-    add-t14
-    add-t15
+    (λ c. omega (arith, spent (c .before .before .before)))  -- add-t12
+    (λ c. omega (arith, spent (c .before .before .before .before .before)))  -- add-t13
+    (λ c. omega (arith, spent (c .before .before .before .before .before .before)))  -- add-t14
+    (λ c. omega (arith, spent (c .before .before .before .before .before .before .before)))  -- add-t15
     returns)

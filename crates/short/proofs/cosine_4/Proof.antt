@@ -18,23 +18,11 @@ even a =
     let small = sample-twice (s .args .t1) (s .pre) in
     join-wings (s .args .t1) (s .args .t1) small small 0 2 (lit< tt) (lit< tt) (a .butterfly .ensures)
 
-array-copy-out-butterfly : tie.Need-array-copy-out-butterfly
-array-copy-out-butterfly c = lit< tt
-
-array-copy-out-butterfly-2 : tie.Need-array-copy-out-butterfly-2
-array-copy-out-butterfly-2 c = lit< tt
-
 butterfly-requires : tie.Need-butterfly-requires
 butterfly-requires c κs =
     let s = c .before .before in
     let small = sample-twice (s .args .t1) (s .pre) in
     join-asked (s .args .t1) (s .args .t1) small small 0 2 (lit< tt) (lit< tt)
-
-array-copy-out-odd : tie.Need-array-copy-out-odd
-array-copy-out-odd c = lit< tt
-
-array-copy-out-odd-2 : tie.Need-array-copy-out-odd-2
-array-copy-out-odd-2 c = lit< tt
 
 add-odd : tie.Need-add-odd
 add-odd c = let s = c .before .before .before .before .before in sample-sum (s .args .t1) (s .pre) 1 3 (lit< tt) (lit< tt) .asked
@@ -69,11 +57,11 @@ pub cosine-4-spec : {M : Type 1} → statement M
 cosine-4-spec =
     tie.close
     (tie.spec
-    array-copy-out-butterfly
-    array-copy-out-butterfly-2
+    (λ c. lit< tt)  -- array-copy-out-butterfly
+    (λ c. lit< tt)  -- array-copy-out-butterfly-2
     butterfly-requires
-    array-copy-out-odd
-    array-copy-out-odd-2
+    (λ c. lit< tt)  -- array-copy-out-odd
+    (λ c. lit< tt)  -- array-copy-out-odd-2
     add-odd
     add-sums
     butterfly-requires-2

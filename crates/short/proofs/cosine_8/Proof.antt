@@ -39,18 +39,6 @@ spent j =
       j .join-cosine-8 .ensures .counted,
     )
 
-evens-8-requires : tie.Need-evens-8-requires
-evens-8-requires c κs = tt
-
-cosine-4-requires : tie.Need-cosine-4-requires
-cosine-4-requires c κs = even c
-
-folded-sums-8-requires : tie.Need-folded-sums-8-requires
-folded-sums-8-requires c κs = c .before .before .pre .1
-
-dct-2-requires : tie.Need-dct-2-requires
-dct-2-requires c κs = (c .before .before .before .before .pre .0, folded (c .before))
-
 join-cosine-8-requires : tie.Need-join-cosine-8-requires
 join-cosine-8-requires c κs =
     let o = c .before .before in
@@ -60,15 +48,6 @@ join-cosine-8-requires c κs =
       λ k h. le-trans (cosine-bounded 2 (v .evens-8 .result) (lit≤ tt) (even v) (e .cosine-4 .ensures) (lit≤ tt) k h) (lit≤ tt),
       λ k h. le-trans (dct-bounded 1 (f .folded-sums-8 .result .at) (lit≤ tt) (folded f) (o .dct-2 .ensures) (lit≤ tt) k h) (lit≤ tt),
     )
-
-add-t12 : tie.Need-add-t12
-add-t12 c = omega (arith, spent (c .before .before .before))
-
-add-t13 : tie.Need-add-t13
-add-t13 c = omega (arith, spent (c .before .before .before .before))
-
-add-t14 : tie.Need-add-t14
-add-t14 c = omega (arith, spent (c .before .before .before .before .before))
 
 returns : tie.Need-returns
 returns c =
@@ -87,12 +66,12 @@ pub cosine-8-spec : {M : Type 1} → statement M
 cosine-8-spec =
     tie.close
     (tie.spec
-    evens-8-requires
-    cosine-4-requires
-    folded-sums-8-requires
-    dct-2-requires
+    (λ c κs. tt)  -- evens-8-requires
+    (λ c κs. even c)  -- cosine-4-requires
+    (λ c κs. c .before .before .pre .1)  -- folded-sums-8-requires
+    (λ c κs. (c .before .before .before .before .pre .0, folded (c .before)))  -- dct-2-requires
     join-cosine-8-requires
-    add-t12
-    add-t13
-    add-t14
+    (λ c. omega (arith, spent (c .before .before .before)))  -- add-t12
+    (λ c. omega (arith, spent (c .before .before .before .before)))  -- add-t13
+    (λ c. omega (arith, spent (c .before .before .before .before .before)))  -- add-t14
     returns)

@@ -31,18 +31,6 @@ rotate-16-requires c κs =
     let ys = a .rearranged-16 .result in
     (c .before .before .before .before .before .pre .0, cosine-bounded 4 ys (lit≤ tt) (moves a) (c .before .before .before .cosine-16 .ensures) (lit≤ tt), sine-bounded 4 ys (lit≤ tt) (moves a) (c .before .before .sine-16 .ensures) (lit≤ tt))
 
-add-t10 : tie.Need-add-t10
-add-t10 c = omega (arith, spent (c .before .before .before))
-
-add-t11 : tie.Need-add-t11
-add-t11 c = omega (arith, spent (c .before .before .before .before))
-
-add-t12 : tie.Need-add-t12
-add-t12 c = omega (arith, spent (c .before .before .before .before .before .before))
-
-add-t13 : tie.Need-add-t13
-add-t13 c = omega (arith, spent (c .before .before .before .before .before .before .before))
-
 returns : tie.Need-returns
 returns c =
     let x = word (c .before .before .before .before .before .before .before .before .before .before .before .before .before .args .x) in
@@ -58,8 +46,8 @@ dct-16-spec =
     cosine-16-requires
     sine-16-requires
     rotate-16-requires
-    add-t10
-    add-t11
-    add-t12
-    add-t13
+    (λ c. omega (arith, spent (c .before .before .before)))  -- add-t10
+    (λ c. omega (arith, spent (c .before .before .before .before)))  -- add-t11
+    (λ c. omega (arith, spent (c .before .before .before .before .before .before)))  -- add-t12
+    (λ c. omega (arith, spent (c .before .before .before .before .before .before .before)))  -- add-t13
     returns)

@@ -26,9 +26,6 @@ spent r =
     let x = v .rearranged-4 .result in
     omega (arith, cosine-few 2 x (lit≤ tt) (a .cosine-4 .ensures), sine-few 2 x (lit≤ tt) (b .sine-4 .ensures), r .rotate-4 .ensures)
 
-rearranged-4-requires : tie.Need-rearranged-4-requires
-rearranged-4-requires c κs = tt
-
 cosine-4-requires : tie.Need-cosine-4-requires
 cosine-4-requires c κs = samples c
 
@@ -46,12 +43,6 @@ rotate-4-requires c κs =
       sine-bounded 2 x (lit≤ tt) (samples v) (b .sine-4 .ensures) (lit≤ tt),
     )
 
-add-t10 : tie.Need-add-t10
-add-t10 c = omega (arith, spent (c .before .before .before))
-
-add-t11 : tie.Need-add-t11
-add-t11 c = omega (arith, spent (c .before .before .before .before))
-
 returns : tie.Need-returns
 returns c =
     let r = c .before .before .before .before in
@@ -66,10 +57,10 @@ pub dct-4-spec : {M : Type 1} → statement M
 dct-4-spec =
     tie.close
     (tie.spec
-    rearranged-4-requires
+    (λ c κs. tt)  -- rearranged-4-requires
     cosine-4-requires
     sine-4-requires
     rotate-4-requires
-    add-t10
-    add-t11
+    (λ c. omega (arith, spent (c .before .before .before)))  -- add-t10
+    (λ c. omega (arith, spent (c .before .before .before .before)))  -- add-t11
     returns)

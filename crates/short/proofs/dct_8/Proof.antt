@@ -26,15 +26,6 @@ spent r =
     let x = v .rearranged-8 .result in
     omega (arith, cosine-few 3 x (lit≤ tt) (a .cosine-8 .ensures), sine-few 3 x (lit≤ tt) (b .sine-8 .ensures), r .rotate-8 .ensures)
 
-rearranged-8-requires : tie.Need-rearranged-8-requires
-rearranged-8-requires c κs = tt
-
-cosine-8-requires : tie.Need-cosine-8-requires
-cosine-8-requires c κs = (c .before .pre .0, samples c)
-
-sine-8-requires : tie.Need-sine-8-requires
-sine-8-requires c κs = (c .before .before .pre .0, samples (c .before))
-
 rotate-8-requires : tie.Need-rotate-8-requires
 rotate-8-requires c κs =
     let b = c .before .before in
@@ -45,18 +36,6 @@ rotate-8-requires c κs =
       cosine-bounded 3 x (lit≤ tt) (samples v) (a .cosine-8 .ensures) (lit≤ tt),
       sine-bounded 3 x (lit≤ tt) (samples v) (b .sine-8 .ensures) (lit≤ tt),
     )
-
-add-t10 : tie.Need-add-t10
-add-t10 c = omega (arith, spent (c .before .before .before))
-
-add-t11 : tie.Need-add-t11
-add-t11 c = omega (arith, spent (c .before .before .before .before))
-
-add-t12 : tie.Need-add-t12
-add-t12 c = omega (arith, spent (c .before .before .before .before .before .before))
-
-add-t13 : tie.Need-add-t13
-add-t13 c = omega (arith, spent (c .before .before .before .before .before .before .before))
 
 returns : tie.Need-returns
 returns c =
@@ -72,12 +51,12 @@ pub dct-8-spec : {M : Type 1} → statement M
 dct-8-spec =
     tie.close
     (tie.spec
-    rearranged-8-requires
-    cosine-8-requires
-    sine-8-requires
+    (λ c κs. tt)  -- rearranged-8-requires
+    (λ c κs. (c .before .pre .0, samples c))  -- cosine-8-requires
+    (λ c κs. (c .before .before .pre .0, samples (c .before)))  -- sine-8-requires
     rotate-8-requires
-    add-t10
-    add-t11
-    add-t12
-    add-t13
+    (λ c. omega (arith, spent (c .before .before .before)))  -- add-t10
+    (λ c. omega (arith, spent (c .before .before .before .before)))  -- add-t11
+    (λ c. omega (arith, spent (c .before .before .before .before .before .before)))  -- add-t12
+    (λ c. omega (arith, spent (c .before .before .before .before .before .before .before)))  -- add-t13
     returns)

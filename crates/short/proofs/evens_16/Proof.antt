@@ -6,30 +6,6 @@ use Rattle.short.proofs.Short.{_&_, each}
 use Rattle.short.proofs.evens_16.Statement.{statement}
 use Rattle.short.proofs.evens_16.Tie as tie
 
-array-copy-out-t5 : tie.Need-array-copy-out-t5
-array-copy-out-t5 c = lit< tt
-
-array-copy-out-t8 : tie.Need-array-copy-out-t8
-array-copy-out-t8 c = lit< tt
-
-array-copy-out-t11 : tie.Need-array-copy-out-t11
-array-copy-out-t11 c = lit< tt
-
-array-copy-out-t14 : tie.Need-array-copy-out-t14
-array-copy-out-t14 c = lit< tt
-
-array-copy-out-t17 : tie.Need-array-copy-out-t17
-array-copy-out-t17 c = lit< tt
-
-array-copy-out-t20 : tie.Need-array-copy-out-t20
-array-copy-out-t20 c = lit< tt
-
-array-copy-out-t23 : tie.Need-array-copy-out-t23
-array-copy-out-t23 c = lit< tt
-
-array-copy-out-t26 : tie.Need-array-copy-out-t26
-array-copy-out-t26 c = lit< tt
-
 returns : tie.Need-returns
 returns c = each 8 _ (
     held (c .before .before .before .before .before .before .before .t5 .given) refl .is &
@@ -46,12 +22,12 @@ pub evens-16-spec : {M : Type 1} → statement M
 evens-16-spec =
     tie.close
     (tie.spec
-    array-copy-out-t5
-    array-copy-out-t8
-    array-copy-out-t11
-    array-copy-out-t14
-    array-copy-out-t17
-    array-copy-out-t20
-    array-copy-out-t23
-    array-copy-out-t26
+    (λ c. lit< tt)  -- array-copy-out-t5
+    (λ c. lit< tt)  -- array-copy-out-t8
+    (λ c. lit< tt)  -- array-copy-out-t11
+    (λ c. lit< tt)  -- array-copy-out-t14
+    (λ c. lit< tt)  -- array-copy-out-t17
+    (λ c. lit< tt)  -- array-copy-out-t20
+    (λ c. lit< tt)  -- array-copy-out-t23
+    (λ c. lit< tt)  -- array-copy-out-t26
     returns)

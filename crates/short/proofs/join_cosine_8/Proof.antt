@@ -19,26 +19,11 @@ counted a₂ =
     let a₁ = a₂ .before .before .before in
     omega (arith, a₁ .butterfly .ensures .counted, a₂ .butterfly2 .ensures .counted)
 
-array-copy-out-butterfly : tie.Need-array-copy-out-butterfly
-array-copy-out-butterfly c = lit< tt
-
-array-copy-out-butterfly-2 : tie.Need-array-copy-out-butterfly-2
-array-copy-out-butterfly-2 c = lit< tt
-
 butterfly-requires : tie.Need-butterfly-requires
 butterfly-requires c κs = let s = c .before .before in join-asked (s .args .t1) (s .args .t2) (s .pre .0) (s .pre .1) 0 0 (lit< tt) (lit< tt)
 
-array-copy-out-butterfly-3 : tie.Need-array-copy-out-butterfly-3
-array-copy-out-butterfly-3 c = lit< tt
-
-array-copy-out-butterfly-4 : tie.Need-array-copy-out-butterfly-4
-array-copy-out-butterfly-4 c = lit< tt
-
 butterfly-requires-2 : tie.Need-butterfly-requires-2
 butterfly-requires-2 c κs = let s = c .before .before .before .before .before in join-asked (s .args .t1) (s .args .t2) (s .pre .0) (s .pre .1) 1 1 (lit< tt) (lit< tt)
-
-array-copy-out-t9 : tie.Need-array-copy-out-t9
-array-copy-out-t9 c = lit< tt
 
 add-t20 : tie.Need-add-t20
 add-t20 c = omega (arith, counted (c .before .before .before .before .before))
@@ -69,12 +54,12 @@ pub join-cosine-8-spec : {M : Type 1} → statement M
 join-cosine-8-spec =
     tie.close
     (tie.spec
-    array-copy-out-butterfly
-    array-copy-out-butterfly-2
+    (λ c. lit< tt)  -- array-copy-out-butterfly
+    (λ c. lit< tt)  -- array-copy-out-butterfly-2
     butterfly-requires
-    array-copy-out-butterfly-3
-    array-copy-out-butterfly-4
+    (λ c. lit< tt)  -- array-copy-out-butterfly-3
+    (λ c. lit< tt)  -- array-copy-out-butterfly-4
     butterfly-requires-2
-    array-copy-out-t9
+    (λ c. lit< tt)  -- array-copy-out-t9
     add-t20
     returns)

@@ -14,17 +14,8 @@ use Rattle.short.proofs.join_sine_8.Tie as tie
 counted : (a₁ : tie.After-butterfly) → a₁ .butterfly .result .sums ≡ 2
 counted a₁ = omega (arith, a₁ .butterfly .ensures .counted)
 
-array-copy-out-butterfly : tie.Need-array-copy-out-butterfly
-array-copy-out-butterfly c = lit< tt
-
-array-copy-out-butterfly-2 : tie.Need-array-copy-out-butterfly-2
-array-copy-out-butterfly-2 c = lit< tt
-
 butterfly-requires : tie.Need-butterfly-requires
 butterfly-requires c κs = let s = c .before .before in join-asked (s .args .t2) (s .args .t1) (s .pre .0 .1) (s .pre .0 .0) 1 1 (lit< tt) (lit< tt)
-
-array-copy-out-t8 : tie.Need-array-copy-out-t8
-array-copy-out-t8 c = lit< tt
 
 returns : tie.Need-returns
 unfolding sineBeyond dctBeyond apart
@@ -50,8 +41,8 @@ pub join-sine-8-spec : {M : Type 1} → statement M
 join-sine-8-spec =
     tie.close
     (tie.spec
-    array-copy-out-butterfly
-    array-copy-out-butterfly-2
+    (λ c. lit< tt)  -- array-copy-out-butterfly
+    (λ c. lit< tt)  -- array-copy-out-butterfly-2
     butterfly-requires
-    array-copy-out-t8
+    (λ c. lit< tt)  -- array-copy-out-t8
     returns)

@@ -20,26 +20,14 @@ counted m =
     let a₁ = m .before .before in
     omega (arith, a₁ .rotate-at .ensures, m .rotate-middle .ensures)
 
-array-copy-out-rotate-at : tie.Need-array-copy-out-rotate-at
-array-copy-out-rotate-at c = lit< tt
-
-array-copy-out-rotate-at-2 : tie.Need-array-copy-out-rotate-at-2
-array-copy-out-rotate-at-2 c = lit< tt
-
 rotate-at-requires : tie.Need-rotate-at-requires
 rotate-at-requires c κs =
     let s = c .before .before in
     let asked = turn-asked (s .args .t2) (s .args .t3) (s .pre .1) (s .pre .2) 1 (lit< tt) in
     (s .pre .0, lit≤ tt, asked .0, asked .1)
 
-array-copy-out-rotate-middle : tie.Need-array-copy-out-rotate-middle
-array-copy-out-rotate-middle c = lit< tt
-
 rotate-middle-requires : tie.Need-rotate-middle-requires
 rotate-middle-requires c κs = let s = c .before .before .before .before in (s .pre .0, bounded-asked (s .args .t2) (s .pre .1) (lit≤ tt) 2 (lit< tt))
-
-array-copy-out-t13 : tie.Need-array-copy-out-t13
-array-copy-out-t13 c = lit< tt
 
 add-t19 : tie.Need-add-t19
 add-t19 c = omega (arith, counted (c .before .before .before .before .before))
@@ -73,11 +61,11 @@ pub rotate-4-spec : {M : Type 1} → statement M
 rotate-4-spec =
     tie.close
     (tie.spec
-    array-copy-out-rotate-at
-    array-copy-out-rotate-at-2
+    (λ c. lit< tt)  -- array-copy-out-rotate-at
+    (λ c. lit< tt)  -- array-copy-out-rotate-at-2
     rotate-at-requires
-    array-copy-out-rotate-middle
+    (λ c. lit< tt)  -- array-copy-out-rotate-middle
     rotate-middle-requires
-    array-copy-out-t13
+    (λ c. lit< tt)  -- array-copy-out-t13
     add-t19
     returns)

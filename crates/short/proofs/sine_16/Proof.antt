@@ -40,18 +40,6 @@ spent j =
       j .join-sine-16 .ensures .counted,
     )
 
-evens-16-requires : tie.Need-evens-16-requires
-evens-16-requires c κs = tt
-
-sine-8-requires : tie.Need-sine-8-requires
-sine-8-requires c κs = (c .before .pre .0, even c)
-
-folded-differences-16-requires : tie.Need-folded-differences-16-requires
-folded-differences-16-requires c κs = c .before .before .pre .1
-
-dct-4-requires : tie.Need-dct-4-requires
-dct-4-requires c κs = (c .before .before .before .before .pre .0, folded (c .before))
-
 join-sine-16-requires : tie.Need-join-sine-16-requires
 join-sine-16-requires c κs =
     let o = c .before .before in
@@ -66,18 +54,6 @@ join-sine-16-requires c κs =
       ),
       (values 0 (lit< tt) ∙ sine-first 3 x, values 4 (lit< tt) ∙ sine-last 3 x 4 refl),
     )
-
-add-t12 : tie.Need-add-t12
-add-t12 c = omega (arith, spent (c .before .before .before))
-
-add-t13 : tie.Need-add-t13
-add-t13 c = omega (arith, spent (c .before .before .before .before .before))
-
-add-t14 : tie.Need-add-t14
-add-t14 c = omega (arith, spent (c .before .before .before .before .before .before))
-
-add-t15 : tie.Need-add-t15
-add-t15 c = omega (arith, spent (c .before .before .before .before .before .before .before))
 
 returns : tie.Need-returns
 returns c =
@@ -96,13 +72,13 @@ pub sine-16-spec : {M : Type 1} → statement M
 sine-16-spec =
     tie.close
     (tie.spec
-    evens-16-requires
-    sine-8-requires
-    folded-differences-16-requires
-    dct-4-requires
+    (λ c κs. tt)  -- evens-16-requires
+    (λ c κs. (c .before .pre .0, even c))  -- sine-8-requires
+    (λ c κs. c .before .before .pre .1)  -- folded-differences-16-requires
+    (λ c κs. (c .before .before .before .before .pre .0, folded (c .before)))  -- dct-4-requires
     join-sine-16-requires
-    add-t12
-    add-t13
-    add-t14
-    add-t15
+    (λ c. omega (arith, spent (c .before .before .before)))  -- add-t12
+    (λ c. omega (arith, spent (c .before .before .before .before .before)))  -- add-t13
+    (λ c. omega (arith, spent (c .before .before .before .before .before .before)))  -- add-t14
+    (λ c. omega (arith, spent (c .before .before .before .before .before .before .before)))  -- add-t15
     returns)

@@ -26,12 +26,6 @@ folded a =
 spent : (a : tie.After-join-sine-32) → a .before .before .before .before .before .before .sine-16 .result .products + a .before .before .before .before .before .before .sine-16 .result .sums + a .before .before .before .before .before .folded-differences-32 .result .sums + a .before .before .before .dct-8 .result .products + a .before .before .before .dct-8 .result .sums + a .join-sine-32 .result .sums ≤ 2 ^ 20
 spent a = omega (arith, sine-few 4 (a .before .before .before .before .before .before .before .evens-32 .result) (lit≤ tt) (a .before .before .before .before .before .before .sine-16 .ensures), dct-few 3 (a .before .before .before .before .before .folded-differences-32 .result .at) (lit≤ tt) (a .before .before .before .dct-8 .ensures), a .before .before .before .before .before .folded-differences-32 .ensures .counted, a .join-sine-32 .ensures .counted)
 
-sine-16-requires : tie.Need-sine-16-requires
-sine-16-requires c κs = (c .before .pre .0, even c)
-
-dct-8-requires : tie.Need-dct-8-requires
-dct-8-requires c κs = (c .before .before .before .before .pre .0, folded (c .before))
-
 join-sine-32-requires : tie.Need-join-sine-32-requires
 join-sine-32-requires c κs =
     let es = c .before .before .before .before .before .before .evens-32 .result in
@@ -43,18 +37,6 @@ join-sine-32-requires c κs =
       ),
       (E .values 0 (lit< tt) ∙ sine-first 4 (word es), E .values 8 (lit< tt) ∙ sine-last 4 (word es) 8 refl),
     )
-
-add-t12 : tie.Need-add-t12
-add-t12 c = omega (arith, spent (c .before .before .before))
-
-add-t13 : tie.Need-add-t13
-add-t13 c = omega (arith, spent (c .before .before .before .before .before))
-
-add-t14 : tie.Need-add-t14
-add-t14 c = omega (arith, spent (c .before .before .before .before .before .before))
-
-add-t15 : tie.Need-add-t15
-add-t15 c = omega (arith, spent (c .before .before .before .before .before .before .before))
 
 returns : tie.Need-returns
 returns c =
@@ -72,12 +54,12 @@ sine-32-spec =
     tie.close
     (tie.spec
     (λ c κs. search needs)  -- evens-32-requires
-    sine-16-requires
+    (λ c κs. (c .before .pre .0, even c))  -- sine-16-requires
     (λ c κs. search needs)  -- folded-differences-32-requires
-    dct-8-requires
+    (λ c κs. (c .before .before .before .before .pre .0, folded (c .before)))  -- dct-8-requires
     join-sine-32-requires
-    add-t12
-    add-t13
-    add-t14
-    add-t15
+    (λ c. omega (arith, spent (c .before .before .before)))  -- add-t12
+    (λ c. omega (arith, spent (c .before .before .before .before .before)))  -- add-t13
+    (λ c. omega (arith, spent (c .before .before .before .before .before .before)))  -- add-t14
+    (λ c. omega (arith, spent (c .before .before .before .before .before .before .before)))  -- add-t15
     returns)

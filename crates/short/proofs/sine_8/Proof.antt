@@ -40,18 +40,6 @@ spent j =
       j .join-sine-8 .ensures .counted,
     )
 
-evens-8-requires : tie.Need-evens-8-requires
-evens-8-requires c κs = tt
-
-sine-4-requires : tie.Need-sine-4-requires
-sine-4-requires c κs = even c
-
-folded-differences-8-requires : tie.Need-folded-differences-8-requires
-folded-differences-8-requires c κs = c .before .before .pre .1
-
-dct-2-requires : tie.Need-dct-2-requires
-dct-2-requires c κs = (c .before .before .before .before .pre .0, folded (c .before))
-
 join-sine-8-requires : tie.Need-join-sine-8-requires
 join-sine-8-requires c κs =
     let o = c .before .before in
@@ -66,15 +54,6 @@ join-sine-8-requires c κs =
       ),
       (values 0 (lit< tt) ∙ sine-first 2 x, values 2 (lit< tt) ∙ sine-last 2 x 2 refl),
     )
-
-add-t12 : tie.Need-add-t12
-add-t12 c = omega (arith, spent (c .before .before .before))
-
-add-t13 : tie.Need-add-t13
-add-t13 c = omega (arith, spent (c .before .before .before .before))
-
-add-t14 : tie.Need-add-t14
-add-t14 c = omega (arith, spent (c .before .before .before .before .before))
 
 returns : tie.Need-returns
 returns c =
@@ -93,12 +72,12 @@ pub sine-8-spec : {M : Type 1} → statement M
 sine-8-spec =
     tie.close
     (tie.spec
-    evens-8-requires
-    sine-4-requires
-    folded-differences-8-requires
-    dct-2-requires
+    (λ c κs. tt)  -- evens-8-requires
+    (λ c κs. even c)  -- sine-4-requires
+    (λ c κs. c .before .before .pre .1)  -- folded-differences-8-requires
+    (λ c κs. (c .before .before .before .before .pre .0, folded (c .before)))  -- dct-2-requires
     join-sine-8-requires
-    add-t12
-    add-t13
-    add-t14
+    (λ c. omega (arith, spent (c .before .before .before)))  -- add-t12
+    (λ c. omega (arith, spent (c .before .before .before .before)))  -- add-t13
+    (λ c. omega (arith, spent (c .before .before .before .before .before)))  -- add-t14
     returns)
