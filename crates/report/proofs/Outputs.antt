@@ -5,12 +5,12 @@ use mathlib.Core.Path.{_≡_, refl, sym, ap, ap₂, _∙_}
 use mathlib.Core.List.{List, [], _∷_, _++_}
 use Prim.Native.Nat.{ℕ, zero, suc, _+_, _*_, _/_, _≤_, _<_}
 use native.Mathlib.Omega.{arith}
-use lib.IntN.{ℤ, natAbs}
+use lib.IntN.{ℤ}
 use lib.ListN.{length, take}
-use Rattle.ffct.specs.Block.{Samples, isLength, level, largestSample, word}
+use Rattle.ffct.specs.Block.{Samples, isLength, level, word}
 use Rattle.ffct.proofs.Lengths.{pow-len}
 use Rattle.ffct.proofs.ElevenLengths.{is-power, length-le}
-use Rattle.ffct.proofs.Blocks.{Same, pair-same}
+use Rattle.ffct.proofs.Blocks.{pair-same}
 use Rattle.refusals.specs.Refusals.{Verdict, refused, refusedAt, accepted, number}
 use Rattle.text.specs.Lines.{heading, refusal, lines}
 use Rattle.pairfile.specs.declared.FileAnswer.{FileAnswer}

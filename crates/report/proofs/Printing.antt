@@ -12,8 +12,7 @@ use lib.ListN.{length}
 use lib.Pow.{pow-pos}
 use Rattle.ffct.specs.Block.{Samples, isLength, level, word}
 use Rattle.ffct.specs.Transforms.{pair as pairOf}
-use Rattle.ffct.proofs.ElevenLengths.{is-power, length-le}
-use Rattle.blocks.specs.Words.{Written}
+use Rattle.ffct.proofs.ElevenLengths.{is-power}
 use Rattle.refusals.specs.Refusals.{block}
 use Rattle.refusals.proofs.Ranges.{none-out}
 use Rattle.spectra.specs.declared.Answer.{Answer}

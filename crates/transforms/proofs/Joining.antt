@@ -8,15 +8,13 @@ use mathlib.Core.List.{List}
 use Prim.Native.Nat.{ℕ, _+_, _-_, _*_, _/_, _^_, _≤_, _<_}
 use native.Mathlib.Nat.{mul-comm}
 use native.Mathlib.Omega.{arith}
-use lib.Dec.{lit<}
 use lib.IntN.{ℤ, pos, natAbs, negℤ, _+ℤ_, _-ℤ_, _*ℤ_, +ℤ-idl, +ℤ-idr, +ℤ-comm}
 use lib.ListN.{length, set}
 use lib.Signed.{mag}
 use mir.Syntax.{w64}
-use mir.Val.{SFits, toZ, ofZ}
+use mir.Val.{ofZ}
 use Rattle.whole.specs.Round.{round}
-use Rattle.whole.proofs.Size.{_within_, size-within, within-add, within-sub, within-fits}
-use Rattle.whole.proofs.Words.{Word}
+use Rattle.whole.proofs.Size.{_within_, size-within}
 use Rattle.whole.proofs.Operations.{Computes}
 use Rattle.circle.specs.Circle.{T}
 use Rattle.ffct.specs.Block.{largestSum, word}

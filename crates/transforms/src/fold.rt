@@ -93,7 +93,7 @@ pub fn put_folded_differences(w: &mut [i64], n: usize, b: usize) -> u64
         i += 2;
     }
     if i < q {
-        // n = 4
+        // n = 4 has one difference
         let last = put_difference(w, 2 * i + 1, n - 2 * i - 1, b + i);
         sums += last;
     }

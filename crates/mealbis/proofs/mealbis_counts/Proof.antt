@@ -1,5 +1,5 @@
 -- `mealbis::mealbis_counts` meets its contract: the arm taken says which answer of the count query its promise is about. Assumes nothing.
-use mathlib.Core.Path.{_≡_, refl, subst, sym}
+use mathlib.Core.Path.{_≡_, refl, subst}
 use native.Mathlib.Omega.{arith}
 use borrow.Author.Needs.{needs}
 use Prim.Native.Nat.{ℕ}

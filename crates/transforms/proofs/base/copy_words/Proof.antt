@@ -1,5 +1,4 @@
 -- `transforms::base::copy_words` meets its contract: after i turns i words are stored. Assumes nothing.
-use mathlib.Core.Path.{refl}
 use Prim.Native.Nat.{_-_, _≤_}
 use native.Mathlib.Omega.{arith}
 use borrow.Author.Needs.{needs, sfits-of}
