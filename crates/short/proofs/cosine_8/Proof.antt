@@ -1,13 +1,9 @@
 -- `short::cosine_8` meets its contract: its steps are those of (12). Assumes nothing.
-use Prim.Native.Nat.{_+_, _^_, _≤_}
-use native.Mathlib.Nat.{le-trans}
 use native.Mathlib.Omega.{arith}
 use lib.Dec.{lit≤}
-use Rattle.ffct.specs.Transforms.{evens, foldedSums}
-use Rattle.ffct.proofs.Blocks.{dft-same, dct-same}
-use Rattle.ffct.specs.Block.{word}
 use Rattle.short.specs.Short.{Small}
-use Rattle.short.proofs.Short.{even-small, sums-small, cosine-bounded, dct-bounded, cosine-few, dct-few, moved, cosine-short}
+use Rattle.short.proofs.Short.{even-small, sums-small}
+use Rattle.short.proofs.Runs.{cosine-kind, DftRun, joinable, dft-gives, dft-spent}
 use Rattle.short.proofs.cosine_8.Statement.{statement}
 use Rattle.short.proofs.cosine_8.Tie as tie
 
@@ -20,47 +16,23 @@ folded f =
     let s = f .before .before .before in
     sums-small 2 (s .args .x) (s .pre .1) (f .folded-sums-8 .result .at) (f .folded-sums-8 .ensures .values)
 
--- the counts are small
-spent : (j : tie.After-join-cosine-8) →
-    let o = j .before .before .before in
-    let f = o .before .before in
-    let e = f .before in
-    e .cosine-4 .result .sums + f .folded-sums-8 .result .sums + o .dct-2 .result .products + o .dct-2 .result .sums + j .join-cosine-8 .result .sums ≤ 2 ^ 20
-spent j =
-    let o = j .before .before .before in
+-- the run up to the DCT
+run : (o : tie.After-dct-2) →
     let f = o .before .before in
     let e = f .before in
     let v = e .before in
-    omega (
-      arith,
-      cosine-few 2 (v .evens-8 .result) (lit≤ tt) (e .cosine-4 .ensures),
-      dct-few 1 (f .folded-sums-8 .result .at) (lit≤ tt) (o .dct-2 .ensures),
-      f .folded-sums-8 .ensures .counted,
-      j .join-cosine-8 .ensures .counted,
-    )
-
-join-cosine-8-requires : tie.Need-join-cosine-8-requires
-join-cosine-8-requires c κs =
-    let o = c .before .before in
+    DftRun cosine-kind 1 (v .before .args .x) (v .evens-8 .result) (e .cosine-4 .result .at) (f .folded-sums-8 .result .at) (o .dct-2 .result .at)
+    0 (e .cosine-4 .result .sums) (f .folded-sums-8 .result .sums) (o .dct-2 .result .products) (o .dct-2 .result .sums)
+run o =
     let f = o .before .before in
     let e = f .before in
-    let v = e .before in (
-      λ k h. le-trans (cosine-bounded 2 (v .evens-8 .result) (lit≤ tt) (even v) (e .cosine-4 .ensures) (lit≤ tt) k h) (lit≤ tt),
-      λ k h. le-trans (dct-bounded 1 (f .folded-sums-8 .result .at) (lit≤ tt) (folded f) (o .dct-2 .ensures) (lit≤ tt) k h) (lit≤ tt),
-    )
+    let v = e .before in
+    record { top = lit≤ tt; small = v .before .pre .1; evens-are = v .evens-8 .ensures; even = e .cosine-4 .ensures; folds-are = f .folded-sums-8 .ensures; odd = o .dct-2 .ensures }
 
 returns : tie.Need-returns
 returns c =
     let j = c .before .before .before .before .before in
-    let o = j .before .before .before in
-    let f = o .before .before in
-    let e = f .before in
-    let v = e .before in
-    let x = word (v .before .args .x) in
-    cosine-short 1 x
-    (moved (dft-same 2 (word (v .evens-8 .result)) (evens x) (v .evens-8 .ensures) .0) (e .cosine-4 .ensures))
-    (moved (dct-same 1 (word (f .folded-sums-8 .result .at)) (foldedSums 8 x) (f .folded-sums-8 .ensures .values)) (o .dct-2 .ensures))
-    (j .join-cosine-8 .ensures) (omega arith) (omega (arith, f .folded-sums-8 .ensures .counted))
+    dft-gives cosine-kind (run (j .before .before .before)) (j .join-cosine-8 .ensures) (omega arith) (omega arith)
 
 pub cosine-8-spec : {M : Type 1} → statement M
 cosine-8-spec =
@@ -70,8 +42,8 @@ cosine-8-spec =
     (λ c κs. even c)  -- cosine-4-requires
     (λ c κs. c .before .before .pre .1)  -- folded-sums-8-requires
     (λ c κs. (c .before .before .before .before .pre .0, folded (c .before)))  -- dct-2-requires
-    join-cosine-8-requires
-    (λ c. omega (arith, spent (c .before .before .before)))  -- add-t12
-    (λ c. omega (arith, spent (c .before .before .before .before)))  -- add-t13
-    (λ c. omega (arith, spent (c .before .before .before .before .before)))  -- add-t14
+    (λ c κs. joinable cosine-kind (run (c .before .before)))  -- join-cosine-8-requires
+    (λ c. let j = c .before .before .before in omega (arith, dft-spent cosine-kind (run (j .before .before .before)) (j .join-cosine-8 .ensures)))  -- add-t12
+    (λ c. let j = c .before .before .before .before in omega (arith, dft-spent cosine-kind (run (j .before .before .before)) (j .join-cosine-8 .ensures)))  -- add-t13
+    (λ c. let j = c .before .before .before .before .before in omega (arith, dft-spent cosine-kind (run (j .before .before .before)) (j .join-cosine-8 .ensures)))  -- add-t14
     returns)

@@ -9,30 +9,6 @@ use Rattle.short.proofs.Short.{_&_, each, sample-difference, turned}
 use Rattle.short.proofs.folded_differences_16.Statement.{statement}
 use Rattle.short.proofs.folded_differences_16.Tie as tie
 
-sub-first : tie.Need-sub-first
-sub-first c = let s = c .before .before in sample-difference (s .args .t1) (s .pre) 1 15 (lit< tt) (lit< tt) .asked
-
-add-sums : tie.Need-add-sums
-add-sums c = record { fits = lit< tt }
-
-sub-second : tie.Need-sub-second
-sub-second c = let s = c .before .before .before .before in sample-difference (s .args .t1) (s .pre) 13 3 (lit< tt) (lit< tt) .asked
-
-add-sums-2 : tie.Need-add-sums-2
-add-sums-2 c = record { fits = lit< tt }
-
-sub-third : tie.Need-sub-third
-sub-third c = let s = c .before .before .before .before .before .before in sample-difference (s .args .t1) (s .pre) 5 11 (lit< tt) (lit< tt) .asked
-
-add-sums-3 : tie.Need-add-sums-3
-add-sums-3 c = record { fits = lit< tt }
-
-sub-fourth : tie.Need-sub-fourth
-sub-fourth c = let s = c .before .before .before .before .before .before .before .before in sample-difference (s .args .t1) (s .pre) 9 7 (lit< tt) (lit< tt) .asked
-
-add-sums-4 : tie.Need-add-sums-4
-add-sums-4 c = record { fits = lit< tt }
-
 returns : tie.Need-returns
 unfolding alternate
 returns c =
@@ -56,18 +32,18 @@ folded-differences-16-spec =
     (tie.spec
     (λ c. lit< tt)  -- array-copy-out-first
     (λ c. lit< tt)  -- array-copy-out-first-2
-    sub-first
-    add-sums
+    (λ c. let s = c .before .before in sample-difference (s .args .t1) (s .pre) 1 15 (lit< tt) (lit< tt) .asked)  -- sub-first
+    (λ c. record { fits = lit< tt })  -- add-sums
     (λ c. lit< tt)  -- array-copy-out-second
     (λ c. lit< tt)  -- array-copy-out-second-2
-    sub-second
-    add-sums-2
+    (λ c. let s = c .before .before .before .before in sample-difference (s .args .t1) (s .pre) 13 3 (lit< tt) (lit< tt) .asked)  -- sub-second
+    (λ c. record { fits = lit< tt })  -- add-sums-2
     (λ c. lit< tt)  -- array-copy-out-third
     (λ c. lit< tt)  -- array-copy-out-third-2
-    sub-third
-    add-sums-3
+    (λ c. let s = c .before .before .before .before .before .before in sample-difference (s .args .t1) (s .pre) 5 11 (lit< tt) (lit< tt) .asked)  -- sub-third
+    (λ c. record { fits = lit< tt })  -- add-sums-3
     (λ c. lit< tt)  -- array-copy-out-fourth
     (λ c. lit< tt)  -- array-copy-out-fourth-2
-    sub-fourth
-    add-sums-4
+    (λ c. let s = c .before .before .before .before .before .before .before .before in sample-difference (s .args .t1) (s .pre) 9 7 (lit< tt) (lit< tt) .asked)  -- sub-fourth
+    (λ c. record { fits = lit< tt })  -- add-sums-4
     returns)

@@ -7,18 +7,6 @@ use Rattle.short.proofs.Short.{_&_, each, sample-difference, turned}
 use Rattle.short.proofs.folded_differences_8.Statement.{statement}
 use Rattle.short.proofs.folded_differences_8.Tie as tie
 
-sub-first : tie.Need-sub-first
-sub-first c = let s = c .before .before in sample-difference (s .args .t1) (s .pre) 1 7 (lit< tt) (lit< tt) .asked
-
-add-sums : tie.Need-add-sums
-add-sums c = record { fits = lit< tt }
-
-sub-second : tie.Need-sub-second
-sub-second c = let s = c .before .before .before .before in sample-difference (s .args .t1) (s .pre) 5 3 (lit< tt) (lit< tt) .asked
-
-add-sums-2 : tie.Need-add-sums-2
-add-sums-2 c = record { fits = lit< tt }
-
 returns : tie.Need-returns
 unfolding alternate
 returns c =
@@ -40,10 +28,10 @@ folded-differences-8-spec =
     (tie.spec
     (λ c. lit< tt)  -- array-copy-out-first
     (λ c. lit< tt)  -- array-copy-out-first-2
-    sub-first
-    add-sums
+    (λ c. let s = c .before .before in sample-difference (s .args .t1) (s .pre) 1 7 (lit< tt) (lit< tt) .asked)  -- sub-first
+    (λ c. record { fits = lit< tt })  -- add-sums
     (λ c. lit< tt)  -- array-copy-out-second
     (λ c. lit< tt)  -- array-copy-out-second-2
-    sub-second
-    add-sums-2
+    (λ c. let s = c .before .before .before .before in sample-difference (s .args .t1) (s .pre) 5 3 (lit< tt) (lit< tt) .asked)  -- sub-second
+    (λ c. record { fits = lit< tt })  -- add-sums-2
     returns)

@@ -5,30 +5,6 @@ use Rattle.short.proofs.Short.{_&_, each, sample-sum}
 use Rattle.short.proofs.folded_sums_16.Statement.{statement}
 use Rattle.short.proofs.folded_sums_16.Tie as tie
 
-add-first : tie.Need-add-first
-add-first c = let s = c .before .before in sample-sum (s .args .t1) (s .pre) 1 15 (lit< tt) (lit< tt) .asked
-
-add-sums : tie.Need-add-sums
-add-sums c = record { fits = lit< tt }
-
-add-second : tie.Need-add-second
-add-second c = let s = c .before .before .before .before in sample-sum (s .args .t1) (s .pre) 3 13 (lit< tt) (lit< tt) .asked
-
-add-sums-2 : tie.Need-add-sums-2
-add-sums-2 c = record { fits = lit< tt }
-
-add-third : tie.Need-add-third
-add-third c = let s = c .before .before .before .before .before .before in sample-sum (s .args .t1) (s .pre) 5 11 (lit< tt) (lit< tt) .asked
-
-add-sums-3 : tie.Need-add-sums-3
-add-sums-3 c = record { fits = lit< tt }
-
-add-fourth : tie.Need-add-fourth
-add-fourth c = let s = c .before .before .before .before .before .before .before .before in sample-sum (s .args .t1) (s .pre) 7 9 (lit< tt) (lit< tt) .asked
-
-add-sums-4 : tie.Need-add-sums-4
-add-sums-4 c = record { fits = lit< tt }
-
 returns : tie.Need-returns
 returns c =
     let s = c .before .before .before .before .before .before .before .before in
@@ -51,18 +27,18 @@ folded-sums-16-spec =
     (tie.spec
     (λ c. lit< tt)  -- array-copy-out-first
     (λ c. lit< tt)  -- array-copy-out-first-2
-    add-first
-    add-sums
+    (λ c. let s = c .before .before in sample-sum (s .args .t1) (s .pre) 1 15 (lit< tt) (lit< tt) .asked)  -- add-first
+    (λ c. record { fits = lit< tt })  -- add-sums
     (λ c. lit< tt)  -- array-copy-out-second
     (λ c. lit< tt)  -- array-copy-out-second-2
-    add-second
-    add-sums-2
+    (λ c. let s = c .before .before .before .before in sample-sum (s .args .t1) (s .pre) 3 13 (lit< tt) (lit< tt) .asked)  -- add-second
+    (λ c. record { fits = lit< tt })  -- add-sums-2
     (λ c. lit< tt)  -- array-copy-out-third
     (λ c. lit< tt)  -- array-copy-out-third-2
-    add-third
-    add-sums-3
+    (λ c. let s = c .before .before .before .before .before .before in sample-sum (s .args .t1) (s .pre) 5 11 (lit< tt) (lit< tt) .asked)  -- add-third
+    (λ c. record { fits = lit< tt })  -- add-sums-3
     (λ c. lit< tt)  -- array-copy-out-fourth
     (λ c. lit< tt)  -- array-copy-out-fourth-2
-    add-fourth
-    add-sums-4
+    (λ c. let s = c .before .before .before .before .before .before .before .before in sample-sum (s .args .t1) (s .pre) 7 9 (lit< tt) (lit< tt) .asked)  -- add-fourth
+    (λ c. record { fits = lit< tt })  -- add-sums-4
     returns)

@@ -5,18 +5,6 @@ use Rattle.short.proofs.Short.{_&_, each, sample-sum}
 use Rattle.short.proofs.folded_sums_8.Statement.{statement}
 use Rattle.short.proofs.folded_sums_8.Tie as tie
 
-add-first : tie.Need-add-first
-add-first c = let s = c .before .before in sample-sum (s .args .t1) (s .pre) 1 7 (lit< tt) (lit< tt) .asked
-
-add-sums : tie.Need-add-sums
-add-sums c = record { fits = lit< tt }
-
-add-second : tie.Need-add-second
-add-second c = let s = c .before .before .before .before in sample-sum (s .args .t1) (s .pre) 3 5 (lit< tt) (lit< tt) .asked
-
-add-sums-2 : tie.Need-add-sums-2
-add-sums-2 c = record { fits = lit< tt }
-
 returns : tie.Need-returns
 returns c =
     let s = c .before .before .before .before in
@@ -37,10 +25,10 @@ folded-sums-8-spec =
     (tie.spec
     (λ c. lit< tt)  -- array-copy-out-first
     (λ c. lit< tt)  -- array-copy-out-first-2
-    add-first
-    add-sums
+    (λ c. let s = c .before .before in sample-sum (s .args .t1) (s .pre) 1 7 (lit< tt) (lit< tt) .asked)  -- add-first
+    (λ c. record { fits = lit< tt })  -- add-sums
     (λ c. lit< tt)  -- array-copy-out-second
     (λ c. lit< tt)  -- array-copy-out-second-2
-    add-second
-    add-sums-2
+    (λ c. let s = c .before .before .before .before in sample-sum (s .args .t1) (s .pre) 3 5 (lit< tt) (lit< tt) .asked)  -- add-second
+    (λ c. record { fits = lit< tt })  -- add-sums-2
     returns)

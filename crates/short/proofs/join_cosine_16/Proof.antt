@@ -23,27 +23,6 @@ counted a₄ =
     let a₁ = a₂ .before .before .before in
     omega (arith, a₁ .butterfly .ensures .counted, a₂ .butterfly2 .ensures .counted, a₃ .butterfly3 .ensures .counted, a₄ .butterfly4 .ensures .counted)
 
-butterfly-requires : tie.Need-butterfly-requires
-butterfly-requires c κs = let s = c .before .before in join-asked (s .args .t1) (s .args .t2) (s .pre .0) (s .pre .1) 0 0 (lit< tt) (lit< tt)
-
-butterfly-requires-2 : tie.Need-butterfly-requires-2
-butterfly-requires-2 c κs = let s = c .before .before .before .before .before in join-asked (s .args .t1) (s .args .t2) (s .pre .0) (s .pre .1) 1 1 (lit< tt) (lit< tt)
-
-butterfly-requires-3 : tie.Need-butterfly-requires-3
-butterfly-requires-3 c κs = let s = c .before .before .before .before .before .before .before .before in join-asked (s .args .t1) (s .args .t2) (s .pre .0) (s .pre .1) 2 2 (lit< tt) (lit< tt)
-
-butterfly-requires-4 : tie.Need-butterfly-requires-4
-butterfly-requires-4 c κs = let s = c .before .before .before .before .before .before .before .before .before .before .before in join-asked (s .args .t1) (s .args .t2) (s .pre .0) (s .pre .1) 3 3 (lit< tt) (lit< tt)
-
-add-t30 : tie.Need-add-t30
-add-t30 c = omega (arith, counted (c .before .before .before .before .before .before .before))
-
-add-t31 : tie.Need-add-t31
-add-t31 c = omega (arith, counted (c .before .before .before .before .before .before .before .before))
-
-add-t32 : tie.Need-add-t32
-add-t32 c = omega (arith, counted (c .before .before .before .before .before .before .before .before .before))
-
 returns : tie.Need-returns
 unfolding cosineBeyond dctBeyond
 returns c =
@@ -80,18 +59,18 @@ join-cosine-16-spec =
     (tie.spec
     (λ c. lit< tt)  -- array-copy-out-butterfly
     (λ c. lit< tt)  -- array-copy-out-butterfly-2
-    butterfly-requires
+    (λ c κs. let s = c .before .before in join-asked (s .args .t1) (s .args .t2) (s .pre .0) (s .pre .1) 0 0 (lit< tt) (lit< tt))  -- butterfly-requires
     (λ c. lit< tt)  -- array-copy-out-butterfly-3
     (λ c. lit< tt)  -- array-copy-out-butterfly-4
-    butterfly-requires-2
+    (λ c κs. let s = c .before .before .before .before .before in join-asked (s .args .t1) (s .args .t2) (s .pre .0) (s .pre .1) 1 1 (lit< tt) (lit< tt))  -- butterfly-requires-2
     (λ c. lit< tt)  -- array-copy-out-butterfly-5
     (λ c. lit< tt)  -- array-copy-out-butterfly-6
-    butterfly-requires-3
+    (λ c κs. let s = c .before .before .before .before .before .before .before .before in join-asked (s .args .t1) (s .args .t2) (s .pre .0) (s .pre .1) 2 2 (lit< tt) (lit< tt))  -- butterfly-requires-3
     (λ c. lit< tt)  -- array-copy-out-butterfly-7
     (λ c. lit< tt)  -- array-copy-out-butterfly-8
-    butterfly-requires-4
+    (λ c κs. let s = c .before .before .before .before .before .before .before .before .before .before .before in join-asked (s .args .t1) (s .args .t2) (s .pre .0) (s .pre .1) 3 3 (lit< tt) (lit< tt))  -- butterfly-requires-4
     (λ c. lit< tt)  -- array-copy-out-t11
-    add-t30
-    add-t31
-    add-t32
+    (λ c. omega (arith, counted (c .before .before .before .before .before .before .before)))  -- add-t30
+    (λ c. omega (arith, counted (c .before .before .before .before .before .before .before .before)))  -- add-t31
+    (λ c. omega (arith, counted (c .before .before .before .before .before .before .before .before .before)))  -- add-t32
     returns)

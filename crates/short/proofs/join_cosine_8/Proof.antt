@@ -19,15 +19,6 @@ counted a₂ =
     let a₁ = a₂ .before .before .before in
     omega (arith, a₁ .butterfly .ensures .counted, a₂ .butterfly2 .ensures .counted)
 
-butterfly-requires : tie.Need-butterfly-requires
-butterfly-requires c κs = let s = c .before .before in join-asked (s .args .t1) (s .args .t2) (s .pre .0) (s .pre .1) 0 0 (lit< tt) (lit< tt)
-
-butterfly-requires-2 : tie.Need-butterfly-requires-2
-butterfly-requires-2 c κs = let s = c .before .before .before .before .before in join-asked (s .args .t1) (s .args .t2) (s .pre .0) (s .pre .1) 1 1 (lit< tt) (lit< tt)
-
-add-t20 : tie.Need-add-t20
-add-t20 c = omega (arith, counted (c .before .before .before .before .before))
-
 returns : tie.Need-returns
 unfolding cosineBeyond dctBeyond
 returns c =
@@ -56,10 +47,10 @@ join-cosine-8-spec =
     (tie.spec
     (λ c. lit< tt)  -- array-copy-out-butterfly
     (λ c. lit< tt)  -- array-copy-out-butterfly-2
-    butterfly-requires
+    (λ c κs. let s = c .before .before in join-asked (s .args .t1) (s .args .t2) (s .pre .0) (s .pre .1) 0 0 (lit< tt) (lit< tt))  -- butterfly-requires
     (λ c. lit< tt)  -- array-copy-out-butterfly-3
     (λ c. lit< tt)  -- array-copy-out-butterfly-4
-    butterfly-requires-2
+    (λ c κs. let s = c .before .before .before .before .before in join-asked (s .args .t1) (s .args .t2) (s .pre .0) (s .pre .1) 1 1 (lit< tt) (lit< tt))  -- butterfly-requires-2
     (λ c. lit< tt)  -- array-copy-out-t9
-    add-t20
+    (λ c. omega (arith, counted (c .before .before .before .before .before)))  -- add-t20
     returns)

@@ -21,21 +21,6 @@ counted a₃ =
     let a₁ = a₂ .before .before .before in
     omega (arith, a₁ .butterfly .ensures .counted, a₂ .butterfly2 .ensures .counted, a₃ .butterfly3 .ensures .counted)
 
-butterfly-requires : tie.Need-butterfly-requires
-butterfly-requires c κs = let s = c .before .before in join-asked (s .args .t2) (s .args .t1) (s .pre .0 .1) (s .pre .0 .0) 3 1 (lit< tt) (lit< tt)
-
-butterfly-requires-2 : tie.Need-butterfly-requires-2
-butterfly-requires-2 c κs = let s = c .before .before .before .before .before in join-asked (s .args .t2) (s .args .t1) (s .pre .0 .1) (s .pre .0 .0) 2 2 (lit< tt) (lit< tt)
-
-butterfly-requires-3 : tie.Need-butterfly-requires-3
-butterfly-requires-3 c κs = let s = c .before .before .before .before .before .before .before .before in join-asked (s .args .t2) (s .args .t1) (s .pre .0 .1) (s .pre .0 .0) 1 3 (lit< tt) (lit< tt)
-
-add-t25 : tie.Need-add-t25
-add-t25 c = omega (arith, counted (c .before .before .before .before .before .before))
-
-add-t26 : tie.Need-add-t26
-add-t26 c = omega (arith, counted (c .before .before .before .before .before .before .before))
-
 returns : tie.Need-returns
 unfolding sineBeyond dctBeyond apart
 returns c =
@@ -70,14 +55,14 @@ join-sine-16-spec =
     (tie.spec
     (λ c. lit< tt)  -- array-copy-out-butterfly
     (λ c. lit< tt)  -- array-copy-out-butterfly-2
-    butterfly-requires
+    (λ c κs. let s = c .before .before in join-asked (s .args .t2) (s .args .t1) (s .pre .0 .1) (s .pre .0 .0) 3 1 (lit< tt) (lit< tt))  -- butterfly-requires
     (λ c. lit< tt)  -- array-copy-out-butterfly-3
     (λ c. lit< tt)  -- array-copy-out-butterfly-4
-    butterfly-requires-2
+    (λ c κs. let s = c .before .before .before .before .before in join-asked (s .args .t2) (s .args .t1) (s .pre .0 .1) (s .pre .0 .0) 2 2 (lit< tt) (lit< tt))  -- butterfly-requires-2
     (λ c. lit< tt)  -- array-copy-out-butterfly-5
     (λ c. lit< tt)  -- array-copy-out-butterfly-6
-    butterfly-requires-3
+    (λ c κs. let s = c .before .before .before .before .before .before .before .before in join-asked (s .args .t2) (s .args .t1) (s .pre .0 .1) (s .pre .0 .0) 1 3 (lit< tt) (lit< tt))  -- butterfly-requires-3
     (λ c. lit< tt)  -- array-copy-out-t10
-    add-t25
-    add-t26
+    (λ c. omega (arith, counted (c .before .before .before .before .before .before)))  -- add-t25
+    (λ c. omega (arith, counted (c .before .before .before .before .before .before .before)))  -- add-t26
     returns)

@@ -7,7 +7,7 @@ use lib.Dec.{lit<}
 use lib.IntN.{pos, negℤ, _+ℤ_, +ℤ-idl, +ℤ-comm}
 use Rattle.ffct.specs.Transforms.{sineBeyond, dctBeyond, apart}
 use Rattle.ffct.specs.Block.{word}
-use Rattle.short.proofs.Short.{each, bounded-word, join-asked, join-wings}
+use Rattle.short.proofs.Short.{_&_, each, bounded-word, join-asked, join-wings}
 use borrow.Author.Needs.{needs}
 use Rattle.short.proofs.join_sine_32.Statement.{statement}
 use Rattle.short.proofs.join_sine_32.Tie as tie
@@ -15,45 +15,6 @@ use Rattle.short.proofs.join_sine_32.Tie as tie
 -- the sums that they take
 counted : (a : tie.After-butterfly7) → a .before .before .before .before .before .before .before .before .before .before .before .before .before .before .before .before .before .before .butterfly .result .sums + a .before .before .before .before .before .before .before .before .before .before .before .before .before .before .before .butterfly2 .result .sums + a .before .before .before .before .before .before .before .before .before .before .before .before .butterfly3 .result .sums + a .before .before .before .before .before .before .before .before .before .butterfly4 .result .sums + (a .before .before .before .before .before .before .butterfly5 .result .sums + a .before .before .before .butterfly6 .result .sums + a .butterfly7 .result .sums) ≡ 14
 counted a = omega (arith, a .before .before .before .before .before .before .before .before .before .before .before .before .before .before .before .before .before .before .butterfly .ensures .counted, a .before .before .before .before .before .before .before .before .before .before .before .before .before .before .before .butterfly2 .ensures .counted, a .before .before .before .before .before .before .before .before .before .before .before .before .butterfly3 .ensures .counted, a .before .before .before .before .before .before .before .before .before .butterfly4 .ensures .counted, a .before .before .before .before .before .before .butterfly5 .ensures .counted, a .before .before .before .butterfly6 .ensures .counted, a .butterfly7 .ensures .counted)
-
-butterfly-requires : tie.Need-butterfly-requires
-butterfly-requires c κs = let s = c .before .before in join-asked (s .args .t2) (s .args .t1) (s .pre .0 .1) (s .pre .0 .0) 7 1 (lit< tt) (lit< tt)
-
-butterfly-requires-2 : tie.Need-butterfly-requires-2
-butterfly-requires-2 c κs = let s = c .before .before .before .before .before in join-asked (s .args .t2) (s .args .t1) (s .pre .0 .1) (s .pre .0 .0) 6 2 (lit< tt) (lit< tt)
-
-butterfly-requires-3 : tie.Need-butterfly-requires-3
-butterfly-requires-3 c κs = let s = c .before .before .before .before .before .before .before .before in join-asked (s .args .t2) (s .args .t1) (s .pre .0 .1) (s .pre .0 .0) 5 3 (lit< tt) (lit< tt)
-
-butterfly-requires-4 : tie.Need-butterfly-requires-4
-butterfly-requires-4 c κs = let s = c .before .before .before .before .before .before .before .before .before .before .before in join-asked (s .args .t2) (s .args .t1) (s .pre .0 .1) (s .pre .0 .0) 4 4 (lit< tt) (lit< tt)
-
-butterfly-requires-5 : tie.Need-butterfly-requires-5
-butterfly-requires-5 c κs = let s = c .before .before .before .before .before .before .before .before .before .before .before .before .before .before in join-asked (s .args .t2) (s .args .t1) (s .pre .0 .1) (s .pre .0 .0) 3 5 (lit< tt) (lit< tt)
-
-butterfly-requires-6 : tie.Need-butterfly-requires-6
-butterfly-requires-6 c κs = let s = c .before .before .before .before .before .before .before .before .before .before .before .before .before .before .before .before .before in join-asked (s .args .t2) (s .args .t1) (s .pre .0 .1) (s .pre .0 .0) 2 6 (lit< tt) (lit< tt)
-
-butterfly-requires-7 : tie.Need-butterfly-requires-7
-butterfly-requires-7 c κs = let s = c .before .before .before .before .before .before .before .before .before .before .before .before .before .before .before .before .before .before .before .before in join-asked (s .args .t2) (s .args .t1) (s .pre .0 .1) (s .pre .0 .0) 1 7 (lit< tt) (lit< tt)
-
-add-lower : tie.Need-add-lower
-add-lower c = omega (arith, counted (c .before .before))
-
-add-lower-2 : tie.Need-add-lower-2
-add-lower-2 c = omega (arith, counted (c .before .before .before))
-
-add-lower-3 : tie.Need-add-lower-3
-add-lower-3 c = omega (arith, counted (c .before .before .before .before))
-
-add-upper : tie.Need-add-upper
-add-upper c = omega (arith, counted (c .before .before .before .before .before .before))
-
-add-upper-2 : tie.Need-add-upper-2
-add-upper-2 c = omega (arith, counted (c .before .before .before .before .before .before .before))
-
-add-t44 : tie.Need-add-t44
-add-t44 c = omega (arith, counted (c .before .before .before .before .before .before .before .before .before .before .before .before .before .before .before))
 
 returns : tie.Need-returns
 unfolding sineBeyond dctBeyond apart
@@ -71,54 +32,25 @@ returns c =
     let seventh = join-wings d e (s .pre .0 .1) (s .pre .0 .0) 1 7 (lit< tt) (lit< tt) (a .butterfly7 .ensures) in
     record {
       values = each 17 _ (
-        sym (ap (λ z. z +ℤ pos 0) (s .pre .1 .0)),
-        (
-          first .sum .is ∙ +ℤ-comm (word d 7) (word e 1),
-          (
-            second .sum .is ∙ +ℤ-comm (word d 6) (word e 2),
-            (
-              third .sum .is ∙ +ℤ-comm (word d 5) (word e 3),
-              (
-                fourth .sum .is ∙ +ℤ-comm (word d 4) (word e 4),
-                (
-                  fifth .sum .is ∙ +ℤ-comm (word d 3) (word e 5),
-                  (
-                    sixth .sum .is ∙ +ℤ-comm (word d 2) (word e 6),
-                    (
-                      seventh .sum .is ∙ +ℤ-comm (word d 1) (word e 7),
-                      (
-                        bounded-word d (s .pre .0 .1) (le-refl _) 0 (lit< tt) .is ∙ sym (ap (λ z. z +ℤ word d 0) (s .pre .1 .1) ∙ +ℤ-idl (word d 0)),
-                        (
-                          seventh .difference .is ∙ +ℤ-comm (word d 1) (negℤ (word e 7)),
-                          (
-                            sixth .difference .is ∙ +ℤ-comm (word d 2) (negℤ (word e 6)),
-                            (
-                              fifth .difference .is ∙ +ℤ-comm (word d 3) (negℤ (word e 5)),
-                              (
-                                fourth .difference .is ∙ +ℤ-comm (word d 4) (negℤ (word e 4)),
-                                (
-                                  third .difference .is ∙ +ℤ-comm (word d 5) (negℤ (word e 3)),
-                                  (
-                                    second .difference .is ∙ +ℤ-comm (word d 6) (negℤ (word e 2)),
-                                    (
-                                      first .difference .is ∙ +ℤ-comm (word d 7) (negℤ (word e 1)),
-                                      (sym (ap (λ z. negℤ z +ℤ pos 0) (s .pre .1 .0)), tt),
-                                    ),
-                                  ),
-                                ),
-                              ),
-                            ),
-                          ),
-                        ),
-                      ),
-                    ),
-                  ),
-                ),
-              ),
-            ),
-          ),
-        ),
-      );
+          sym (ap (λ z. z +ℤ pos 0) (s .pre .1 .0)) &
+          first .sum .is ∙ +ℤ-comm (word d 7) (word e 1) &
+          second .sum .is ∙ +ℤ-comm (word d 6) (word e 2) &
+          third .sum .is ∙ +ℤ-comm (word d 5) (word e 3) &
+          fourth .sum .is ∙ +ℤ-comm (word d 4) (word e 4) &
+          fifth .sum .is ∙ +ℤ-comm (word d 3) (word e 5) &
+          sixth .sum .is ∙ +ℤ-comm (word d 2) (word e 6) &
+          seventh .sum .is ∙ +ℤ-comm (word d 1) (word e 7) &
+          bounded-word d (s .pre .0 .1) (le-refl _) 0 (lit< tt) .is ∙ sym (ap (λ z. z +ℤ word d 0) (s .pre .1 .1) ∙ +ℤ-idl (word d 0)) &
+          seventh .difference .is ∙ +ℤ-comm (word d 1) (negℤ (word e 7)) &
+          sixth .difference .is ∙ +ℤ-comm (word d 2) (negℤ (word e 6)) &
+          fifth .difference .is ∙ +ℤ-comm (word d 3) (negℤ (word e 5)) &
+          fourth .difference .is ∙ +ℤ-comm (word d 4) (negℤ (word e 4)) &
+          third .difference .is ∙ +ℤ-comm (word d 5) (negℤ (word e 3)) &
+          second .difference .is ∙ +ℤ-comm (word d 6) (negℤ (word e 2)) &
+          first .difference .is ∙ +ℤ-comm (word d 7) (negℤ (word e 1)) &
+          sym (ap (λ z. negℤ z +ℤ pos 0) (s .pre .1 .0)) &
+          tt
+          );
       counted = counted a;
     }
 
@@ -128,30 +60,30 @@ join-sine-32-spec =
     (tie.spec
     (λ c. search needs)  -- array-copy-out-butterfly
     (λ c. search needs)  -- array-copy-out-butterfly-2
-    butterfly-requires
+    (λ c κs. let s = c .before .before in join-asked (s .args .t2) (s .args .t1) (s .pre .0 .1) (s .pre .0 .0) 7 1 (lit< tt) (lit< tt))  -- butterfly-requires
     (λ c. search needs)  -- array-copy-out-butterfly-3
     (λ c. search needs)  -- array-copy-out-butterfly-4
-    butterfly-requires-2
+    (λ c κs. let s = c .before .before .before .before .before in join-asked (s .args .t2) (s .args .t1) (s .pre .0 .1) (s .pre .0 .0) 6 2 (lit< tt) (lit< tt))  -- butterfly-requires-2
     (λ c. search needs)  -- array-copy-out-butterfly-5
     (λ c. search needs)  -- array-copy-out-butterfly-6
-    butterfly-requires-3
+    (λ c κs. let s = c .before .before .before .before .before .before .before .before in join-asked (s .args .t2) (s .args .t1) (s .pre .0 .1) (s .pre .0 .0) 5 3 (lit< tt) (lit< tt))  -- butterfly-requires-3
     (λ c. search needs)  -- array-copy-out-butterfly-7
     (λ c. search needs)  -- array-copy-out-butterfly-8
-    butterfly-requires-4
+    (λ c κs. let s = c .before .before .before .before .before .before .before .before .before .before .before in join-asked (s .args .t2) (s .args .t1) (s .pre .0 .1) (s .pre .0 .0) 4 4 (lit< tt) (lit< tt))  -- butterfly-requires-4
     (λ c. search needs)  -- array-copy-out-butterfly-9
     (λ c. search needs)  -- array-copy-out-butterfly-10
-    butterfly-requires-5
+    (λ c κs. let s = c .before .before .before .before .before .before .before .before .before .before .before .before .before .before in join-asked (s .args .t2) (s .args .t1) (s .pre .0 .1) (s .pre .0 .0) 3 5 (lit< tt) (lit< tt))  -- butterfly-requires-5
     (λ c. search needs)  -- array-copy-out-butterfly-11
     (λ c. search needs)  -- array-copy-out-butterfly-12
-    butterfly-requires-6
+    (λ c κs. let s = c .before .before .before .before .before .before .before .before .before .before .before .before .before .before .before .before .before in join-asked (s .args .t2) (s .args .t1) (s .pre .0 .1) (s .pre .0 .0) 2 6 (lit< tt) (lit< tt))  -- butterfly-requires-6
     (λ c. search needs)  -- array-copy-out-butterfly-13
     (λ c. search needs)  -- array-copy-out-butterfly-14
-    butterfly-requires-7
-    add-lower
-    add-lower-2
-    add-lower-3
-    add-upper
-    add-upper-2
+    (λ c κs. let s = c .before .before .before .before .before .before .before .before .before .before .before .before .before .before .before .before .before .before .before .before in join-asked (s .args .t2) (s .args .t1) (s .pre .0 .1) (s .pre .0 .0) 1 7 (lit< tt) (lit< tt))  -- butterfly-requires-7
+    (λ c. omega (arith, counted (c .before .before)))  -- add-lower
+    (λ c. omega (arith, counted (c .before .before .before)))  -- add-lower-2
+    (λ c. omega (arith, counted (c .before .before .before .before)))  -- add-lower-3
+    (λ c. omega (arith, counted (c .before .before .before .before .before .before)))  -- add-upper
+    (λ c. omega (arith, counted (c .before .before .before .before .before .before .before)))  -- add-upper-2
     (λ c. search needs)  -- array-copy-out-t16
-    add-t44
+    (λ c. omega (arith, counted (c .before .before .before .before .before .before .before .before .before .before .before .before .before .before .before)))  -- add-t44
     returns)

@@ -14,9 +14,6 @@ use Rattle.short.proofs.join_sine_8.Tie as tie
 counted : (a₁ : tie.After-butterfly) → a₁ .butterfly .result .sums ≡ 2
 counted a₁ = omega (arith, a₁ .butterfly .ensures .counted)
 
-butterfly-requires : tie.Need-butterfly-requires
-butterfly-requires c κs = let s = c .before .before in join-asked (s .args .t2) (s .args .t1) (s .pre .0 .1) (s .pre .0 .0) 1 1 (lit< tt) (lit< tt)
-
 returns : tie.Need-returns
 unfolding sineBeyond dctBeyond apart
 returns c =
@@ -43,6 +40,6 @@ join-sine-8-spec =
     (tie.spec
     (λ c. lit< tt)  -- array-copy-out-butterfly
     (λ c. lit< tt)  -- array-copy-out-butterfly-2
-    butterfly-requires
+    (λ c κs. let s = c .before .before in join-asked (s .args .t2) (s .args .t1) (s .pre .0 .1) (s .pre .0 .0) 1 1 (lit< tt) (lit< tt))  -- butterfly-requires
     (λ c. lit< tt)  -- array-copy-out-t8
     returns)

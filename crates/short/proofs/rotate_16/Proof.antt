@@ -8,7 +8,7 @@ use Rattle.whole.specs.Round.{round}
 use Rattle.circle.specs.Circle.{T}
 use Rattle.ffct.specs.Transforms.{rotated}
 use Rattle.whole.proofs.Words.{held}
-use Rattle.short.proofs.Short.{each, bounded-word, bounded-asked, turn-asked, turn}
+use Rattle.short.proofs.Short.{_&_, each, bounded-word, bounded-asked, turn-asked, turn}
 use borrow.Author.Needs.{needs}
 use Rattle.short.proofs.rotate_16.Statement.{statement}
 use Rattle.short.proofs.rotate_16.Tie as tie
@@ -59,48 +59,6 @@ rotate-at-requires-7 c κs =
     let asked = turn-asked (s .args .t2) (s .args .t3) (s .pre .1) (s .pre .2) 7 (lit< tt) in
     (s .pre .0, lit≤ tt, asked .0, asked .1)
 
-rotate-middle-requires : tie.Need-rotate-middle-requires
-rotate-middle-requires c κs = let s = c .before .before .before .before .before .before .before .before .before .before .before .before .before .before .before .before .before .before .before .before .before .before in (s .pre .0, bounded-asked (s .args .t2) (s .pre .1) (lit≤ tt) 8 (lit< tt))
-
-add-products : tie.Need-add-products
-add-products c = omega (arith, counted (c .before .before))
-
-add-products-2 : tie.Need-add-products-2
-add-products-2 c = omega (arith, counted (c .before .before .before))
-
-add-products-3 : tie.Need-add-products-3
-add-products-3 c = omega (arith, counted (c .before .before .before .before))
-
-add-sums : tie.Need-add-sums
-add-sums c = omega (arith, counted (c .before .before .before .before .before .before))
-
-add-sums-2 : tie.Need-add-sums-2
-add-sums-2 c = omega (arith, counted (c .before .before .before .before .before .before .before))
-
-add-sums-3 : tie.Need-add-sums-3
-add-sums-3 c = omega (arith, counted (c .before .before .before .before .before .before .before .before))
-
-add-t49 : tie.Need-add-t49
-add-t49 c = omega (arith, counted (c .before .before .before .before .before .before .before .before .before .before .before .before .before .before .before .before .before .before))
-
-add-t48 : tie.Need-add-t48
-add-t48 c = omega (arith, counted (c .before .before .before .before .before .before .before .before .before .before .before .before .before .before .before .before .before .before .before))
-
-add-t53 : tie.Need-add-t53
-add-t53 c = omega (arith, counted (c .before .before .before .before .before .before .before .before .before .before .before .before .before .before .before .before .before .before .before .before))
-
-add-t54 : tie.Need-add-t54
-add-t54 c = omega (arith, counted (c .before .before .before .before .before .before .before .before .before .before .before .before .before .before .before .before .before .before .before .before .before))
-
-add-t55 : tie.Need-add-t55
-add-t55 c = omega (arith, counted (c .before .before .before .before .before .before .before .before .before .before .before .before .before .before .before .before .before .before .before .before .before .before))
-
-add-t56 : tie.Need-add-t56
-add-t56 c = omega (arith, counted (c .before .before .before .before .before .before .before .before .before .before .before .before .before .before .before .before .before .before .before .before .before .before .before))
-
-add-t57 : tie.Need-add-t57
-add-t57 c = omega (arith, counted (c .before .before .before .before .before .before .before .before .before .before .before .before .before .before .before .before .before .before .before .before .before .before .before .before))
-
 returns : tie.Need-returns
 unfolding rotated
 returns c =
@@ -117,51 +75,24 @@ returns c =
     let seventh = turn cs ss (s .pre .1) (s .pre .2) 7 (lit< tt) (a .before .before .rotate-at7 .ensures) in
     record {
       values = each 16 _ (
-        bounded-word cs (s .pre .1) (lit≤ tt) 0 (lit< tt) .is,
-        (
-          held (c .before .before .before .before .before .before .before .before .before .before .before .before .before .before .struct-told .given .0 .1) (first .low) .is,
-          (
-            held (c .before .before .before .before .before .before .before .before .before .before .before .before .before .struct-told2 .given .0 .1) (second .low) .is,
-            (
-              held (c .before .before .before .before .before .before .before .before .before .before .before .before .struct-told3 .given .0 .1) (third .low) .is,
-              (
-                held (c .before .before .before .before .before .before .before .before .before .before .before .struct-told4 .given .0 .1) (fourth .low) .is,
-                (
-                  held (c .before .before .before .before .before .before .before .before .before .before .struct-told5 .given .0 .1) (fifth .low) .is,
-                  (
-                    held (c .before .before .before .before .before .before .before .before .before .struct-told6 .given .0 .1) (sixth .low) .is,
-                    (
-                      held (c .before .before .before .before .before .before .before .before .struct-told7 .given .0 .1) (seventh .low) .is,
-                      (
-                        held (c .before .before .before .before .before .before .before .struct-told8 .given .0 .1) (a .rotate-middle .ensures .middle) .is ∙ ap (λ z. round (T 512 *ℤ z)) (bounded-word cs (s .pre .1) (lit≤ tt) 8 (lit< tt) .is),
-                        (
-                          held (c .before .before .before .before .before .before .before .before .struct-told7 .given .1 .0 .1) (seventh .high) .is,
-                          (
-                            held (c .before .before .before .before .before .before .before .before .before .struct-told6 .given .1 .0 .1) (sixth .high) .is,
-                            (
-                              held (c .before .before .before .before .before .before .before .before .before .before .struct-told5 .given .1 .0 .1) (fifth .high) .is,
-                              (
-                                held (c .before .before .before .before .before .before .before .before .before .before .before .struct-told4 .given .1 .0 .1) (fourth .high) .is,
-                                (
-                                  held (c .before .before .before .before .before .before .before .before .before .before .before .before .struct-told3 .given .1 .0 .1) (third .high) .is,
-                                  (
-                                    held (c .before .before .before .before .before .before .before .before .before .before .before .before .before .struct-told2 .given .1 .0 .1) (second .high) .is,
-                                    (held (c .before .before .before .before .before .before .before .before .before .before .before .before .before .before .struct-told .given .1 .0 .1) (first .high) .is, tt),
-                                  ),
-                                ),
-                              ),
-                            ),
-                          ),
-                        ),
-                      ),
-                    ),
-                  ),
-                ),
-              ),
-            ),
-          ),
-        ),
-      );
+          bounded-word cs (s .pre .1) (lit≤ tt) 0 (lit< tt) .is &
+          held (c .before .before .before .before .before .before .before .before .before .before .before .before .before .before .struct-told .given .0 .1) (first .low) .is &
+          held (c .before .before .before .before .before .before .before .before .before .before .before .before .before .struct-told2 .given .0 .1) (second .low) .is &
+          held (c .before .before .before .before .before .before .before .before .before .before .before .before .struct-told3 .given .0 .1) (third .low) .is &
+          held (c .before .before .before .before .before .before .before .before .before .before .before .struct-told4 .given .0 .1) (fourth .low) .is &
+          held (c .before .before .before .before .before .before .before .before .before .before .struct-told5 .given .0 .1) (fifth .low) .is &
+          held (c .before .before .before .before .before .before .before .before .before .struct-told6 .given .0 .1) (sixth .low) .is &
+          held (c .before .before .before .before .before .before .before .before .struct-told7 .given .0 .1) (seventh .low) .is &
+          held (c .before .before .before .before .before .before .before .struct-told8 .given .0 .1) (a .rotate-middle .ensures .middle) .is ∙ ap (λ z. round (T 512 *ℤ z)) (bounded-word cs (s .pre .1) (lit≤ tt) 8 (lit< tt) .is) &
+          held (c .before .before .before .before .before .before .before .before .struct-told7 .given .1 .0 .1) (seventh .high) .is &
+          held (c .before .before .before .before .before .before .before .before .before .struct-told6 .given .1 .0 .1) (sixth .high) .is &
+          held (c .before .before .before .before .before .before .before .before .before .before .struct-told5 .given .1 .0 .1) (fifth .high) .is &
+          held (c .before .before .before .before .before .before .before .before .before .before .before .struct-told4 .given .1 .0 .1) (fourth .high) .is &
+          held (c .before .before .before .before .before .before .before .before .before .before .before .before .struct-told3 .given .1 .0 .1) (third .high) .is &
+          held (c .before .before .before .before .before .before .before .before .before .before .before .before .before .struct-told2 .given .1 .0 .1) (second .high) .is &
+          held (c .before .before .before .before .before .before .before .before .before .before .before .before .before .before .struct-told .given .1 .0 .1) (first .high) .is &
+          tt
+          );
       products = counted a .0;
       sums = counted a .1;
     }
@@ -192,19 +123,19 @@ rotate-16-spec =
     (λ c. search needs)  -- array-copy-out-rotate-at-14
     rotate-at-requires-7
     (λ c. search needs)  -- array-copy-out-rotate-middle
-    rotate-middle-requires
-    add-products
-    add-products-2
-    add-products-3
-    add-sums
-    add-sums-2
-    add-sums-3
+    (λ c κs. let s = c .before .before .before .before .before .before .before .before .before .before .before .before .before .before .before .before .before .before .before .before .before .before in (s .pre .0, bounded-asked (s .args .t2) (s .pre .1) (lit≤ tt) 8 (lit< tt)))  -- rotate-middle-requires
+    (λ c. omega (arith, counted (c .before .before)))  -- add-products
+    (λ c. omega (arith, counted (c .before .before .before)))  -- add-products-2
+    (λ c. omega (arith, counted (c .before .before .before .before)))  -- add-products-3
+    (λ c. omega (arith, counted (c .before .before .before .before .before .before)))  -- add-sums
+    (λ c. omega (arith, counted (c .before .before .before .before .before .before .before)))  -- add-sums-2
+    (λ c. omega (arith, counted (c .before .before .before .before .before .before .before .before)))  -- add-sums-3
     (λ c. search needs)  -- array-copy-out-t21
-    add-t49
-    add-t48
-    add-t53
-    add-t54
-    add-t55
-    add-t56
-    add-t57
+    (λ c. omega (arith, counted (c .before .before .before .before .before .before .before .before .before .before .before .before .before .before .before .before .before .before)))  -- add-t49
+    (λ c. omega (arith, counted (c .before .before .before .before .before .before .before .before .before .before .before .before .before .before .before .before .before .before .before)))  -- add-t48
+    (λ c. omega (arith, counted (c .before .before .before .before .before .before .before .before .before .before .before .before .before .before .before .before .before .before .before .before)))  -- add-t53
+    (λ c. omega (arith, counted (c .before .before .before .before .before .before .before .before .before .before .before .before .before .before .before .before .before .before .before .before .before)))  -- add-t54
+    (λ c. omega (arith, counted (c .before .before .before .before .before .before .before .before .before .before .before .before .before .before .before .before .before .before .before .before .before .before)))  -- add-t55
+    (λ c. omega (arith, counted (c .before .before .before .before .before .before .before .before .before .before .before .before .before .before .before .before .before .before .before .before .before .before .before)))  -- add-t56
+    (λ c. omega (arith, counted (c .before .before .before .before .before .before .before .before .before .before .before .before .before .before .before .before .before .before .before .before .before .before .before .before)))  -- add-t57
     returns)

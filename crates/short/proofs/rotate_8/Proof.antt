@@ -42,24 +42,6 @@ rotate-at-requires-3 c κs =
     let asked = turn-asked (s .args .t2) (s .args .t3) (s .pre .1) (s .pre .2) 3 (lit< tt) in
     (s .pre .0, lit≤ tt, asked .0, asked .1)
 
-rotate-middle-requires : tie.Need-rotate-middle-requires
-rotate-middle-requires c κs = let s = c .before .before .before .before .before .before .before .before .before .before in (s .pre .0, bounded-asked (s .args .t2) (s .pre .1) (lit≤ tt) 4 (lit< tt))
-
-add-t29 : tie.Need-add-t29
-add-t29 c = omega (arith, counted (c .before .before .before .before .before .before .before))
-
-add-t30 : tie.Need-add-t30
-add-t30 c = omega (arith, counted (c .before .before .before .before .before .before .before .before))
-
-add-t31 : tie.Need-add-t31
-add-t31 c = omega (arith, counted (c .before .before .before .before .before .before .before .before .before))
-
-add-t32 : tie.Need-add-t32
-add-t32 c = omega (arith, counted (c .before .before .before .before .before .before .before .before .before .before .before))
-
-add-t33 : tie.Need-add-t33
-add-t33 c = omega (arith, counted (c .before .before .before .before .before .before .before .before .before .before .before .before))
-
 returns : tie.Need-returns
 unfolding rotated
 returns c =
@@ -111,11 +93,11 @@ rotate-8-spec =
     (λ c. lit< tt)  -- array-copy-out-rotate-at-6
     rotate-at-requires-3
     (λ c. lit< tt)  -- array-copy-out-rotate-middle
-    rotate-middle-requires
+    (λ c κs. let s = c .before .before .before .before .before .before .before .before .before .before in (s .pre .0, bounded-asked (s .args .t2) (s .pre .1) (lit≤ tt) 4 (lit< tt)))  -- rotate-middle-requires
     (λ c. lit< tt)  -- array-copy-out-t15
-    add-t29
-    add-t30
-    add-t31
-    add-t32
-    add-t33
+    (λ c. omega (arith, counted (c .before .before .before .before .before .before .before)))  -- add-t29
+    (λ c. omega (arith, counted (c .before .before .before .before .before .before .before .before)))  -- add-t30
+    (λ c. omega (arith, counted (c .before .before .before .before .before .before .before .before .before)))  -- add-t31
+    (λ c. omega (arith, counted (c .before .before .before .before .before .before .before .before .before .before .before)))  -- add-t32
+    (λ c. omega (arith, counted (c .before .before .before .before .before .before .before .before .before .before .before .before)))  -- add-t33
     returns)

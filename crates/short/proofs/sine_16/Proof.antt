@@ -1,14 +1,9 @@
 -- `short::sine_16` meets its contract: its steps are those of (15). Assumes nothing.
-use mathlib.Core.Path.{refl, _∙_}
-use Prim.Native.Nat.{_+_, _^_, _≤_}
-use native.Mathlib.Nat.{le-trans}
 use native.Mathlib.Omega.{arith}
-use lib.Dec.{lit<, lit≤}
-use Rattle.ffct.specs.Transforms.{evens, foldedDifferences}
-use Rattle.ffct.proofs.Blocks.{dft-same, dct-same, sine-first, sine-last}
-use Rattle.ffct.specs.Block.{word}
+use lib.Dec.{lit≤}
 use Rattle.short.specs.Short.{Small}
-use Rattle.short.proofs.Short.{even-small, differences-small, sine-bounded, dct-bounded, sine-few, dct-few, moved, sine-short}
+use Rattle.short.proofs.Short.{even-small, differences-small}
+use Rattle.short.proofs.Runs.{sine-kind, DftRun, joinable, sine-zeros, dft-gives, dft-spent}
 use Rattle.short.proofs.sine_16.Statement.{statement}
 use Rattle.short.proofs.sine_16.Tie as tie
 
@@ -21,52 +16,23 @@ folded f =
     let s = f .before .before .before in
     differences-small 4 (s .args .x) (s .pre .1) (f .folded-differences-16 .result .at) (f .folded-differences-16 .ensures .values)
 
--- the counts are small
-spent : (j : tie.After-join-sine-16) →
-    let o = j .before .before .before in
-    let f = o .before .before in
-    let e = f .before in
-    e .sine-8 .result .products + e .sine-8 .result .sums + f .folded-differences-16 .result .sums + o .dct-4 .result .products + o .dct-4 .result .sums + j .join-sine-16 .result .sums ≤ 2 ^ 20
-spent j =
-    let o = j .before .before .before in
+-- the run up to the DCT
+run : (o : tie.After-dct-4) →
     let f = o .before .before in
     let e = f .before in
     let v = e .before in
-    omega (
-      arith,
-      sine-few 3 (v .evens-16 .result) (lit≤ tt) (e .sine-8 .ensures),
-      dct-few 2 (f .folded-differences-16 .result .at) (lit≤ tt) (o .dct-4 .ensures),
-      f .folded-differences-16 .ensures .counted,
-      j .join-sine-16 .ensures .counted,
-    )
-
-join-sine-16-requires : tie.Need-join-sine-16-requires
-join-sine-16-requires c κs =
-    let o = c .before .before in
+    DftRun sine-kind 2 (v .before .args .x) (v .evens-16 .result) (e .sine-8 .result .at) (f .folded-differences-16 .result .at) (o .dct-4 .result .at)
+    (e .sine-8 .result .products) (e .sine-8 .result .sums) (f .folded-differences-16 .result .sums) (o .dct-4 .result .products) (o .dct-4 .result .sums)
+run o =
     let f = o .before .before in
     let e = f .before in
     let v = e .before in
-    let x = word (v .evens-16 .result) in
-    let values = e .sine-8 .ensures .values in (
-      (
-        λ k h. le-trans (sine-bounded 3 (v .evens-16 .result) (lit≤ tt) (even v) (e .sine-8 .ensures) (lit≤ tt) k h) (lit≤ tt),
-        λ k h. le-trans (dct-bounded 2 (f .folded-differences-16 .result .at) (lit≤ tt) (folded f) (o .dct-4 .ensures) (lit≤ tt) k h) (lit≤ tt),
-      ),
-      (values 0 (lit< tt) ∙ sine-first 3 x, values 4 (lit< tt) ∙ sine-last 3 x 4 refl),
-    )
+    record { top = lit≤ tt; small = v .before .pre .1; evens-are = v .evens-16 .ensures; even = e .sine-8 .ensures; folds-are = f .folded-differences-16 .ensures; odd = o .dct-4 .ensures }
 
 returns : tie.Need-returns
 returns c =
     let j = c .before .before .before .before .before .before .before in
-    let o = j .before .before .before in
-    let f = o .before .before in
-    let e = f .before in
-    let v = e .before in
-    let x = word (v .before .args .x) in
-    sine-short 2 x
-    (moved (dft-same 3 (word (v .evens-16 .result)) (evens x) (v .evens-16 .ensures) .1) (e .sine-8 .ensures))
-    (moved (dct-same 2 (word (f .folded-differences-16 .result .at)) (foldedDifferences 16 x) (f .folded-differences-16 .ensures .values)) (o .dct-4 .ensures))
-    (j .join-sine-16 .ensures) (omega arith) (omega (arith, f .folded-differences-16 .ensures .counted))
+    dft-gives sine-kind (run (j .before .before .before)) (j .join-sine-16 .ensures) (omega arith) (omega arith)
 
 pub sine-16-spec : {M : Type 1} → statement M
 sine-16-spec =
@@ -76,9 +42,9 @@ sine-16-spec =
     (λ c κs. (c .before .pre .0, even c))  -- sine-8-requires
     (λ c κs. c .before .before .pre .1)  -- folded-differences-16-requires
     (λ c κs. (c .before .before .before .before .pre .0, folded (c .before)))  -- dct-4-requires
-    join-sine-16-requires
-    (λ c. omega (arith, spent (c .before .before .before)))  -- add-t12
-    (λ c. omega (arith, spent (c .before .before .before .before .before)))  -- add-t13
-    (λ c. omega (arith, spent (c .before .before .before .before .before .before)))  -- add-t14
-    (λ c. omega (arith, spent (c .before .before .before .before .before .before .before)))  -- add-t15
+    (λ c κs. (joinable sine-kind (run (c .before .before)), sine-zeros (run (c .before .before))))  -- join-sine-16-requires
+    (λ c. let j = c .before .before .before in omega (arith, dft-spent sine-kind (run (j .before .before .before)) (j .join-sine-16 .ensures)))  -- add-t12
+    (λ c. let j = c .before .before .before .before .before in omega (arith, dft-spent sine-kind (run (j .before .before .before)) (j .join-sine-16 .ensures)))  -- add-t13
+    (λ c. let j = c .before .before .before .before .before .before in omega (arith, dft-spent sine-kind (run (j .before .before .before)) (j .join-sine-16 .ensures)))  -- add-t14
+    (λ c. let j = c .before .before .before .before .before .before .before in omega (arith, dft-spent sine-kind (run (j .before .before .before)) (j .join-sine-16 .ensures)))  -- add-t15
     returns)
