@@ -1,58 +1,30 @@
 -- `short::evens_32` meets its contract: each word is a sample. Assumes nothing.
 use mathlib.Core.Path.{refl}
 use Rattle.whole.proofs.Words.{held}
-use Rattle.short.proofs.Short.{each}
+use Rattle.short.proofs.Short.{_&_, each}
 use borrow.Author.Needs.{needs}
 use Rattle.short.proofs.evens_32.Statement.{statement}
 use Rattle.short.proofs.evens_32.Tie as tie
 
 returns : tie.Need-returns
 returns c = each 16 _ (
-  held (c .before .before .before .before .before .before .before .before .before .before .before .before .before .before .before .t5 .given) refl .is,
-  (
-    held (c .before .before .before .before .before .before .before .before .before .before .before .before .before .before .t8 .given) refl .is,
-    (
-      held (c .before .before .before .before .before .before .before .before .before .before .before .before .before .t11 .given) refl .is,
-      (
-        held (c .before .before .before .before .before .before .before .before .before .before .before .before .t14 .given) refl .is,
-        (
-          held (c .before .before .before .before .before .before .before .before .before .before .before .t17 .given) refl .is,
-          (
-            held (c .before .before .before .before .before .before .before .before .before .before .t20 .given) refl .is,
-            (
-              held (c .before .before .before .before .before .before .before .before .before .t23 .given) refl .is,
-              (
-                held (c .before .before .before .before .before .before .before .before .t26 .given) refl .is,
-                (
-                  held (c .before .before .before .before .before .before .before .t29 .given) refl .is,
-                  (
-                    held (c .before .before .before .before .before .before .t32 .given) refl .is,
-                    (
-                      held (c .before .before .before .before .before .t35 .given) refl .is,
-                      (
-                        held (c .before .before .before .before .t38 .given) refl .is,
-                        (
-                          held (c .before .before .before .t41 .given) refl .is,
-                          (
-                            held (c .before .before .t44 .given) refl .is,
-                            (
-                              held (c .before .t47 .given) refl .is,
-                              (held (c .t50 .given) refl .is, tt),
-                            ),
-                          ),
-                        ),
-                      ),
-                    ),
-                  ),
-                ),
-              ),
-            ),
-          ),
-        ),
-      ),
-    ),
-  ),
-)
+    held (c .before .before .before .before .before .before .before .before .before .before .before .before .before .before .before .t5 .given) refl .is &
+    held (c .before .before .before .before .before .before .before .before .before .before .before .before .before .before .t8 .given) refl .is &
+    held (c .before .before .before .before .before .before .before .before .before .before .before .before .before .t11 .given) refl .is &
+    held (c .before .before .before .before .before .before .before .before .before .before .before .before .t14 .given) refl .is &
+    held (c .before .before .before .before .before .before .before .before .before .before .before .t17 .given) refl .is &
+    held (c .before .before .before .before .before .before .before .before .before .before .t20 .given) refl .is &
+    held (c .before .before .before .before .before .before .before .before .before .t23 .given) refl .is &
+    held (c .before .before .before .before .before .before .before .before .t26 .given) refl .is &
+    held (c .before .before .before .before .before .before .before .t29 .given) refl .is &
+    held (c .before .before .before .before .before .before .t32 .given) refl .is &
+    held (c .before .before .before .before .before .t35 .given) refl .is &
+    held (c .before .before .before .before .t38 .given) refl .is &
+    held (c .before .before .before .t41 .given) refl .is &
+    held (c .before .before .t44 .given) refl .is &
+    held (c .before .t47 .given) refl .is &
+    held (c .t50 .given) refl .is &
+    tt)
 
 pub evens-32-spec : {M : Type 1} → statement M
 evens-32-spec =

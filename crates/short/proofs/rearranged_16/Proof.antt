@@ -2,7 +2,7 @@
 use mathlib.Core.Path.{refl}
 use Rattle.ffct.specs.Transforms.{rearranged}
 use Rattle.whole.proofs.Words.{held}
-use Rattle.short.proofs.Short.{each}
+use Rattle.short.proofs.Short.{_&_, each}
 use borrow.Author.Needs.{needs}
 use Rattle.short.proofs.rearranged_16.Statement.{statement}
 use Rattle.short.proofs.rearranged_16.Tie as tie
@@ -10,51 +10,23 @@ use Rattle.short.proofs.rearranged_16.Tie as tie
 returns : tie.Need-returns
 unfolding rearranged
 returns c = each 16 _ (
-  held (c .before .before .before .before .before .before .before .before .before .before .before .before .before .before .before .t5 .given) refl .is,
-  (
-    held (c .before .before .before .before .before .before .before .before .before .before .before .before .before .before .t8 .given) refl .is,
-    (
-      held (c .before .before .before .before .before .before .before .before .before .before .before .before .before .t11 .given) refl .is,
-      (
-        held (c .before .before .before .before .before .before .before .before .before .before .before .before .t14 .given) refl .is,
-        (
-          held (c .before .before .before .before .before .before .before .before .before .before .before .t17 .given) refl .is,
-          (
-            held (c .before .before .before .before .before .before .before .before .before .before .t20 .given) refl .is,
-            (
-              held (c .before .before .before .before .before .before .before .before .before .t23 .given) refl .is,
-              (
-                held (c .before .before .before .before .before .before .before .before .t26 .given) refl .is,
-                (
-                  held (c .before .before .before .before .before .before .before .t29 .given) refl .is,
-                  (
-                    held (c .before .before .before .before .before .before .t32 .given) refl .is,
-                    (
-                      held (c .before .before .before .before .before .t35 .given) refl .is,
-                      (
-                        held (c .before .before .before .before .t38 .given) refl .is,
-                        (
-                          held (c .before .before .before .t41 .given) refl .is,
-                          (
-                            held (c .before .before .t44 .given) refl .is,
-                            (
-                              held (c .before .t47 .given) refl .is,
-                              (held (c .t50 .given) refl .is, tt),
-                            ),
-                          ),
-                        ),
-                      ),
-                    ),
-                  ),
-                ),
-              ),
-            ),
-          ),
-        ),
-      ),
-    ),
-  ),
-)
+    held (c .before .before .before .before .before .before .before .before .before .before .before .before .before .before .before .t5 .given) refl .is &
+    held (c .before .before .before .before .before .before .before .before .before .before .before .before .before .before .t8 .given) refl .is &
+    held (c .before .before .before .before .before .before .before .before .before .before .before .before .before .t11 .given) refl .is &
+    held (c .before .before .before .before .before .before .before .before .before .before .before .before .t14 .given) refl .is &
+    held (c .before .before .before .before .before .before .before .before .before .before .before .t17 .given) refl .is &
+    held (c .before .before .before .before .before .before .before .before .before .before .t20 .given) refl .is &
+    held (c .before .before .before .before .before .before .before .before .before .t23 .given) refl .is &
+    held (c .before .before .before .before .before .before .before .before .t26 .given) refl .is &
+    held (c .before .before .before .before .before .before .before .t29 .given) refl .is &
+    held (c .before .before .before .before .before .before .t32 .given) refl .is &
+    held (c .before .before .before .before .before .t35 .given) refl .is &
+    held (c .before .before .before .before .t38 .given) refl .is &
+    held (c .before .before .before .t41 .given) refl .is &
+    held (c .before .before .t44 .given) refl .is &
+    held (c .before .t47 .given) refl .is &
+    held (c .t50 .given) refl .is &
+    tt)
 
 pub rearranged-16-spec : {M : Type 1} → statement M
 rearranged-16-spec =
