@@ -1,9 +1,9 @@
 -- Short blocks, as arrays of words.
 --     each                                                           a fact at each place below m, from the facts one by one
 --     bounded-word, bounded-asked                                    a word of bounded size, and what a call asks of it
---     wings, join-asked, join-wings                                  a butterfly
+--     two-words, join-asked, join-words                              a sum and a difference
 --     turn-asked, turn                                               a rotation
---     sample-sum, sample-difference, sum-word, turned                what a fold makes of two samples
+--     sample-sum, sample-difference, sum-word                        what a fold makes of two samples
 --     even-small, sums-small, differences-small, rearranged-small    the samples of a step keep the condition on sizes
 --     cosine-bounded, sine-bounded, dct-bounded                      the sizes of coefficients
 --     cosine-few, sine-few, dct-few                                  their counts
@@ -11,20 +11,19 @@
 -- Assumes nothing.
 use mathlib.Core.Path.{_≡_, sym, _∙_, ap₂, subst}
 use mathlib.Core.List.{List}
-use Prim.Native.Nat.{ℕ, zero, suc, _+_, _*_, _-_, _/_, _%_, _^_, _≤_, _<_}
+use Prim.Native.Nat.{ℕ, zero, suc, _+_, _*_, _-_, _/_, _^_, _≤_, _<_}
 use native.Mathlib.Nat.{le-refl, le-trans, mul-le-mul-left, mul-le-mul-right}
 use native.Mathlib.Omega.{arith}
 use lib.Dec.{lit<}
-use lib.IntN.{ℤ, natAbs, negℤ, _+ℤ_, _-ℤ_}
+use lib.IntN.{ℤ, natAbs, _+ℤ_, _-ℤ_}
 use mir.Syntax.{w64}
 use mir.Val.{toZ, ofZ}
-use Rattle.whole.proofs.Difference.{parts, diff}
-use Rattle.whole.proofs.Size.{near, _within_, size-within, within-size, within-add, within-sub, within-le, within-fits, size-add}
+use Rattle.whole.proofs.Size.{_within_, size-within, within-size, within-add, within-sub, within-le, within-fits, size-add}
 use Rattle.whole.proofs.Words as Words
 use Rattle.whole.proofs.Words.{Word}
 use Rattle.whole.proofs.Operations.{Computes}
 use Rattle.ffct.specs.Block.{Samples, topLevel, largestSum, word}
-use Rattle.ffct.specs.Transforms.{Transform, evens, foldedSums, foldedDifferences, alternate, rearranged, cosineDft, sineDft, dct}
+use Rattle.ffct.specs.Transforms.{Transform, evens, foldedSums, foldedDifferences, rearranged, cosineDft, sineDft, dct}
 use Rattle.ffct.proofs.Lengths.{len, per, len-per}
 use Rattle.ffct.proofs.Counts.{few-operations}
 use Rattle.ffct.proofs.Near.{alternate-within, apart-le}
@@ -32,8 +31,7 @@ use Rattle.ffct.proofs.Sizes.{Inner, share-inner, dft-size, dct-within, added, 
 use Rattle.ffct.proofs.Blocks.{cosine-beyond-same, sine-beyond-same, dct-beyond-same, rotated-same}
 use Rattle.ffct.proofs.Steps.{rearranged-source, cosine-step, sine-step, dct-step, cosine-products, cosine-sums, sine-products, sine-sums, dct-products, dct-sums}
 use Rattle.steps.specs.Rotation.{PairRotated}
-use Rattle.short.specs.Short.{Small, Bounded, Front, Coefficients, Butterfly, CosineShort, SineShort, DctShort}
-use Rattle.ffct.proofs.Alternate.{alternate-odd}
+use Rattle.short.specs.Short.{Small, Bounded, Front, Coefficients, AddedAndSubtracted, CosineShort, SineShort, DctShort}
 
 -- ---- a fact at each place below m
 abbrev pub Each : ℕ → (ℕ → Type 0) → Type 0
@@ -58,14 +56,14 @@ module _ {most m : ℕ} (xs : List ℤ) (b : Bounded most m xs) (l : most ≤ 2 
   pub bounded-asked : natAbs (toZ w64 (ofZ w64 (word xs k))) ≤ most
   bounded-asked = rw (bounded-word .is) (b k h)
 
--- the results of a butterfly
-pub record Wings (x y s d : ℤ) : Type 0 where
+-- the words of a sum and a difference
+pub record TwoWords (x y s d : ℤ) : Type 0 where
   pub sum : Word w64 (ofZ w64 s) (x +ℤ y)
   pub difference : Word w64 (ofZ w64 d) (x -ℤ y)
 
-pub wings : {x y s d : ℤ} {p q n : ℕ} → Word w64 p x → Word w64 q y → x within 2 * largestSum → y within 2 * largestSum → Butterfly (toZ w64 p) (toZ w64 q) s d n → Wings x y s d
-wings {x} {y} a b h l f =
-    let g : Butterfly x y _ _ _ = rw (a .is, b .is) at f in record {
+pub two-words : {x y s d : ℤ} {p q n : ℕ} → Word w64 p x → Word w64 q y → x within 2 * largestSum → y within 2 * largestSum → AddedAndSubtracted (toZ w64 p) (toZ w64 q) s d n → TwoWords x y s d
+two-words {x} {y} a b h l f =
+    let g : AddedAndSubtracted x y _ _ _ = rw (a .is, b .is) at f in record {
       sum = rw (g .added) (Words.word (within-fits (within-add h l) (lit< tt)));
       difference = rw (g .subtracted) (Words.word (within-fits (within-sub h l) (lit< tt)));
     }
@@ -75,8 +73,8 @@ module _ {m n : ℕ} (E D : List ℤ) (e : Bounded (2 * largestSum) m E) (d : Bo
   pub join-asked : (natAbs (toZ w64 (ofZ w64 (word E i))) ≤ 2 * largestSum) × (natAbs (toZ w64 (ofZ w64 (word D j))) ≤ 2 * largestSum)
   join-asked = (bounded-asked E e (le-refl _) i h, bounded-asked D d (le-refl _) j l)
 
-  pub join-wings : {s t : ℤ} {a : ℕ} → Butterfly (toZ w64 (ofZ w64 (word E i))) (toZ w64 (ofZ w64 (word D j))) s t a → Wings (word E i) (word D j) s t
-  join-wings = wings (bounded-word E e (le-refl _) i h) (bounded-word D d (le-refl _) j l) (size-within _ (e i h)) (size-within _ (d j l))
+  pub join-words : {s t : ℤ} {a : ℕ} → AddedAndSubtracted (toZ w64 (ofZ w64 (word E i))) (toZ w64 (ofZ w64 (word D j))) s t a → TwoWords (word E i) (word D j) s t
+  join-words = two-words (bounded-word E e (le-refl _) i h) (bounded-word D d (le-refl _) j l) (size-within _ (e i h)) (size-within _ (d j l))
 
 -- the rotation of the coefficients k of C and S
 module _ {m : ℕ} (C S : List ℤ) (c : Bounded (largestSum + 128) m C) (s : Bounded (largestSum + 128) m S) (k : ℕ) (h : k < m) where
@@ -107,13 +105,6 @@ module _ {n : ℕ} (xs : List ℤ) (small : Small n xs) where
 
     pub sum-word : Word w64 (ofZ w64 (toZ w64 (ofZ w64 (word xs i)) +ℤ toZ w64 (ofZ w64 (word xs j)))) (word xs i +ℤ word xs j)
     sum-word = record { is = sample-sum .made; fits = within-fits sum-within (lit< tt) }
-
--- every other difference is turned round
-pub turned : (k : ℕ) (x y : ℤ) → k % 2 ≡ 1 → y -ℤ x ≡ alternate k (x -ℤ y)
-turned k x y o = opposite ∙ sym (alternate-odd k (x -ℤ y) (λ e. omega arith))
-  where
-    opposite : y -ℤ x ≡ negℤ (x -ℤ y)
-    opposite = rw (parts x, parts y) (simp diff (omega near))
 
 -- ---- the samples of a step
 module _ (m : ℕ) (xs : List ℤ) (small : Small (4 * m) xs) where

@@ -25,7 +25,7 @@ pub record Coefficients (t : Transform) (m : ℕ) (at : List ℤ) (p a : ℕ) : 
   pub sums : a ≡ t .sums
 
 -- the sum and the difference of two numbers
-pub record Butterfly (x y sum difference : ℤ) (sums : ℕ) : Type 0 where
+pub record AddedAndSubtracted (x y sum difference : ℤ) (sums : ℕ) : Type 0 where
   pub added : sum ≡ x +ℤ y
   pub subtracted : difference ≡ x -ℤ y
   pub counted : sums ≡ 2

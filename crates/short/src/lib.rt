@@ -11,7 +11,7 @@ ghost use Rattle.circle.specs.Circle.{T, IsQuarterWave};
 ghost use Rattle.ffct.specs.Block.{largestSum, word};
 ghost use Rattle.ffct.specs.Transforms.{evens, foldedSums, foldedDifferences, rearranged, cosineDft, sineDft, dct};
 ghost use Rattle.steps.specs.Rotation.{PairRotated};
-ghost use Rattle.short.specs.Short.{Small, Front, Bounded, Coefficients, Butterfly, Folded, CosineShort, SineShort, DctShort};
+ghost use Rattle.short.specs.Short.{Small, Front, Bounded, Coefficients, AddedAndSubtracted, Folded, CosineShort, SineShort, DctShort};
 
 // A sum and a difference, with the sums that they take.
 pub struct SumAndDifference {
@@ -21,9 +21,9 @@ pub struct SumAndDifference {
 }
 
 // x + y and x - y.
-fn butterfly(x: i64, y: i64) -> SumAndDifference
+fn add_and_subtract(x: i64, y: i64) -> SumAndDifference
     requires { ⌜ (natAbs x ≤ 2 * largestSum) × (natAbs y ≤ 2 * largestSum) ⌝ }
-    ensures { λ r. ⌜ Butterfly x y (r .sum) (r .difference) (r .sums) ⌝ }
+    ensures { λ r. ⌜ AddedAndSubtracted x y (r .sum) (r .difference) (r .sums) ⌝ }
 {
     let mut sums: u64 = 0;
     let sum = x + y;
@@ -49,10 +49,10 @@ pub fn cosine_4(x: [i64; 4]) -> Dft4
     ensures { λ r. ⌜ Coefficients (cosineDft 2 (word x)) 3 (r .at) 0 (r .sums) ⌝ }
 {
     let mut sums: u64 = 0;
-    let even = butterfly(x[0], x[2]);
+    let even = add_and_subtract(x[0], x[2]);
     let odd = x[1] + x[3];
     sums += 1;
-    let joined = butterfly(even.sum, odd);
+    let joined = add_and_subtract(even.sum, odd);
     Dft4 {
         at: [joined.sum, even.difference, joined.difference],
         sums: even.sums + sums + joined.sums,
@@ -85,7 +85,7 @@ pub fn dct_2(wave: &[i32; 1025], x: [i64; 2]) -> Dct2
     requires { ⌜ IsQuarterWave (now wave) × Small 2 x ⌝ }
     ensures { λ r. ⌜ Coefficients (dct 1 (word x)) 2 (r .at) (r .products) (r .sums) ⌝ }
 {
-    let cosine = butterfly(x[0], x[1]);
+    let cosine = add_and_subtract(x[0], x[1]);
     let middle = rotate_middle(wave, cosine.difference);
     Dct2 {
         at: [cosine.sum, middle.value],
@@ -214,8 +214,8 @@ fn join_cosine_8(e: [i64; 3], d: [i64; 2]) -> Joined5
     requires { ⌜ Bounded (2 * largestSum) 3 e × Bounded (2 * largestSum) 2 d ⌝ }
     ensures { λ r. ⌜ CosineShort 2 e d (r .at) (r .sums) ⌝ }
 {
-    let first = butterfly(e[0], d[0]);
-    let second = butterfly(e[1], d[1]);
+    let first = add_and_subtract(e[0], d[0]);
+    let second = add_and_subtract(e[1], d[1]);
     Joined5 {
         at: [
             first.sum,
@@ -234,7 +234,7 @@ fn join_sine_8(e: [i64; 3], d: [i64; 2]) -> Joined5
     requires { ⌜ (word e 0 ≡ pos 0) × (word e 2 ≡ pos 0) ⌝ }
     ensures { λ r. ⌜ SineShort 2 e d (r .at) (r .sums) ⌝ }
 {
-    let first = butterfly(d[1], e[1]);
+    let first = add_and_subtract(d[1], e[1]);
     Joined5 {
         at: [0, first.sum, d[0], first.difference, 0],
         sums: first.sums,
@@ -412,10 +412,10 @@ fn join_cosine_16(e: [i64; 5], d: [i64; 4]) -> Joined9
     requires { ⌜ Bounded (2 * largestSum) 5 e × Bounded (2 * largestSum) 4 d ⌝ }
     ensures { λ r. ⌜ CosineShort 4 e d (r .at) (r .sums) ⌝ }
 {
-    let first = butterfly(e[0], d[0]);
-    let second = butterfly(e[1], d[1]);
-    let third = butterfly(e[2], d[2]);
-    let fourth = butterfly(e[3], d[3]);
+    let first = add_and_subtract(e[0], d[0]);
+    let second = add_and_subtract(e[1], d[1]);
+    let third = add_and_subtract(e[2], d[2]);
+    let fourth = add_and_subtract(e[3], d[3]);
     Joined9 {
         at: [
             first.sum,
@@ -438,9 +438,9 @@ fn join_sine_16(e: [i64; 5], d: [i64; 4]) -> Joined9
     requires { ⌜ (word e 0 ≡ pos 0) × (word e 4 ≡ pos 0) ⌝ }
     ensures { λ r. ⌜ SineShort 4 e d (r .at) (r .sums) ⌝ }
 {
-    let first = butterfly(d[3], e[1]);
-    let second = butterfly(d[2], e[2]);
-    let third = butterfly(d[1], e[3]);
+    let first = add_and_subtract(d[3], e[1]);
+    let second = add_and_subtract(d[2], e[2]);
+    let third = add_and_subtract(d[1], e[3]);
     Joined9 {
         at: [
             0,
@@ -603,14 +603,14 @@ fn join_cosine_32(e: [i64; 9], d: [i64; 8]) -> Joined17
     requires { ⌜ Bounded (2 * largestSum) 9 e × Bounded (2 * largestSum) 8 d ⌝ }
     ensures { λ r. ⌜ CosineShort 8 e d (r .at) (r .sums) ⌝ }
 {
-    let first = butterfly(e[0], d[0]);
-    let second = butterfly(e[1], d[1]);
-    let third = butterfly(e[2], d[2]);
-    let fourth = butterfly(e[3], d[3]);
-    let fifth = butterfly(e[4], d[4]);
-    let sixth = butterfly(e[5], d[5]);
-    let seventh = butterfly(e[6], d[6]);
-    let eighth = butterfly(e[7], d[7]);
+    let first = add_and_subtract(e[0], d[0]);
+    let second = add_and_subtract(e[1], d[1]);
+    let third = add_and_subtract(e[2], d[2]);
+    let fourth = add_and_subtract(e[3], d[3]);
+    let fifth = add_and_subtract(e[4], d[4]);
+    let sixth = add_and_subtract(e[5], d[5]);
+    let seventh = add_and_subtract(e[6], d[6]);
+    let eighth = add_and_subtract(e[7], d[7]);
     let lower = first.sums + second.sums + third.sums + fourth.sums;
     let upper = fifth.sums + sixth.sums + seventh.sums + eighth.sums;
     Joined17 {
@@ -643,13 +643,13 @@ fn join_sine_32(e: [i64; 9], d: [i64; 8]) -> Joined17
     requires { ⌜ (word e 0 ≡ pos 0) × (word e 8 ≡ pos 0) ⌝ }
     ensures { λ r. ⌜ SineShort 8 e d (r .at) (r .sums) ⌝ }
 {
-    let first = butterfly(d[7], e[1]);
-    let second = butterfly(d[6], e[2]);
-    let third = butterfly(d[5], e[3]);
-    let fourth = butterfly(d[4], e[4]);
-    let fifth = butterfly(d[3], e[5]);
-    let sixth = butterfly(d[2], e[6]);
-    let seventh = butterfly(d[1], e[7]);
+    let first = add_and_subtract(d[7], e[1]);
+    let second = add_and_subtract(d[6], e[2]);
+    let third = add_and_subtract(d[5], e[3]);
+    let fourth = add_and_subtract(d[4], e[4]);
+    let fifth = add_and_subtract(d[3], e[5]);
+    let sixth = add_and_subtract(d[2], e[6]);
+    let seventh = add_and_subtract(d[1], e[7]);
     let lower = first.sums + second.sums + third.sums + fourth.sums;
     let upper = fifth.sums + sixth.sums + seventh.sums;
     Joined17 {

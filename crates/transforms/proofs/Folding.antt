@@ -1,20 +1,19 @@
 -- One turn of a loop that folds (12), (15): sample 2 i + 1 and its mirror image, read while a run behind the n samples is filled.
 -- Assumes nothing.
 use mathlib.Core.List.{List}
-use mathlib.Core.Path.{_≡_, refl, sym, _∙_}
+use mathlib.Core.Path.{_≡_, refl, sym}
 use Prim.Native.Nat.{ℕ, _+_, _*_, _-_, _/_, _%_, _≤_, _<_}
 use native.Mathlib.Omega.{arith}
-use lib.IntN.{ℤ, negℤ, natAbs, _-ℤ_}
+use lib.IntN.{ℤ, natAbs, _-ℤ_}
 use lib.ListN.{length}
 use mir.Syntax.{w64}
 use mir.Val.{SFits, ofZ}
-use Rattle.whole.proofs.Difference.{parts, diff}
-use Rattle.whole.proofs.Size.{near, _within_, size-within}
+use Rattle.whole.proofs.Size.{_within_, size-within}
 use Rattle.whole.proofs.Words.{Word}
 use Rattle.ffct.specs.Block.{largestSum, word}
-use Rattle.ffct.specs.Transforms.{alternate, foldedDifferences}
+use Rattle.ffct.specs.Transforms.{foldedDifferences}
 use Rattle.transforms.specs.Words.{Filled}
-use Rattle.ffct.proofs.Alternate.{alternate-even, alternate-odd}
+use Rattle.ffct.proofs.Alternate.{alternate-even, alternate-turned}
 use Rattle.transforms.proofs.Filling.{read-below, fill-join}
 
 -- the words read, and the samples that they are
@@ -35,9 +34,6 @@ folded run l h small x-fits y-fits =
     }
 
 -- ---- the differences, whose signs alternate
-turned : (x y : ℤ) → y -ℤ x ≡ negℤ (x -ℤ y)
-turned x y = rw (parts x, parts y) (simp diff (omega near))
-
 module _ {n b i : ℕ} {before after : List ℤ} (run : Filled b i (foldedDifferences n (word before)) before after) (l : n ≤ b) (h : i < n / 4) where
   -- what storing one more of them asks
   pub asks : b + n / 4 ≤ length before → ((k : ℕ) → k < n → natAbs (word before k) ≤ largestSum) → (x y : ℕ) → x < n → y < n →
@@ -55,8 +51,8 @@ module _ {n b i : ℕ} {before after : List ℤ} (run : Filled b i (foldedDiffer
       → Filled b (i + 1) (foldedDifferences n (word before)) before last
   even-more e = one-more (rw (run .low (2 * i + 1) (omega arith), run .low (n - 2 * i - 1) (omega arith)) (sym (alternate-even i _ e)))
 
-  pub odd-more : {last : List ℤ} → (i % 2 ≡ 0 → ⊥) → Filled (b + i) 1 (λ _. word after (n - 2 * i - 1) -ℤ word after (2 * i + 1)) after last
+  pub odd-more : {last : List ℤ} → i % 2 ≡ 1 → Filled (b + i) 1 (λ _. word after (n - 2 * i - 1) -ℤ word after (2 * i + 1)) after last
       → Filled b (i + 1) (foldedDifferences n (word before)) before last
   odd-more e =
       one-more
-      (rw (run .low (2 * i + 1) (omega arith), run .low (n - 2 * i - 1) (omega arith)) (turned (word before (2 * i + 1)) (word before (n - 2 * i - 1)) ∙ sym (alternate-odd i _ e)))
+      (rw (run .low (2 * i + 1) (omega arith), run .low (n - 2 * i - 1) (omega arith)) (alternate-turned i (word before (2 * i + 1)) (word before (n - 2 * i - 1)) e))

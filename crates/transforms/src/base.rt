@@ -12,9 +12,9 @@ use steps::tally::Tally;
 ghost use Prim.Native.Nat.{_+_, _/_, _≤_};
 ghost use lib.ListN.{length};
 ghost use Rattle.circle.specs.Circle.{IsQuarterWave};
+ghost use Rattle.ffct.specs.Block.{word};
 ghost use Rattle.ffct.specs.Transforms.{cosineDft, sineDft, dct};
 ghost use Rattle.transforms.specs.Words.{Filled};
-ghost use Rattle.ffct.specs.Block.{word};
 ghost use Rattle.transforms.specs.Steps.{Ready, dftRoom, dctRoom, Transformed};
 
 // The cosine-DFT of one or two samples.
@@ -48,15 +48,15 @@ pub fn sine_base(w: &mut [i64], n: usize) -> Tally
     }
 }
 
-// The first m words of one slice, to another from b on.
-fn copy_words(from: &[i64], to: &mut [i64], b: usize, m: usize)
-    requires { ⌜ (m ≤ length (now from)) × (b + m ≤ length (now to)) ⌝ }
-    ensures { λ _. ⌜ Filled b m (word (now (from .entry))) (now (to .entry)) (now (to .exit)) ⌝ }
+// The first m words of one slice, to the front of another.
+fn copy_words(from: &[i64], to: &mut [i64], m: usize)
+    requires { ⌜ (m ≤ length (now from)) × (m ≤ length (now to)) ⌝ }
+    ensures { λ _. ⌜ Filled 0 m (word (now (from .entry))) (now (to .entry)) (now (to .exit)) ⌝ }
 {
     let mut i = 0;
     while i < m {
         let x = from[i];
-        to[b + i] = x;
+        to[i] = x;
         i += 1;
     }
 }
@@ -67,10 +67,10 @@ pub fn cosine_of_8(wave: &[i32; 1025], w: &mut [i64]) -> Tally
     ensures { λ r. ⌜ Transformed cosineDft 8 5 (now (w .entry)) (now (w .exit)) (r .products) (r .sums) ⌝ }
 {
     let mut x = [0i64; 8];
-    copy_words(w, &mut x, 0, 8);
+    copy_words(w, &mut x, 8);
     let r = cosine_8(wave, x);
     let at = r.at;
-    copy_words(&at, w, 0, 5);
+    copy_words(&at, w, 5);
     Tally {
         products: r.products,
         sums: r.sums,
@@ -83,10 +83,10 @@ pub fn sine_of_8(wave: &[i32; 1025], w: &mut [i64]) -> Tally
     ensures { λ r. ⌜ Transformed sineDft 8 5 (now (w .entry)) (now (w .exit)) (r .products) (r .sums) ⌝ }
 {
     let mut x = [0i64; 8];
-    copy_words(w, &mut x, 0, 8);
+    copy_words(w, &mut x, 8);
     let r = sine_8(wave, x);
     let at = r.at;
-    copy_words(&at, w, 0, 5);
+    copy_words(&at, w, 5);
     Tally {
         products: r.products,
         sums: r.sums,
@@ -99,10 +99,10 @@ pub fn cosine_of_16(wave: &[i32; 1025], w: &mut [i64]) -> Tally
     ensures { λ r. ⌜ Transformed cosineDft 16 9 (now (w .entry)) (now (w .exit)) (r .products) (r .sums) ⌝ }
 {
     let mut x = [0i64; 16];
-    copy_words(w, &mut x, 0, 16);
+    copy_words(w, &mut x, 16);
     let r = cosine_16(wave, x);
     let at = r.at;
-    copy_words(&at, w, 0, 9);
+    copy_words(&at, w, 9);
     Tally {
         products: r.products,
         sums: r.sums,
@@ -115,10 +115,10 @@ pub fn sine_of_16(wave: &[i32; 1025], w: &mut [i64]) -> Tally
     ensures { λ r. ⌜ Transformed sineDft 16 9 (now (w .entry)) (now (w .exit)) (r .products) (r .sums) ⌝ }
 {
     let mut x = [0i64; 16];
-    copy_words(w, &mut x, 0, 16);
+    copy_words(w, &mut x, 16);
     let r = sine_16(wave, x);
     let at = r.at;
-    copy_words(&at, w, 0, 9);
+    copy_words(&at, w, 9);
     Tally {
         products: r.products,
         sums: r.sums,
@@ -131,10 +131,10 @@ pub fn cosine_of_32(wave: &[i32; 1025], w: &mut [i64]) -> Tally
     ensures { λ r. ⌜ Transformed cosineDft 32 17 (now (w .entry)) (now (w .exit)) (r .products) (r .sums) ⌝ }
 {
     let mut x = [0i64; 32];
-    copy_words(w, &mut x, 0, 32);
+    copy_words(w, &mut x, 32);
     let r = cosine_32(wave, x);
     let at = r.at;
-    copy_words(&at, w, 0, 17);
+    copy_words(&at, w, 17);
     Tally {
         products: r.products,
         sums: r.sums,
@@ -147,10 +147,10 @@ pub fn sine_of_32(wave: &[i32; 1025], w: &mut [i64]) -> Tally
     ensures { λ r. ⌜ Transformed sineDft 32 17 (now (w .entry)) (now (w .exit)) (r .products) (r .sums) ⌝ }
 {
     let mut x = [0i64; 32];
-    copy_words(w, &mut x, 0, 32);
+    copy_words(w, &mut x, 32);
     let r = sine_32(wave, x);
     let at = r.at;
-    copy_words(&at, w, 0, 17);
+    copy_words(&at, w, 17);
     Tally {
         products: r.products,
         sums: r.sums,
@@ -163,10 +163,10 @@ pub fn dct_of_8(wave: &[i32; 1025], w: &mut [i64]) -> Tally
     ensures { λ r. ⌜ Transformed dct 8 8 (now (w .entry)) (now (w .exit)) (r .products) (r .sums) ⌝ }
 {
     let mut x = [0i64; 8];
-    copy_words(w, &mut x, 0, 8);
+    copy_words(w, &mut x, 8);
     let r = dct_8(wave, x);
     let at = r.at;
-    copy_words(&at, w, 0, 8);
+    copy_words(&at, w, 8);
     Tally {
         products: r.products,
         sums: r.sums,
@@ -179,10 +179,10 @@ pub fn dct_of_16(wave: &[i32; 1025], w: &mut [i64]) -> Tally
     ensures { λ r. ⌜ Transformed dct 16 16 (now (w .entry)) (now (w .exit)) (r .products) (r .sums) ⌝ }
 {
     let mut x = [0i64; 16];
-    copy_words(w, &mut x, 0, 16);
+    copy_words(w, &mut x, 16);
     let r = dct_16(wave, x);
     let at = r.at;
-    copy_words(&at, w, 0, 16);
+    copy_words(&at, w, 16);
     Tally {
         products: r.products,
         sums: r.sums,

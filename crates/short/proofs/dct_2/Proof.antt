@@ -1,4 +1,4 @@
--- `short::dct_2` meets its contract: a butterfly and a product, as (18) has them. Assumes nothing.
+-- `short::dct_2` meets its contract: a sum and a difference and a product, as (18) has them. Assumes nothing.
 use mathlib.Core.Path.{_∙_, ap}
 use native.Mathlib.Nat.{le-refl}
 use native.Mathlib.Omega.{arith}
@@ -10,19 +10,19 @@ use Rattle.circle.specs.Circle.{T}
 use Rattle.ffct.specs.Transforms.{rearranged, rotated, dctBy, cosineDft, dct}
 use Rattle.ffct.specs.Block.{word}
 use Rattle.whole.proofs.Words.{held}
-use Rattle.short.proofs.Short.{_&_, each, Wings, join-asked, join-wings, sample-twice}
+use Rattle.short.proofs.Short.{_&_, each, TwoWords, join-asked, join-words, sample-twice}
 use Rattle.short.proofs.dct_2.Statement.{statement}
 use Rattle.short.proofs.dct_2.Tie as tie
 
 -- the cosine-DFT
-cosine : (a : tie.After-butterfly) → let x = a .before .before .before .args .t2 in Wings (word x 0) (word x 1) (a .butterfly .result .sum) (a .butterfly .result .difference)
+cosine : (a : tie.After-add-and-subtract) → let x = a .before .before .before .args .t2 in TwoWords (word x 0) (word x 1) (a .add-and-subtract .result .sum) (a .add-and-subtract .result .difference)
 cosine a =
     let s = a .before .before .before in
     let small = sample-twice (s .args .t2) (s .pre .1) in
-    join-wings (s .args .t2) (s .args .t2) small small 0 1 (lit< tt) (lit< tt) (a .butterfly .ensures)
+    join-words (s .args .t2) (s .args .t2) small small 0 1 (lit< tt) (lit< tt) (a .add-and-subtract .ensures)
 
-butterfly-requires : tie.Need-butterfly-requires
-butterfly-requires c κs =
+add-and-subtract-requires : tie.Need-add-and-subtract-requires
+add-and-subtract-requires c κs =
     let s = c .before .before in
     let small = sample-twice (s .args .t2) (s .pre .1) in
     join-asked (s .args .t2) (s .args .t2) small small 0 1 (lit< tt) (lit< tt)
@@ -42,15 +42,15 @@ returns c =
     record {
       values = each 2 _ (cosine a .sum .is & held (c .struct-told3 .given .0 .1) (m .middle) .is ∙ ap (λ z. round (T 512 *ℤ z)) (cosine a .difference .is) & tt);
       products = m .one-product;
-      sums = a .butterfly .ensures .counted;
+      sums = a .add-and-subtract .ensures .counted;
     }
 
 pub dct-2-spec : {M : Type 1} → statement M
 dct-2-spec =
     tie.close
     (tie.spec
-    (λ c. lit< tt)  -- array-copy-out-butterfly
-    (λ c. lit< tt)  -- array-copy-out-butterfly-2
-    butterfly-requires
+    (λ c. lit< tt)  -- array-copy-out-add-and-subtract
+    (λ c. lit< tt)  -- array-copy-out-add-and-subtract-2
+    add-and-subtract-requires
     rotate-middle-requires
     returns)

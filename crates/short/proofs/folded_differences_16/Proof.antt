@@ -4,8 +4,8 @@ use lib.Dec.{lit<}
 use lib.IntN.{_-ℤ_}
 use Rattle.ffct.specs.Transforms.{alternate}
 use Rattle.ffct.specs.Block.{word}
-use Rattle.ffct.proofs.Alternate.{alternate-even}
-use Rattle.short.proofs.Short.{_&_, each, sample-difference, turned}
+use Rattle.ffct.proofs.Alternate.{alternate-even, alternate-turned}
+use Rattle.short.proofs.Short.{_&_, each, sample-difference}
 use Rattle.short.proofs.folded_differences_16.Statement.{statement}
 use Rattle.short.proofs.folded_differences_16.Tie as tie
 
@@ -18,9 +18,9 @@ returns c =
     record {
       values = each 4 _ (
           difference 1 15 (lit< tt) (lit< tt) .made &
-          difference 13 3 (lit< tt) (lit< tt) .made ∙ turned 1 (word x 3) (word x 13) refl &
+          difference 13 3 (lit< tt) (lit< tt) .made ∙ alternate-turned 1 (word x 3) (word x 13) refl &
           difference 5 11 (lit< tt) (lit< tt) .made ∙ sym (alternate-even 2 (word x 5 -ℤ word x 11) refl) &
-          difference 9 7 (lit< tt) (lit< tt) .made ∙ turned 3 (word x 7) (word x 9) refl &
+          difference 9 7 (lit< tt) (lit< tt) .made ∙ alternate-turned 3 (word x 7) (word x 9) refl &
           tt
           );
       counted = refl;

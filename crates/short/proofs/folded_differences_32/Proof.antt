@@ -4,8 +4,8 @@ use lib.Dec.{lit<}
 use lib.IntN.{_-ℤ_}
 use Rattle.ffct.specs.Transforms.{alternate}
 use Rattle.ffct.specs.Block.{word}
-use Rattle.ffct.proofs.Alternate.{alternate-even}
-use Rattle.short.proofs.Short.{_&_, each, sample-difference, turned}
+use Rattle.ffct.proofs.Alternate.{alternate-even, alternate-turned}
+use Rattle.short.proofs.Short.{_&_, each, sample-difference}
 use borrow.Author.Needs.{needs}
 use Rattle.short.proofs.folded_differences_32.Statement.{statement}
 use Rattle.short.proofs.folded_differences_32.Tie as tie
@@ -19,13 +19,13 @@ returns c =
     record {
       values = each 8 _ (
           difference 1 31 (lit< tt) (lit< tt) .made &
-          difference 29 3 (lit< tt) (lit< tt) .made ∙ turned 1 (word x 3) (word x 29) refl &
+          difference 29 3 (lit< tt) (lit< tt) .made ∙ alternate-turned 1 (word x 3) (word x 29) refl &
           difference 5 27 (lit< tt) (lit< tt) .made ∙ sym (alternate-even 2 (word x 5 -ℤ word x 27) refl) &
-          difference 25 7 (lit< tt) (lit< tt) .made ∙ turned 3 (word x 7) (word x 25) refl &
+          difference 25 7 (lit< tt) (lit< tt) .made ∙ alternate-turned 3 (word x 7) (word x 25) refl &
           difference 9 23 (lit< tt) (lit< tt) .made ∙ sym (alternate-even 4 (word x 9 -ℤ word x 23) refl) &
-          difference 21 11 (lit< tt) (lit< tt) .made ∙ turned 5 (word x 11) (word x 21) refl &
+          difference 21 11 (lit< tt) (lit< tt) .made ∙ alternate-turned 5 (word x 11) (word x 21) refl &
           difference 13 19 (lit< tt) (lit< tt) .made ∙ sym (alternate-even 6 (word x 13 -ℤ word x 19) refl) &
-          difference 17 15 (lit< tt) (lit< tt) .made ∙ turned 7 (word x 15) (word x 17) refl &
+          difference 17 15 (lit< tt) (lit< tt) .made ∙ alternate-turned 7 (word x 15) (word x 17) refl &
           tt
           );
       counted = refl;

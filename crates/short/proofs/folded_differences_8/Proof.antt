@@ -3,7 +3,8 @@ use mathlib.Core.Path.{refl, _∙_}
 use lib.Dec.{lit<}
 use Rattle.ffct.specs.Transforms.{alternate}
 use Rattle.ffct.specs.Block.{word}
-use Rattle.short.proofs.Short.{_&_, each, sample-difference, turned}
+use Rattle.ffct.proofs.Alternate.{alternate-turned}
+use Rattle.short.proofs.Short.{_&_, each, sample-difference}
 use Rattle.short.proofs.folded_differences_8.Statement.{statement}
 use Rattle.short.proofs.folded_differences_8.Tie as tie
 
@@ -16,7 +17,7 @@ returns c =
     record {
       values = each 2 _ (
           difference 1 7 (lit< tt) (lit< tt) .made &
-          difference 5 3 (lit< tt) (lit< tt) .made ∙ turned 1 (word x 3) (word x 5) refl &
+          difference 5 3 (lit< tt) (lit< tt) .made ∙ alternate-turned 1 (word x 3) (word x 5) refl &
           tt
           );
       counted = refl;

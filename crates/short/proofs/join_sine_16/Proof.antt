@@ -1,4 +1,4 @@
--- `short::join_sine_16` meets its contract: the butterflies are (15), and the coefficient in the middle is moved. Assumes nothing.
+-- `short::join_sine_16` meets its contract: the sums and differences are (15), and the coefficient in the middle is moved. Assumes nothing.
 use mathlib.Core.Path.{_≡_, sym, _∙_, ap}
 use Prim.Native.Nat.{_+_}
 use native.Mathlib.Nat.{le-refl}
@@ -7,19 +7,19 @@ use lib.Dec.{lit<}
 use lib.IntN.{pos, negℤ, _+ℤ_, +ℤ-idl, +ℤ-comm}
 use Rattle.ffct.specs.Transforms.{sineBeyond, dctBeyond, apart}
 use Rattle.ffct.specs.Block.{word}
-use Rattle.short.proofs.Short.{_&_, each, bounded-word, join-asked, join-wings}
+use Rattle.short.proofs.Short.{_&_, each, bounded-word, join-asked, join-words}
 use Rattle.short.proofs.join_sine_16.Statement.{statement}
 use Rattle.short.proofs.join_sine_16.Tie as tie
 
 -- the sums that they take
-counted : (a₃ : tie.After-butterfly3) →
+counted : (a₃ : tie.After-add-and-subtract3) →
     let a₂ = a₃ .before .before .before in
     let a₁ = a₂ .before .before .before in
-    a₁ .butterfly .result .sums + a₂ .butterfly2 .result .sums + a₃ .butterfly3 .result .sums ≡ 6
+    a₁ .add-and-subtract .result .sums + a₂ .add-and-subtract2 .result .sums + a₃ .add-and-subtract3 .result .sums ≡ 6
 counted a₃ =
     let a₂ = a₃ .before .before .before in
     let a₁ = a₂ .before .before .before in
-    omega (arith, a₁ .butterfly .ensures .counted, a₂ .butterfly2 .ensures .counted, a₃ .butterfly3 .ensures .counted)
+    omega (arith, a₁ .add-and-subtract .ensures .counted, a₂ .add-and-subtract2 .ensures .counted, a₃ .add-and-subtract3 .ensures .counted)
 
 returns : tie.Need-returns
 unfolding sineBeyond dctBeyond apart
@@ -30,9 +30,9 @@ returns c =
     let s = a₁ .before .before .before in
     let e = s .args .t1 in
     let d = s .args .t2 in
-    let first = join-wings d e (s .pre .0 .1) (s .pre .0 .0) 3 1 (lit< tt) (lit< tt) (a₁ .butterfly .ensures) in
-    let second = join-wings d e (s .pre .0 .1) (s .pre .0 .0) 2 2 (lit< tt) (lit< tt) (a₂ .butterfly2 .ensures) in
-    let third = join-wings d e (s .pre .0 .1) (s .pre .0 .0) 1 3 (lit< tt) (lit< tt) (a₃ .butterfly3 .ensures) in
+    let first = join-words d e (s .pre .0 .1) (s .pre .0 .0) 3 1 (lit< tt) (lit< tt) (a₁ .add-and-subtract .ensures) in
+    let second = join-words d e (s .pre .0 .1) (s .pre .0 .0) 2 2 (lit< tt) (lit< tt) (a₂ .add-and-subtract2 .ensures) in
+    let third = join-words d e (s .pre .0 .1) (s .pre .0 .0) 1 3 (lit< tt) (lit< tt) (a₃ .add-and-subtract3 .ensures) in
     record {
       values = each 9 _ (
           sym (ap (λ z. z +ℤ pos 0) (s .pre .1 .0)) &
@@ -53,15 +53,15 @@ pub join-sine-16-spec : {M : Type 1} → statement M
 join-sine-16-spec =
     tie.close
     (tie.spec
-    (λ c. lit< tt)  -- array-copy-out-butterfly
-    (λ c. lit< tt)  -- array-copy-out-butterfly-2
-    (λ c κs. let s = c .before .before in join-asked (s .args .t2) (s .args .t1) (s .pre .0 .1) (s .pre .0 .0) 3 1 (lit< tt) (lit< tt))  -- butterfly-requires
-    (λ c. lit< tt)  -- array-copy-out-butterfly-3
-    (λ c. lit< tt)  -- array-copy-out-butterfly-4
-    (λ c κs. let s = c .before .before .before .before .before in join-asked (s .args .t2) (s .args .t1) (s .pre .0 .1) (s .pre .0 .0) 2 2 (lit< tt) (lit< tt))  -- butterfly-requires-2
-    (λ c. lit< tt)  -- array-copy-out-butterfly-5
-    (λ c. lit< tt)  -- array-copy-out-butterfly-6
-    (λ c κs. let s = c .before .before .before .before .before .before .before .before in join-asked (s .args .t2) (s .args .t1) (s .pre .0 .1) (s .pre .0 .0) 1 3 (lit< tt) (lit< tt))  -- butterfly-requires-3
+    (λ c. lit< tt)  -- array-copy-out-add-and-subtract
+    (λ c. lit< tt)  -- array-copy-out-add-and-subtract-2
+    (λ c κs. let s = c .before .before in join-asked (s .args .t2) (s .args .t1) (s .pre .0 .1) (s .pre .0 .0) 3 1 (lit< tt) (lit< tt))  -- add-and-subtract-requires
+    (λ c. lit< tt)  -- array-copy-out-add-and-subtract-3
+    (λ c. lit< tt)  -- array-copy-out-add-and-subtract-4
+    (λ c κs. let s = c .before .before .before .before .before in join-asked (s .args .t2) (s .args .t1) (s .pre .0 .1) (s .pre .0 .0) 2 2 (lit< tt) (lit< tt))  -- add-and-subtract-requires-2
+    (λ c. lit< tt)  -- array-copy-out-add-and-subtract-5
+    (λ c. lit< tt)  -- array-copy-out-add-and-subtract-6
+    (λ c κs. let s = c .before .before .before .before .before .before .before .before in join-asked (s .args .t2) (s .args .t1) (s .pre .0 .1) (s .pre .0 .0) 1 3 (lit< tt) (lit< tt))  -- add-and-subtract-requires-3
     (λ c. lit< tt)  -- array-copy-out-t10
     (λ c. omega (arith, counted (c .before .before .before .before .before .before)))  -- add-t25
     (λ c. omega (arith, counted (c .before .before .before .before .before .before .before)))  -- add-t26

@@ -1,4 +1,4 @@
--- `short::join_sine_8` meets its contract: the butterflies are (15), and the coefficient in the middle is moved. Assumes nothing.
+-- `short::join_sine_8` meets its contract: the sums and differences are (15), and the coefficient in the middle is moved. Assumes nothing.
 use mathlib.Core.Path.{_≡_, sym, _∙_, ap}
 use native.Mathlib.Nat.{le-refl}
 use native.Mathlib.Omega.{arith}
@@ -6,13 +6,13 @@ use lib.Dec.{lit<}
 use lib.IntN.{pos, negℤ, _+ℤ_, +ℤ-idl, +ℤ-comm}
 use Rattle.ffct.specs.Transforms.{sineBeyond, dctBeyond, apart}
 use Rattle.ffct.specs.Block.{word}
-use Rattle.short.proofs.Short.{_&_, each, bounded-word, join-asked, join-wings}
+use Rattle.short.proofs.Short.{_&_, each, bounded-word, join-asked, join-words}
 use Rattle.short.proofs.join_sine_8.Statement.{statement}
 use Rattle.short.proofs.join_sine_8.Tie as tie
 
 -- the sums that they take
-counted : (a₁ : tie.After-butterfly) → a₁ .butterfly .result .sums ≡ 2
-counted a₁ = omega (arith, a₁ .butterfly .ensures .counted)
+counted : (a₁ : tie.After-add-and-subtract) → a₁ .add-and-subtract .result .sums ≡ 2
+counted a₁ = omega (arith, a₁ .add-and-subtract .ensures .counted)
 
 returns : tie.Need-returns
 unfolding sineBeyond dctBeyond apart
@@ -21,7 +21,7 @@ returns c =
     let s = a₁ .before .before .before in
     let e = s .args .t1 in
     let d = s .args .t2 in
-    let first = join-wings d e (s .pre .0 .1) (s .pre .0 .0) 1 1 (lit< tt) (lit< tt) (a₁ .butterfly .ensures) in
+    let first = join-words d e (s .pre .0 .1) (s .pre .0 .0) 1 1 (lit< tt) (lit< tt) (a₁ .add-and-subtract .ensures) in
     record {
       values = each 5 _ (
           sym (ap (λ z. z +ℤ pos 0) (s .pre .1 .0)) &
@@ -38,8 +38,8 @@ pub join-sine-8-spec : {M : Type 1} → statement M
 join-sine-8-spec =
     tie.close
     (tie.spec
-    (λ c. lit< tt)  -- array-copy-out-butterfly
-    (λ c. lit< tt)  -- array-copy-out-butterfly-2
-    (λ c κs. let s = c .before .before in join-asked (s .args .t2) (s .args .t1) (s .pre .0 .1) (s .pre .0 .0) 1 1 (lit< tt) (lit< tt))  -- butterfly-requires
+    (λ c. lit< tt)  -- array-copy-out-add-and-subtract
+    (λ c. lit< tt)  -- array-copy-out-add-and-subtract-2
+    (λ c κs. let s = c .before .before in join-asked (s .args .t2) (s .args .t1) (s .pre .0 .1) (s .pre .0 .0) 1 1 (lit< tt) (lit< tt))  -- add-and-subtract-requires
     (λ c. lit< tt)  -- array-copy-out-t8
     returns)

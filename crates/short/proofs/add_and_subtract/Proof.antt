@@ -1,4 +1,4 @@
--- `short::butterfly` meets its contract: both numbers are small enough that the sum and the difference fit a word. Assumes nothing.
+-- `short::add_and_subtract` meets its contract: both numbers are small enough that the sum and the difference fit a word. Assumes nothing.
 use mathlib.Core.Path.{refl}
 use lib.IntN.{_+ℤ_, _-ℤ_}
 use mir.Syntax.{w64}
@@ -8,8 +8,8 @@ use Rattle.whole.proofs.Size.{size-within}
 use Rattle.whole.proofs.Words.{word}
 use Rattle.whole.proofs.Operations.{Computes}
 use Rattle.ffct.proofs.Sizes.{added, subtracted}
-use Rattle.short.proofs.butterfly.Statement.{statement}
-use Rattle.short.proofs.butterfly.Tie as tie
+use Rattle.short.proofs.add_and_subtract.Statement.{statement}
+use Rattle.short.proofs.add_and_subtract.Tie as tie
 
 module _ (c : tie.Start) where
   sum : Computes _+ℤ_ (ofZ w64 (c .args .x)) (ofZ w64 (c .args .y)) (c .args .x) (c .args .y)
@@ -33,5 +33,5 @@ add-sums-2 c = search needs
 returns : tie.Need-returns
 returns c = record { added = sum c .made; subtracted = difference c .made; counted = refl }
 
-pub butterfly-spec : {M : Type 1} → statement M
-butterfly-spec = tie.close (tie.spec add-sum add-sums sub-difference add-sums-2 returns)
+pub add-and-subtract-spec : {M : Type 1} → statement M
+add-and-subtract-spec = tie.close (tie.spec add-sum add-sums sub-difference add-sums-2 returns)
