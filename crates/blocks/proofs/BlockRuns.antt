@@ -9,7 +9,8 @@ use native.Mathlib.Omega.{arith}
 use lib.IntN.{ℤ, pos, natAbs}
 use lib.ListN.{length}
 use Rattle.whole.proofs.Size.{within-size}
-use Rattle.ffct.specs.Block.{Samples, AcceptedBlock, largestSum, isLength, level, word}
+use Rattle.words.specs.Words.{Samples, word}
+use Rattle.ffct.specs.Block.{AcceptedBlock, largestSum, isLength, level}
 use Rattle.ffct.specs.Transforms.{Transform, cosineBeyond, cosineDft, sineDft, dct}
 use Rattle.ffct.proofs.Lengths.{len, pow-len, len-pos}
 use Rattle.ffct.proofs.Blocks.{Same, dft-same, dct-same, cosine-beyond-same}

@@ -8,7 +8,8 @@ use native.Mathlib.Omega.{arith}
 use lib.IntN.{ℤ, pos, natAbs}
 use lib.ListN.{length}
 use Rattle.whole.proofs.Cases.{le-or-lt}
-use Rattle.ffct.specs.Block.{Samples, level, largestSum, word}
+use Rattle.words.specs.Words.{Samples, word}
+use Rattle.ffct.specs.Block.{level, largestSum}
 use Rattle.ffct.specs.Transforms.{Transform, cosineBeyond, sineBeyond, cosineDft, sineDft}
 use Rattle.ffct.proofs.Lengths.{pow-len}
 use Rattle.ffct.proofs.Steps.{cosine-low, cosine-high}

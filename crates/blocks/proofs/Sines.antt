@@ -18,7 +18,8 @@ use Rattle.whole.proofs.Cases.{le-or-lt}
 use Rattle.whole.proofs.Difference.{parts, diff}
 use Rattle.whole.proofs.Size.{_within_, near, size-within, within-neg, within-add, within-sub, within-fits}
 use Rattle.whole.proofs.Words.{asked, made}
-use Rattle.ffct.specs.Block.{largestSum, word}
+use Rattle.words.specs.Words.{word}
+use Rattle.ffct.specs.Block.{largestSum}
 use Rattle.ffct.specs.Transforms.{sineBeyond}
 use Rattle.ffct.proofs.Steps.{sine-low, sine-high}
 use Rattle.blocks.specs.Words.{WrittenBySums, Joinable}

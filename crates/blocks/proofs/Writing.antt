@@ -24,7 +24,8 @@ use Rattle.whole.proofs.Cases.{le-or-lt}
 use Rattle.whole.proofs.Size.{size-within, within-fits}
 use Rattle.whole.proofs.Words as Words
 use Rattle.whole.proofs.Words.{Word}
-use Rattle.ffct.specs.Block.{largestSum, word}
+use Rattle.words.specs.Words.{word}
+use Rattle.ffct.specs.Block.{largestSum}
 use Rattle.blocks.specs.Words.{Written}
 
 -- a small word of 64 bits, cast to 32: what the cast asks, and what it gives

@@ -5,7 +5,8 @@ use mathlib.Core.Path.{_≡_}
 use Prim.Native.Nat.{ℕ, _+_, _*_, _/_, _≤_, _<_}
 use lib.IntN.{ℤ, pos, natAbs}
 use lib.ListN.{length}
-use Rattle.ffct.specs.Block.{largestSample, isLength, level, word}
+use Rattle.words.specs.Words.{word}
+use Rattle.ffct.specs.Block.{largestSample, isLength, level}
 use Rattle.ffct.specs.Transforms.{cosineBeyond, cosineDft, sineDft, dct as dctOf, spectrum as spectrumOf, pair as pairOf}
 use Rattle.blocks.specs.Words.{Written}
 

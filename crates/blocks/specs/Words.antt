@@ -4,7 +4,8 @@ use mathlib.Core.Path.{_≡_}
 use Prim.Native.Nat.{ℕ, _+_, _/_, _≤_, _<_}
 use lib.IntN.{ℤ, pos, natAbs}
 use lib.ListN.{length}
-use Rattle.ffct.specs.Block.{largestSum, word}
+use Rattle.words.specs.Words.{word}
+use Rattle.ffct.specs.Block.{largestSum}
 
 -- the first m words now hold f 0, f 1, .. f (m - 1); the words beyond stay, and so does the length
 pub record Written (m : ℕ) (f : ℕ → ℤ) (before after : List ℤ) : Type 0 where

@@ -10,7 +10,7 @@ use lib.IntN.{ℤ, pos, negℤ, _+ℤ_, _-ℤ_, _*ℤ_}
 use Rattle.whole.proofs.Cases.{le-or-lt}
 use Rattle.whole.specs.Round.{round}
 use Rattle.circle.specs.Circle.{T}
-use Rattle.ffct.specs.Block.{Samples}
+use Rattle.words.specs.Words.{Samples}
 use Rattle.ffct.specs.Transforms.{evens, foldedSums, foldedDifferences, alternate, rearranged, cosineBeyond, sineBeyond, dctBeyond, apart, rotated, dctBy, cosineDft, sineDft, dct, spectrum, pair}
 use Rattle.ffct.proofs.Lengths.{len, pow-len, len-pos}
 use Rattle.ffct.proofs.Steps.{rearranged-source, sine-step, cosine-low, cosine-high, sine-low, sine-high, dct-low, dct-middle, dct-high, rotated-zero, rotated-low, rotated-middle, rotated-high}

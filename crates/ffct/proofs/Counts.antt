@@ -14,7 +14,8 @@ use Rattle.whole.proofs.Difference.{parts, int, diff, ⊖-same}
 use Rattle.whole.proofs.Size.{near}
 use Rattle.whole.proofs.Floor.{Floor, floor}
 use Rattle.whole.proofs.Powers.{pow-pos}
-use Rattle.ffct.specs.Block.{Samples, topLevel}
+use Rattle.words.specs.Words.{Samples}
+use Rattle.ffct.specs.Block.{topLevel}
 use Rattle.ffct.specs.Transforms.{evens, foldedSums, foldedDifferences, rearranged, dctBy, cosineDft, sineDft, dct, spectrum, pair}
 use Rattle.ffct.specs.Counts.{dctProducts, dctSums, spectrumProducts, spectrumSums, pairProducts, pairSums}
 use Rattle.ffct.specs.Limits.{PublishedCounts}

@@ -10,7 +10,8 @@ use Rattle.whole.proofs.Cases.{both, below, below-at}
 use Rattle.whole.proofs.Difference.{int}
 use Rattle.whole.proofs.Size.{size-within, within-size}
 use Rattle.circle.specs.Circle.{B}
-use Rattle.ffct.specs.Block.{Samples, topLevel, largestSample, AcceptedBlock}
+use Rattle.words.specs.Words.{Samples}
+use Rattle.ffct.specs.Block.{topLevel, largestSample, AcceptedBlock}
 use Rattle.ffct.specs.Exact.{Limit, eighth, quarterOfNext, quarter, Within}
 use Rattle.ffct.specs.Transforms.{cosineBeyond, sineBeyond, cosineDft, sineDft, dct, spectrum, pair}
 use Rattle.ffct.specs.Limits.{Limits, PairLimits}

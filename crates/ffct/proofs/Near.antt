@@ -20,7 +20,7 @@ use Rattle.circle.specs.Laws.{additionError}
 use Rattle.circle.proofs.Places.{mirror, opposite, K-zero}
 use Rattle.circle.proofs.Wave.{K-start, K-within}
 use Rattle.circle.proofs.Stored.{at-entry}
-use Rattle.ffct.specs.Block.{Samples}
+use Rattle.words.specs.Words.{Samples}
 use Rattle.ffct.specs.Transforms.{evens, foldedSums, foldedDifferences, alternate, rearranged, cosineBeyond, sineBeyond, dctBeyond, apart, rotated, cosineDft, sineDft, dct}
 use Rattle.ffct.proofs.Lengths.{len}
 use Rattle.ffct.proofs.Steps.{cosine-low, cosine-high, sine-low, sine-high, dct-low, dct-middle, dct-high, rearranged-source, rotated-zero, rotated-low, rotated-middle, rotated-high, cosine-step, sine-step, dct-step, dct-one}

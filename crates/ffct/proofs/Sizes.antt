@@ -20,7 +20,8 @@ use Rattle.circle.specs.Circle as Circle
 use Rattle.circle.specs.Circle.{B, K}
 use Rattle.circle.proofs.Wave.{K-within}
 use Rattle.circle.proofs.Stored.{at-entry}
-use Rattle.ffct.specs.Block.{Samples, topLevel, largestSample, AcceptedBlock, largestSum}
+use Rattle.words.specs.Words.{Samples}
+use Rattle.ffct.specs.Block.{topLevel, largestSample, AcceptedBlock, largestSum}
 use Rattle.ffct.specs.Transforms.{cosineBeyond, sineBeyond, cosineDft, sineDft, dct, spectrum, pair}
 use Rattle.ffct.proofs.Lengths.{len, pow-len, len-pos, per, len-per}
 use Rattle.ffct.proofs.Steps.{cosine-low, cosine-high, sine-low, sine-high}

@@ -15,7 +15,7 @@ use Rattle.circle.specs.Circle.{B, K, sineAt}
 use Rattle.circle.specs.Laws.{additionError}
 use Rattle.circle.proofs.Places.{mirror, opposite}
 use Rattle.circle.proofs.Addition.{addition}
-use Rattle.ffct.specs.Block.{Samples}
+use Rattle.words.specs.Words.{Samples}
 use Rattle.ffct.specs.Transforms.{evens, foldedSums, foldedDifferences, alternate, rearranged, apart}
 use Rattle.ffct.proofs.Steps.{rearranged-near, rearranged-far}
 use Rattle.ffct.proofs.Sums.{cosSum, sinSum, dctSum}

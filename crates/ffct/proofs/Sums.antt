@@ -13,7 +13,7 @@ use Rattle.whole.proofs.Sums.{sum-cong, sum-add, sum-sub, sum-neg, sum-within}
 use Rattle.circle.specs.Circle.{B, K, sineAt}
 use Rattle.circle.proofs.Places.{mirror, opposite}
 use Rattle.circle.proofs.Wave.{K-within}
-use Rattle.ffct.specs.Block.{Samples}
+use Rattle.words.specs.Words.{Samples}
 use Rattle.ffct.specs.Exact.{exactCosine, exactSine, exactDct, exactReal, exactImaginary}
 use Rattle.ffct.proofs.Lengths.{quotient}
 

@@ -3,16 +3,8 @@ use mathlib.Core.Bool.{Bool, false, cond, _||_}
 use mathlib.Core.List.{List, [], _∷_}
 use Prim.Native.Nat.{ℕ, suc, _^_, _<_, _≤_}
 use lib.Dec.{eqb}
-use lib.IntN.{ℤ, pos, natAbs}
-use lib.ListN.{getD}
-
--- the samples of a block: x n, for n below its length N; x 0 is the sample at the start
-abbrev pub Samples : Type 0
-Samples = ℕ → ℤ
-
--- the samples that stand at the front of a list of words: word k at k, and 0 past the end
-abbrev pub word : List ℤ → ℕ → ℤ
-word words k = getD words k (pos 0)
+use lib.IntN.{natAbs}
+use Rattle.words.specs.Words.{Samples}
 
 -- "N is the block length: 1, 2, 4, .. 1,024". In the definitions below N is 2 ^ L, and L is the level, 0 .. 10
 abbrev pub lengths : List ℕ

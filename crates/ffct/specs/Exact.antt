@@ -3,7 +3,7 @@ use Prim.Native.Nat.{ℕ, _+_, _*_, _/_, _≤_}
 use lib.IntN.{ℤ, pos, natAbs, _+ℤ_, _-ℤ_, _*ℤ_}
 use Rattle.whole.specs.Sum.{sum}
 use Rattle.circle.specs.Circle.{B, K, sineAt}
-use Rattle.ffct.specs.Block.{Samples}
+use Rattle.words.specs.Words.{Samples}
 
 -- "cosine-DFT(k) is the sum of x(n)·K(nk·4096/N)"
 unfoldable pub exactCosine : ℕ → Samples → ℕ → ℤ

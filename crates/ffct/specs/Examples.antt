@@ -4,7 +4,7 @@ use mathlib.Core.List.{List, [], _∷_}
 use Prim.Native.Nat.{ℕ, zero, suc, _/_, _+_, _^_}
 use lib.IntN.{ℤ, pos, negsuc}
 use lib.ListN.{getD}
-use Rattle.ffct.specs.Block.{Samples}
+use Rattle.words.specs.Words.{Samples}
 use Rattle.ffct.specs.Transforms.{dct, spectrum}
 
 -- an example: a block of 2 ^ L samples with what Spectrum or the DCT gives, or what every block of 2 ^ L samples costs

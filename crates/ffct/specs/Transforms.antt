@@ -5,7 +5,7 @@ use lib.Dec.{ltb, leb, eqb}
 use lib.IntN.{ℤ, pos, negℤ, _+ℤ_, _-ℤ_, _*ℤ_}
 use Rattle.whole.specs.Round.{round}
 use Rattle.circle.specs.Circle.{T}
-use Rattle.ffct.specs.Block.{Samples}
+use Rattle.words.specs.Words.{Samples}
 
 -- what a transform gives: coefficient k, and the products and sums that its steps make. "Sign changes, moves, sums with a term that is zero for every block,
 -- sums of table entries alone and the half in a rounding are free."

@@ -13,7 +13,8 @@ use lib.IntN.{ℤ}
 use lib.ListN.{length}
 use borrow.Author.Tests.{lt-ltb, le-ltb, eq-eqb, ne-eqb}
 use Rattle.whole.proofs.Cases.{le-or-lt}
-use Rattle.ffct.specs.Block.{Samples, isLength}
+use Rattle.words.specs.Words.{Samples}
+use Rattle.ffct.specs.Block.{isLength}
 use Rattle.blocks.specs.Words.{Written}
 use Rattle.refusals.specs.Refusals.{someBelow, firstOutIn, refused, accepted}
 use Rattle.refusals.proofs.Ranges.{passed}

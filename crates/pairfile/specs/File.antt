@@ -4,7 +4,8 @@ use mathlib.Core.List.{List, [], _∷_}
 use Prim.Native.Nat.{ℕ, _+_, _*_}
 use lib.Dec.{eqb, ltb}
 use lib.ListN.{length}
-use Rattle.ffct.specs.Block.{Samples, isLength}
+use Rattle.words.specs.Words.{Samples}
+use Rattle.ffct.specs.Block.{isLength}
 use Rattle.refusals.specs.Refusals.{someBelow, Verdict, refused, firstOutIn}
 use Rattle.little_endian.specs.Numbers.{unsigned, signed}
 

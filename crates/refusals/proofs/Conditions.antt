@@ -8,7 +8,7 @@ use Prim.Native.Nat.{ℕ, _+_, _≤_, _<_}
 use native.Mathlib.Omega.{arith}
 use lib.Dec.{ltb}
 use borrow.Author.Tests.{lt-ltb, le-ltb}
-use Rattle.ffct.specs.Block.{Samples}
+use Rattle.words.specs.Words.{Samples}
 use Rattle.refusals.specs.Refusals.{someBelow, firstOut, firstOutIn, Verdict, refused, refusedAt, accepted}
 
 -- ---- lengths: all reach n, or some are below it

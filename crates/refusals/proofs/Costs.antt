@@ -5,7 +5,8 @@ use mathlib.Core.Bool.{true}
 use Prim.Native.Nat.{ℕ, suc, _+_, _-_, _*_, _/_, _^_, _≤_, _<_}
 use native.Mathlib.Omega.{arith}
 use lib.IntN.{pos}
-use Rattle.ffct.specs.Block.{Samples, topLevel, isLength, level}
+use Rattle.words.specs.Words.{Samples}
+use Rattle.ffct.specs.Block.{topLevel, isLength, level}
 use Rattle.ffct.specs.Transforms.{evens, foldedSums, foldedDifferences, rearranged, cosineDft, sineDft, dct, spectrum, pair}
 use Rattle.ffct.proofs.Lengths.{len, pow-len, len-injective}
 use Rattle.ffct.proofs.Steps.{cosine-products, cosine-sums, sine-products, sine-sums, dct-products, dct-sums}

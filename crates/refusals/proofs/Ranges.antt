@@ -9,7 +9,8 @@ use native.Mathlib.Omega.{arith}
 use lib.IntN.{natAbs}
 use borrow.Author.Tests.{leb-true, le-leb}
 use Rattle.whole.proofs.Cases.{le-or-lt}
-use Rattle.ffct.specs.Block.{Samples, largestSample}
+use Rattle.words.specs.Words.{Samples}
+use Rattle.ffct.specs.Block.{largestSample}
 use Rattle.refusals.specs.Refusals.{inRange, firstOut}
 
 outcome : (b : Bool) → (b ≡ true) ⊎ (b ≡ false)

@@ -2,7 +2,8 @@
 use mathlib.Core.Path.{_≡_}
 use Prim.Native.Nat.{ℕ, suc, _^_, _≤_}
 use lib.IntN.{pos}
-use Rattle.ffct.specs.Block.{Samples, level}
+use Rattle.words.specs.Words.{Samples}
+use Rattle.ffct.specs.Block.{level}
 use Rattle.ffct.specs.Transforms.{Transform, cosineDft, sineDft, dct, spectrum, pair}
 use Rattle.ffct.specs.Counts.{dctProducts, dctSums, spectrumProducts, spectrumSums, pairProducts, pairSums}
 

@@ -1,7 +1,7 @@
 // The range of samples.
 ghost use mathlib.Core.Path.{_≡_};
 ghost use lib.ListN.{length};
-ghost use Rattle.ffct.specs.Block.{word};
+ghost use Rattle.words.specs.Words.{word};
 ghost use Rattle.refusals.specs.Refusals.{inRange, firstOut};
 
 pub fn in_range(x: i32) -> bool

@@ -7,7 +7,8 @@ use Prim.Native.Nat.{ℕ, zero, suc, _+_, _*_, _/_, _≤_, _<_}
 use native.Mathlib.Omega.{arith}
 use lib.IntN.{ℤ}
 use lib.ListN.{length, take}
-use Rattle.ffct.specs.Block.{Samples, isLength, level, word}
+use Rattle.words.specs.Words.{Samples, word}
+use Rattle.ffct.specs.Block.{isLength, level}
 use Rattle.ffct.proofs.Lengths.{pow-len}
 use Rattle.ffct.proofs.ElevenLengths.{is-power, length-le}
 use Rattle.ffct.proofs.Blocks.{pair-same}

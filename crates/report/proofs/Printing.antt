@@ -10,7 +10,8 @@ use native.Mathlib.Omega.{arith}
 use lib.IntN.{ℤ}
 use lib.ListN.{length}
 use lib.Pow.{pow-pos}
-use Rattle.ffct.specs.Block.{Samples, isLength, level, word}
+use Rattle.words.specs.Words.{Samples, word}
+use Rattle.ffct.specs.Block.{isLength, level}
 use Rattle.ffct.specs.Transforms.{pair as pairOf}
 use Rattle.ffct.proofs.ElevenLengths.{is-power}
 use Rattle.refusals.specs.Refusals.{block}

@@ -1,7 +1,8 @@
 -- Document 01, "The pair file": all that `pairspec` prints, as bytes, from the bytes of the file.
 use mathlib.Core.List.{List, [], _∷_, _++_}
 use Prim.Native.Nat.{ℕ, zero, suc, _+_, _*_, _/_}
-use Rattle.ffct.specs.Block.{Samples, level}
+use Rattle.words.specs.Words.{Samples}
+use Rattle.ffct.specs.Block.{level}
 use Rattle.ffct.specs.Transforms.{PairSpectrum, pair}
 use Rattle.refusals.specs.Refusals.{Verdict, refused, refusedAt, accepted}
 use Rattle.text.specs.Lines.{heading, refusal, lines}

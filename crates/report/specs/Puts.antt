@@ -5,7 +5,8 @@ use mathlib.Core.Path.{_≡_}
 use Prim.Native.Nat.{ℕ, _+_, _≤_, _<_}
 use lib.IntN.{ℤ, natAbs}
 use lib.ListN.{length}
-use Rattle.ffct.specs.Block.{isLength, largestSample, word}
+use Rattle.words.specs.Words.{word}
+use Rattle.ffct.specs.Block.{isLength, largestSample}
 use Rattle.refusals.specs.Refusals.{scratchWords}
 use Rattle.text.specs.Put.{Put}
 

@@ -9,7 +9,8 @@ use native.Mathlib.Nat.{le-trans}
 use native.Mathlib.Omega.{arith}
 use lib.Dec.{lit≤}
 use lib.IntN.{ℤ, pos}
-use Rattle.ffct.specs.Block.{Samples, topLevel, largestSum, word}
+use Rattle.words.specs.Words.{Samples, word}
+use Rattle.ffct.specs.Block.{topLevel, largestSum}
 use Rattle.ffct.specs.Transforms.{Transform, evens, foldedSums, foldedDifferences, rearranged, cosineDft, sineDft, dct}
 use Rattle.ffct.proofs.Lengths.{len}
 use Rattle.ffct.proofs.Blocks.{Same, dft-same, dct-same, sine-first, sine-last}

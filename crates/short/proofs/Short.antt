@@ -22,7 +22,8 @@ use Rattle.whole.proofs.Size.{_within_, size-within, within-size, within-add, w
 use Rattle.whole.proofs.Words as Words
 use Rattle.whole.proofs.Words.{Word}
 use Rattle.whole.proofs.Operations.{Computes}
-use Rattle.ffct.specs.Block.{Samples, topLevel, largestSum, word}
+use Rattle.words.specs.Words.{Samples, word}
+use Rattle.ffct.specs.Block.{topLevel, largestSum}
 use Rattle.ffct.specs.Transforms.{Transform, evens, foldedSums, foldedDifferences, rearranged, cosineDft, sineDft, dct}
 use Rattle.ffct.proofs.Lengths.{len, per, len-per}
 use Rattle.ffct.proofs.Counts.{few-operations}

@@ -3,7 +3,8 @@ use mathlib.Core.List.{List}
 use mathlib.Core.Path.{_≡_}
 use Prim.Native.Nat.{ℕ, _+_, _-_, _*_, _≤_, _<_}
 use lib.IntN.{ℤ, natAbs, _+ℤ_, _-ℤ_}
-use Rattle.ffct.specs.Block.{Samples, word, largestSum}
+use Rattle.words.specs.Words.{Samples, word}
+use Rattle.ffct.specs.Block.{largestSum}
 use Rattle.ffct.specs.Transforms.{Transform, cosineBeyond, sineBeyond, dctBeyond, apart, rotated}
 
 -- n times the size of each of n samples is at most the largest sum of a block

@@ -10,7 +10,8 @@ use lib.IntN.{ℤ, pos}
 use lib.ListN.{length, take, drop, length-drop}
 use lib.Seq.{length-take-le, getD-take, getD-drop}
 use borrow.Author.Tests.{lt-ltb, le-ltb}
-use Rattle.ffct.specs.Block.{word, isLength}
+use Rattle.words.specs.Words.{word}
+use Rattle.ffct.specs.Block.{isLength}
 use Rattle.spectra.specs.declared.Answer.{Answer}
 use Rattle.spectra.specs.declared.Answer.the-variants.{BadLength, BeyondRecording, ResultTooShort, ScratchTooShort, AllowanceTooSmall, OutOfRange}
 use Rattle.spectra.specs.Answers.{verdictOf}

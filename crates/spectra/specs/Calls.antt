@@ -5,7 +5,8 @@ use Prim.Native.Nat.{ℕ, _+_}
 use lib.Dec.{ltb}
 use lib.IntN.{ℤ}
 use lib.ListN.{length}
-use Rattle.ffct.specs.Block.{Samples, isLength, word}
+use Rattle.words.specs.Words.{Samples, word}
+use Rattle.ffct.specs.Block.{isLength}
 use Rattle.refusals.specs.Refusals.{someBelow, scratchWords, Verdict, refused, firstOutIn}
 
 abbrev pub lengthsOf : List (List ℤ) → List ℕ

@@ -2,7 +2,7 @@
 use mathlib.Core.List.{List, [], _∷_, _++_}
 use Prim.Native.Nat.{ℕ, zero, suc}
 use lib.IntN.{ℤ}
-use Rattle.ffct.specs.Block.{Samples}
+use Rattle.words.specs.Words.{Samples}
 use Rattle.text.specs.Decimal.{number, decimal}
 
 abbrev pub space : List ℕ

@@ -3,7 +3,7 @@ ghost use Prim.Native.Nat.{_+_, _*_, _≤_, _<_};
 ghost use lib.IntN.{natAbs};
 ghost use lib.ListN.{length};
 ghost use mathlib.Core.Path.{_≡_};
-ghost use Rattle.ffct.specs.Block.{word};
+ghost use Rattle.words.specs.Words.{word};
 ghost use Rattle.text.specs.Decimal.{number, decimal};
 ghost use Rattle.text.specs.Put.{Put};
 ghost use Rattle.text.specs.Lines.{heading, refusal, line, lines};

@@ -7,7 +7,7 @@ use native.Mathlib.Omega.{arith}
 use lib.IntN.{ℤ, pos}
 use lib.ListN.{length, set, length-set}
 use lib.Seq.{getD-set-same, getD-set-other}
-use Rattle.ffct.specs.Block.{Samples, word}
+use Rattle.words.specs.Words.{Samples, word}
 use Rattle.ffct.specs.Transforms.{dctBy, cosineDft, sineDft, dct}
 use Rattle.ffct.proofs.Lengths.{len, len-pos, len-injective}
 use Rattle.transforms.specs.Steps.{Ready, Transformed, Halved}

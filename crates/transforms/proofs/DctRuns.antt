@@ -9,7 +9,8 @@ use lib.IntN.{ℤ, natAbs}
 use lib.ListN.{length}
 use Rattle.whole.proofs.Cases.{le-or-lt}
 use Rattle.whole.proofs.Size.{within-size}
-use Rattle.ffct.specs.Block.{Samples, largestSum, word}
+use Rattle.words.specs.Words.{Samples, word}
+use Rattle.ffct.specs.Block.{largestSum}
 use Rattle.ffct.specs.Transforms.{rearranged, rotated, cosineDft, sineDft, dct}
 use Rattle.ffct.proofs.Lengths.{len, pow-len, len-pos}
 use Rattle.ffct.proofs.Counts.{few-operations}

@@ -10,7 +10,8 @@ use lib.IntN.{ℤ, pos, natAbs, _+ℤ_, _-ℤ_}
 use lib.ListN.{length}
 use Rattle.whole.proofs.Cases.{le-or-lt}
 use Rattle.whole.proofs.Size.{within-size, size-add, within-sub, size-within}
-use Rattle.ffct.specs.Block.{Samples, topLevel, largestSum, word}
+use Rattle.words.specs.Words.{Samples, word}
+use Rattle.ffct.specs.Block.{topLevel, largestSum}
 use Rattle.ffct.specs.Transforms.{Transform, evens, foldedSums, foldedDifferences, alternate, cosineBeyond, sineBeyond, dctBeyond, apart, cosineDft, sineDft, dct}
 use Rattle.ffct.proofs.Lengths.{len, pow-len, len-pos}
 use Rattle.ffct.proofs.Counts.{few-operations}

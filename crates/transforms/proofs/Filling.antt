@@ -15,7 +15,7 @@ use borrow.Author.Count.{below-none, below-more}
 use Rattle.whole.proofs.Cases.{le-or-lt}
 use Rattle.whole.proofs.Words.{Word}
 use Rattle.transforms.specs.Words.{Filled}
-use Rattle.ffct.specs.Block.{word}
+use Rattle.words.specs.Words.{word}
 
 pub fill-none : {b : ℕ} {f : ℕ → ℤ} {words : List ℤ} → Filled b 0 f words words
 fill-none = record { len = refl; new = below-none _; low = λ k h. refl; high = λ k h. refl }

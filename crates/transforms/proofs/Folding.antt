@@ -10,7 +10,8 @@ use mir.Syntax.{w64}
 use mir.Val.{SFits, ofZ}
 use Rattle.whole.proofs.Size.{_within_, size-within}
 use Rattle.whole.proofs.Words.{Word}
-use Rattle.ffct.specs.Block.{largestSum, word}
+use Rattle.words.specs.Words.{word}
+use Rattle.ffct.specs.Block.{largestSum}
 use Rattle.ffct.specs.Transforms.{foldedDifferences}
 use Rattle.transforms.specs.Words.{Filled}
 use Rattle.ffct.proofs.Alternate.{alternate-even, alternate-turned}

@@ -5,7 +5,8 @@ use mathlib.Core.List.{List}
 use Prim.Native.Nat.{ℕ, _+_, _*_, _≤_, _<_}
 use native.Mathlib.Omega.{arith}
 use lib.IntN.{ℤ, natAbs}
-use Rattle.ffct.specs.Block.{Samples, largestSum, word}
+use Rattle.words.specs.Words.{Samples, word}
+use Rattle.ffct.specs.Block.{largestSum}
 use Rattle.ffct.specs.Transforms.{Transform}
 use Rattle.ffct.proofs.Lengths.{len, len-injective}
 use Rattle.ffct.proofs.Blocks.{Same}

@@ -17,7 +17,8 @@ use Rattle.whole.specs.Round.{round}
 use Rattle.whole.proofs.Size.{_within_, size-within}
 use Rattle.whole.proofs.Operations.{Computes}
 use Rattle.circle.specs.Circle.{T}
-use Rattle.ffct.specs.Block.{largestSum, word}
+use Rattle.words.specs.Words.{word}
+use Rattle.ffct.specs.Block.{largestSum}
 use Rattle.ffct.specs.Transforms.{apart}
 use Rattle.ffct.proofs.Sizes.{added, subtracted}
 use Rattle.ffct.proofs.Steps.{cosine-low, cosine-high, sine-low, sine-high, dct-low, dct-middle, dct-high, rotated-zero, rotated-low, rotated-middle, rotated-high}

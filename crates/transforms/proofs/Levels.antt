@@ -6,7 +6,8 @@ use Prim.Native.Nat.{ℕ, zero, suc, _*_, _/_, _≤_, _<_}
 use native.Mathlib.Nat.{mul-suc, mul-le-mul-right}
 use native.Mathlib.Omega.{arith}
 use lib.IntN.{ℤ, natAbs}
-use Rattle.ffct.specs.Block.{Samples, largestSum, word}
+use Rattle.words.specs.Words.{Samples, word}
+use Rattle.ffct.specs.Block.{largestSum}
 use Rattle.ffct.specs.Transforms.{Transform}
 use Rattle.ffct.proofs.Lengths.{len, pow-len, len-pos, len-injective, per, len-per, quotient}
 use Rattle.ffct.proofs.Sizes.{Inner, share-inner}

@@ -20,7 +20,7 @@ use borrow.Author.Count.{below-more}
 use Rattle.whole.proofs.Cases.{le-or-lt}
 use Rattle.whole.proofs.Words.{Word, held}
 use Rattle.transforms.specs.Words.{Mirrored}
-use Rattle.ffct.specs.Block.{word}
+use Rattle.words.specs.Words.{word}
 
 -- a place is below m, at m, or above
 around : {A : Type 0} (m k : ℕ) → (k < m → A) → (k ≡ m → A) → (m < k → A) → A

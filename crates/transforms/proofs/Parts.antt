@@ -7,7 +7,7 @@ use native.Mathlib.Omega.{arith}
 use lib.IntN.{ℤ, pos}
 use lib.ListN.{length, take, drop, length-append, length-drop, drop-of-length-le, List·getD-append}
 use lib.Seq.{take-all, length-take-le, getD-take, getD-drop, getD-append-add}
-use Rattle.ffct.specs.Block.{word}
+use Rattle.words.specs.Words.{word}
 
 abbrev pub part : ℕ → List ℤ → List ℤ
 part a xs = take (length xs - a) (drop a xs)

@@ -6,7 +6,8 @@ use lib.IntN.{ℤ, natAbs, _+ℤ_, _-ℤ_, _*ℤ_}
 use lib.ListN.{length}
 use Rattle.whole.specs.Round.{round}
 use Rattle.circle.specs.Circle.{T}
-use Rattle.ffct.specs.Block.{Samples, topLevel, largestSum, word}
+use Rattle.words.specs.Words.{Samples, word}
+use Rattle.ffct.specs.Block.{topLevel, largestSum}
 use Rattle.ffct.specs.Transforms.{Transform, cosineBeyond, sineBeyond, dctBeyond, apart, rotated}
 use Rattle.transforms.specs.Words.{Mirrored}
 

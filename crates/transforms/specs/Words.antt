@@ -4,7 +4,7 @@ use mathlib.Core.Path.{_≡_}
 use Prim.Native.Nat.{ℕ, _+_, _-_, _≤_, _<_}
 use lib.IntN.{ℤ}
 use lib.ListN.{length}
-use Rattle.ffct.specs.Block.{word}
+use Rattle.words.specs.Words.{word}
 
 -- the m words from b on now hold f 0, f 1, .. f (m - 1); all others are as before
 pub record Filled (b m : ℕ) (f : ℕ → ℤ) (before after : List ℤ) : Type 0 where

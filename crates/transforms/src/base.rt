@@ -12,7 +12,7 @@ use steps::tally::Tally;
 ghost use Prim.Native.Nat.{_+_, _/_, _≤_};
 ghost use lib.ListN.{length};
 ghost use Rattle.circle.specs.Circle.{IsQuarterWave};
-ghost use Rattle.ffct.specs.Block.{word};
+ghost use Rattle.words.specs.Words.{word};
 ghost use Rattle.ffct.specs.Transforms.{cosineDft, sineDft, dct};
 ghost use Rattle.transforms.specs.Words.{Filled};
 ghost use Rattle.transforms.specs.Steps.{Ready, dftRoom, dctRoom, Transformed};

@@ -3,7 +3,8 @@ ghost use mathlib.Core.Path.{_≡_};
 ghost use Prim.Native.Nat.{ℕ, _+_, _-_, _*_, _/_, _≤_, _<_};
 ghost use lib.IntN.{natAbs, _-ℤ_};
 ghost use lib.ListN.{length};
-ghost use Rattle.ffct.specs.Block.{largestSum, word};
+ghost use Rattle.words.specs.Words.{word};
+ghost use Rattle.ffct.specs.Block.{largestSum};
 ghost use Rattle.ffct.specs.Transforms.{evens, foldedSums, foldedDifferences, rearranged};
 ghost use Rattle.transforms.specs.Words.{Filled, FilledBySums};
 

@@ -4,7 +4,8 @@ ghost use mathlib.Core.Path.{_≡_};
 ghost use Prim.Native.Nat.{ℕ, _+_, _-_, _*_, _/_, _≤_, _<_};
 ghost use lib.IntN.{pos, natAbs, _+ℤ_, _-ℤ_};
 ghost use lib.ListN.{length};
-ghost use Rattle.ffct.specs.Block.{largestSum, word};
+ghost use Rattle.words.specs.Words.{word};
+ghost use Rattle.ffct.specs.Block.{largestSum};
 ghost use Rattle.transforms.specs.Words.{Mirrored};
 ghost use Rattle.transforms.specs.Steps.{evenAt, oddAt, CosineJoined, SineJoined, Halved};
 

@@ -8,7 +8,8 @@ ghost use Prim.Native.Nat.{ℕ, _+_, _*_, _/_, _≤_, _<_};
 ghost use lib.IntN.{natAbs};
 ghost use lib.ListN.{length};
 ghost use Rattle.circle.specs.Circle.{IsQuarterWave};
-ghost use Rattle.ffct.specs.Block.{largestSum, word};
+ghost use Rattle.words.specs.Words.{word};
+ghost use Rattle.ffct.specs.Block.{largestSum};
 ghost use Rattle.transforms.specs.Steps.{PairsRotated, DctRotated};
 
 // The pairs k, n - k for k from 1 up to n / 2: the cosine-DFT stands at n, the sine-DFT at n + n / 2 + 1.

@@ -4,7 +4,8 @@ use Prim.Native.Nat.{_+_, _/_}
 use native.Mathlib.Omega.{arith}
 use borrow.Author.Needs.{needs}
 use lib.ListN.{length}
-use Rattle.ffct.specs.Block.{word, level}
+use Rattle.words.specs.Words.{word}
+use Rattle.ffct.specs.Block.{level}
 use Rattle.transforms.specs.Steps.{Gives, dftRoom}
 use Rattle.ffct.specs.Transforms.{cosineDft, sineDft}
 use Rattle.blocks.proofs.BlockRuns.{some, ready, again, few, cosine-left, cosine-small, sine-left, sized, mirrored}

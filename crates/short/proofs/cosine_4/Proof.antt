@@ -5,7 +5,7 @@ use lib.Dec.{lit<}
 use lib.IntN.{_-ℤ_, +ℤ-idr}
 use Rattle.whole.proofs.Size.{within-size}
 use Rattle.ffct.specs.Transforms.{cosineBeyond, dctBeyond, dctBy, cosineDft}
-use Rattle.ffct.specs.Block.{word}
+use Rattle.words.specs.Words.{word}
 use Rattle.short.proofs.Short.{_&_, each, TwoWords, two-words, join-asked, join-words, sample-twice, sample-sum, sum-within, sum-word}
 use borrow.Author.Needs.{needs}
 use Rattle.short.proofs.cosine_4.Statement.{statement}

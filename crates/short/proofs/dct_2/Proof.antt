@@ -8,7 +8,7 @@ use Rattle.whole.specs.Round.{round}
 use Rattle.whole.proofs.Size.{size-within, within-size, within-sub}
 use Rattle.circle.specs.Circle.{T}
 use Rattle.ffct.specs.Transforms.{rearranged, rotated, dctBy, cosineDft, dct}
-use Rattle.ffct.specs.Block.{word}
+use Rattle.words.specs.Words.{word}
 use Rattle.whole.proofs.Words.{held}
 use Rattle.short.proofs.Short.{_&_, each, TwoWords, join-asked, join-words, sample-twice}
 use Rattle.short.proofs.dct_2.Statement.{statement}

@@ -3,7 +3,7 @@ use mathlib.Core.Path.{refl, sym, _∙_}
 use lib.Dec.{lit<}
 use lib.IntN.{_-ℤ_}
 use Rattle.ffct.specs.Transforms.{alternate}
-use Rattle.ffct.specs.Block.{word}
+use Rattle.words.specs.Words.{word}
 use Rattle.ffct.proofs.Alternate.{alternate-even, alternate-turned}
 use Rattle.short.proofs.Short.{_&_, each, sample-difference}
 use Rattle.short.proofs.folded_differences_16.Statement.{statement}

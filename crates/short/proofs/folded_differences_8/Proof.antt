@@ -2,7 +2,7 @@
 use mathlib.Core.Path.{refl, _∙_}
 use lib.Dec.{lit<}
 use Rattle.ffct.specs.Transforms.{alternate}
-use Rattle.ffct.specs.Block.{word}
+use Rattle.words.specs.Words.{word}
 use Rattle.ffct.proofs.Alternate.{alternate-turned}
 use Rattle.short.proofs.Short.{_&_, each, sample-difference}
 use Rattle.short.proofs.folded_differences_8.Statement.{statement}

@@ -6,7 +6,7 @@ use native.Mathlib.Omega.{arith}
 use lib.Dec.{lit<}
 use lib.IntN.{+ℤ-idr}
 use Rattle.ffct.specs.Transforms.{cosineBeyond, dctBeyond}
-use Rattle.ffct.specs.Block.{word}
+use Rattle.words.specs.Words.{word}
 use Rattle.short.proofs.Short.{_&_, each, bounded-word, join-asked, join-words}
 use borrow.Author.Needs.{needs}
 use Rattle.short.proofs.join_cosine_32.Statement.{statement}

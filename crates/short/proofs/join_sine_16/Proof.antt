@@ -6,7 +6,7 @@ use native.Mathlib.Omega.{arith}
 use lib.Dec.{lit<}
 use lib.IntN.{pos, negℤ, _+ℤ_, +ℤ-idl, +ℤ-comm}
 use Rattle.ffct.specs.Transforms.{sineBeyond, dctBeyond, apart}
-use Rattle.ffct.specs.Block.{word}
+use Rattle.words.specs.Words.{word}
 use Rattle.short.proofs.Short.{_&_, each, bounded-word, join-asked, join-words}
 use Rattle.short.proofs.join_sine_16.Statement.{statement}
 use Rattle.short.proofs.join_sine_16.Tie as tie

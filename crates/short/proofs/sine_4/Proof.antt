@@ -3,7 +3,7 @@ use mathlib.Core.Path.{refl, sym, _∙_}
 use lib.Dec.{lit<}
 use lib.IntN.{_-ℤ_, +ℤ-idl}
 use Rattle.ffct.specs.Transforms.{sineBeyond, dctBeyond, apart, dctBy, alternate, cosineDft}
-use Rattle.ffct.specs.Block.{word}
+use Rattle.words.specs.Words.{word}
 use Rattle.short.proofs.Short.{_&_, each, sample-difference}
 use Rattle.short.proofs.sine_4.Statement.{statement}
 use Rattle.short.proofs.sine_4.Tie as tie

@@ -6,7 +6,7 @@ use native.Mathlib.Omega.{arith}
 use borrow.Author.Needs.{needs}
 use borrow.Author.Tests.{ltb-true, ltb-false, not-true, not-false}
 use Rattle.spectra.specs.Promises.{pairCall}
-use Rattle.ffct.specs.Block.{word}
+use Rattle.words.specs.Words.{word}
 use Rattle.refusals.specs.Refusals.{firstOut}
 use Rattle.spectra.specs.Calls.{Call}
 use Rattle.ffct.proofs.ElevenLengths.{length-le}

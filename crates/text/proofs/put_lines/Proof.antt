@@ -9,7 +9,7 @@ use mir.Syntax.{w32}
 use mir.Val.{toZ, ofZ}
 use mir.Facts.{toZ-ofZ}
 use borrow.Author.Needs.{needs, sfits-of}
-use Rattle.ffct.specs.Block.{Samples, word}
+use Rattle.words.specs.Words.{Samples, word}
 use Rattle.text.specs.Lines.{line, lines}
 use Rattle.text.specs.Put.{Put}
 use Rattle.text.proofs.Putting.{put-none, _then_}

@@ -7,7 +7,7 @@ use lib.ListN.{length}
 use mir.Facts.{toZ-ofZ}
 use borrow.Author.Needs.{needs, sfits-of}
 use borrow.Author.Tests.{not-true, not-false}
-use Rattle.ffct.specs.Block.{word}
+use Rattle.words.specs.Words.{word}
 use Rattle.refusals.specs.Refusals.{inRange, firstOut}
 use Rattle.refusals.proofs.Ranges.{first-on, first-here, first-none}
 use Rattle.refusals.proofs.range.first_out.Statement.{statement}

@@ -6,7 +6,7 @@ use borrow.Author.Needs.{needs, sfits-of}
 use mir.Syntax.{w64}
 use mir.Facts.{toZ-ofZ}
 use Rattle.transforms.specs.Words.{Filled}
-use Rattle.ffct.specs.Block.{word}
+use Rattle.words.specs.Words.{word}
 use Rattle.transforms.proofs.Filling.{fill-none, fill-more, fill-all}
 use Rattle.transforms.proofs.base.copy_words.Statement.{statement}
 use Rattle.transforms.proofs.base.copy_words.Tie as tie

@@ -6,7 +6,7 @@ use mir.Syntax.{w64}
 use mir.Val.{SFits, ofZ}
 use Rattle.whole.proofs.Size.{size-within, within-sub, within-fits}
 use Rattle.whole.proofs.Words.{Word, word as held, asked, made}
-use Rattle.ffct.specs.Block.{word}
+use Rattle.words.specs.Words.{word}
 use Rattle.transforms.proofs.Filling.{fill-one}
 use Rattle.transforms.proofs.fold.put_difference.Statement.{statement}
 use Rattle.transforms.proofs.fold.put_difference.Tie as tie

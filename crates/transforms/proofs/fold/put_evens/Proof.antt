@@ -4,7 +4,7 @@ use native.Mathlib.Omega.{arith}
 use borrow.Author.Needs.{needs, sfits-of}
 use Rattle.ffct.specs.Transforms.{evens}
 use Rattle.transforms.specs.Words.{Filled}
-use Rattle.ffct.specs.Block.{word}
+use Rattle.words.specs.Words.{word}
 use Rattle.transforms.proofs.Filling.{fill-none, fill-more, fill-all, read-below}
 use Rattle.transforms.proofs.fold.put_evens.Statement.{statement}
 use Rattle.transforms.proofs.fold.put_evens.Tie as tie

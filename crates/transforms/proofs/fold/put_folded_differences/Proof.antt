@@ -5,7 +5,7 @@ use native.Mathlib.Omega.{arith}
 use borrow.Author.Needs.{needs}
 use Rattle.ffct.specs.Transforms.{foldedDifferences}
 use Rattle.transforms.specs.Words.{Filled, FilledBySums}
-use Rattle.ffct.specs.Block.{word}
+use Rattle.words.specs.Words.{word}
 use Rattle.transforms.proofs.Filling.{fill-none, fill-all}
 use Rattle.transforms.proofs.Folding.{asks, even-more, odd-more}
 use Rattle.transforms.proofs.fold.put_folded_differences.Statement.{statement}

@@ -11,7 +11,7 @@ use Rattle.whole.proofs.Size.{within-add, within-fits}
 use Rattle.whole.proofs.Words.{asked, made}
 use Rattle.ffct.specs.Transforms.{foldedSums}
 use Rattle.transforms.specs.Words.{FilledBySums}
-use Rattle.ffct.specs.Block.{word}
+use Rattle.words.specs.Words.{word}
 use Rattle.transforms.proofs.Filling.{fill-none, fill-more, fill-all}
 use Rattle.transforms.proofs.Folding.{Folded, folded}
 use Rattle.transforms.proofs.fold.put_folded_sums.Statement.{statement}

@@ -3,7 +3,7 @@ use Prim.Native.Nat.{_-_, _*_, _≤_}
 use native.Mathlib.Omega.{arith}
 use borrow.Author.Needs.{needs, sfits-of}
 use Rattle.transforms.specs.Words.{Filled}
-use Rattle.ffct.specs.Block.{word}
+use Rattle.words.specs.Words.{word}
 use Rattle.transforms.proofs.Filling.{fill-none, fill-more, fill-all, read-below}
 use Rattle.transforms.proofs.fold.put_odds.Statement.{statement}
 use Rattle.transforms.proofs.fold.put_odds.Tie as tie

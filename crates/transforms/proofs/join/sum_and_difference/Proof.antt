@@ -10,7 +10,8 @@ use mir.Syntax.{w64}
 use mir.Val.{ofZ}
 use borrow.Author.Needs.{needs}
 use Rattle.whole.proofs.Size.{_within_, size-within}
-use Rattle.ffct.specs.Block.{largestSum, word}
+use Rattle.words.specs.Words.{word}
+use Rattle.ffct.specs.Block.{largestSum}
 use Rattle.whole.proofs.Words.{held}
 use Rattle.whole.proofs.Operations.{Computes}
 use Rattle.ffct.proofs.Sizes.{added, subtracted}

@@ -10,7 +10,7 @@ use borrow.Author.Needs.{needs}
 use Rattle.whole.specs.Round.{round}
 use Rattle.whole.proofs.Words.{Word, held}
 use Rattle.circle.specs.Circle.{T}
-use Rattle.ffct.specs.Block.{word}
+use Rattle.words.specs.Words.{word}
 use Rattle.transforms.proofs.Mirroring.{mirrored-read, mirrored-beside}
 use Rattle.transforms.proofs.Joining.{dct-rotated}
 use Rattle.transforms.proofs.rotate.rotate_all.Statement.{statement}

@@ -14,7 +14,7 @@ use Rattle.whole.proofs.Size.{within-size}
 use Rattle.whole.proofs.Words.{Word, held}
 use Rattle.circle.specs.Circle.{T}
 use Rattle.ffct.proofs.Sizes.{entry-within}
-use Rattle.ffct.specs.Block.{word}
+use Rattle.words.specs.Words.{word}
 use Rattle.transforms.proofs.Mirroring.{mirrored-none, mirrored-more, mirrored-read}
 use Rattle.transforms.proofs.Joining.{RotationRun}
 use Rattle.transforms.proofs.rotate.rotate_pairs.Statement.{statement}

@@ -1,11 +1,11 @@
--- `blocks::words::store` meets its contract: after k turns k words are stored. Assumes nothing.
+-- `blocks::buffers::store` meets its contract: after k turns k words are stored. Assumes nothing.
 use Prim.Native.Nat.{_-_, _≤_}
 use native.Mathlib.Omega.{arith}
 use borrow.Author.Needs.{needs}
-use Rattle.ffct.specs.Block.{word}
+use Rattle.words.specs.Words.{word}
 use Rattle.blocks.proofs.Writing.{narrows, narrowed, Ends, ends-none, ends-front, ends-all}
-use Rattle.blocks.proofs.words.store.Statement.{statement}
-use Rattle.blocks.proofs.words.store.Tie as tie
+use Rattle.blocks.proofs.buffers.store.Statement.{statement}
+use Rattle.blocks.proofs.buffers.store.Tie as tie
 
 abbrev Inv-loop : tie.InvT-loop
 Inv-loop w out₀ m k₀ out k = (k ≤ m) × Ends k 0 m (word w) out₀ out

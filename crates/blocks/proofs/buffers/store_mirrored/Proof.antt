@@ -1,14 +1,14 @@
--- `blocks::words::store_mirrored` meets its contract: `store` has written the words up to n / 2, and when the loop comes to k, it has written the last k - 1. Assumes nothing.
+-- `blocks::buffers::store_mirrored` meets its contract: `store` has written the words up to n / 2, and when the loop comes to k, it has written the last k - 1. Assumes nothing.
 use mathlib.Core.Path.{_≡_, _∙_, sym}
 use Prim.Native.Nat.{_-_, _/_, _≤_}
 use native.Mathlib.Omega.{arith}
 use borrow.Author.Needs.{needs}
 use Rattle.ffct.specs.Transforms.{cosineBeyond}
 use Rattle.ffct.proofs.Steps.{cosine-low, cosine-high}
-use Rattle.ffct.specs.Block.{word}
+use Rattle.words.specs.Words.{word}
 use Rattle.blocks.proofs.Writing.{narrows, narrowed, Ends, ends-none, ends-join, ends-back, ends-all}
-use Rattle.blocks.proofs.words.store_mirrored.Statement.{statement}
-use Rattle.blocks.proofs.words.store_mirrored.Tie as tie
+use Rattle.blocks.proofs.buffers.store_mirrored.Statement.{statement}
+use Rattle.blocks.proofs.buffers.store_mirrored.Tie as tie
 
 abbrev Inv-loop : tie.InvT-loop
 Inv-loop w out₀ n k₀ out k = (1 ≤ k) × (k ≤ n - n / 2) × Ends 0 (k - 1) n (cosineBeyond n (word w)) out₀ out

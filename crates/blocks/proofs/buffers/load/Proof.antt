@@ -1,4 +1,4 @@
--- `blocks::words::load` meets its contract: after i turns i samples are stored. Assumes nothing.
+-- `blocks::buffers::load` meets its contract: after i turns i samples are stored. Assumes nothing.
 use Prim.Native.Nat.{_-_, _≤_}
 use native.Mathlib.Omega.{arith}
 use lib.ListN.{length}
@@ -7,10 +7,10 @@ use mir.Val.{ofZ}
 use borrow.Author.Needs.{needs, sfits-of}
 use Rattle.whole.proofs.Words as Words
 use Rattle.whole.proofs.Words.{Word, widens, widened}
-use Rattle.ffct.specs.Block.{word}
+use Rattle.words.specs.Words.{word}
 use Rattle.blocks.proofs.Writing.{Ends, ends-none, ends-front, ends-all}
-use Rattle.blocks.proofs.words.load.Statement.{statement}
-use Rattle.blocks.proofs.words.load.Tie as tie
+use Rattle.blocks.proofs.buffers.load.Statement.{statement}
+use Rattle.blocks.proofs.buffers.load.Tie as tie
 
 abbrev Inv-loop : tie.InvT-loop
 Inv-loop block w₀ i₀ w i = (i ≤ length block) × Ends i 0 (length block) (word block) w₀ w

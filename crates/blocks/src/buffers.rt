@@ -2,7 +2,8 @@
 ghost use Prim.Native.Nat.{ℕ, _+_, _-_, _*_, _/_, _≤_, _<_};
 ghost use lib.IntN.{pos, natAbs, _+ℤ_, _-ℤ_};
 ghost use lib.ListN.{length};
-ghost use Rattle.ffct.specs.Block.{largestSum, word};
+ghost use Rattle.words.specs.Words.{word};
+ghost use Rattle.ffct.specs.Block.{largestSum};
 ghost use Rattle.ffct.specs.Transforms.{cosineBeyond, sineBeyond};
 ghost use Rattle.blocks.specs.Words.{Written, WrittenBySums, Joinable};
 

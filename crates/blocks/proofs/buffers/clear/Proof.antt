@@ -1,4 +1,4 @@
--- `blocks::words::clear` meets its contract: after i turns i words are 0. Assumes nothing.
+-- `blocks::buffers::clear` meets its contract: after i turns i words are 0. Assumes nothing.
 use mathlib.Core.Path.{refl}
 use Prim.Native.Nat.{_-_, _≤_}
 use native.Mathlib.Omega.{arith}
@@ -6,8 +6,8 @@ use lib.IntN.{pos}
 use lib.ListN.{length}
 use borrow.Author.Needs.{needs}
 use Rattle.blocks.proofs.Writing.{Ends, ends-none, ends-front, ends-all}
-use Rattle.blocks.proofs.words.clear.Statement.{statement}
-use Rattle.blocks.proofs.words.clear.Tie as tie
+use Rattle.blocks.proofs.buffers.clear.Statement.{statement}
+use Rattle.blocks.proofs.buffers.clear.Tie as tie
 
 abbrev Inv-loop : tie.InvT-loop
 Inv-loop w₀ i₀ w i = (i ≤ length w₀) × Ends i 0 (length w₀) (λ k. pos 0) w₀ w

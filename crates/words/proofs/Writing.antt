@@ -1,0 +1,121 @@
+-- Loops that write the m elements from place b on, from the front and from the back (`Ends`), up to all of them (`WrittenOf` of specs/Words).
+--     ends-none       before the first store
+--     ends-front      one store more at the front; `ends-back` at the back
+--     ends-pass       one element more at the front, which held what it is to hold
+--     ends-join       the back, after a call that wrote the front
+--     ends-all        when all are stored
+-- And of what is written:
+--     front, beyond   by place, where b is 0
+--     written-same    the same elements by another name
+-- Assumes nothing.
+use mathlib.Core.Path.{_≡_, refl, sym, _∙_, ap, subst}
+use mathlib.Core.List.{List, [], _∷_}
+use mathlib.Core.Logic.{⊎-elim}
+use Prim.Native.Nat.{ℕ, suc, _+_, _≤_, _<_}
+use native.Mathlib.Nat.{zero-add}
+use native.Mathlib.Omega.{arith}
+use lib.ListN.{length, getD, set, length-set}
+use lib.Seq.{getD-set-same, getD-set-other}
+use borrow.Author.Count.{below-none, below-more}
+use Rattle.whole.proofs.Cases.{le-or-lt}
+use Rattle.words.specs.Words.{WrittenOf}
+
+-- of the m elements from b on, the first a and the last c now hold f; those between and all others are as before, and the length stays
+pub record Ends {A : Type 0} (d : A) (b a c m : ℕ) (f : ℕ → A) (before after : List A) : Type 0 where
+  pub front : (k : ℕ) → k < a → getD after (b + k) d ≡ f k
+  pub back : (k : ℕ) → k < m → m ≤ k + c → getD after (b + k) d ≡ f k
+  pub between : (k : ℕ) → a ≤ k → k + c < m → getD after (b + k) d ≡ getD before (b + k) d
+  pub low : (k : ℕ) → k < b → getD after k d ≡ getD before k d
+  pub high : (k : ℕ) → b + m ≤ k → getD after k d ≡ getD before k d
+  pub len : length after ≡ length before
+
+pub ends-none : {A : Type 0} {d : A} {b m : ℕ} {f : ℕ → A} {words : List A} → Ends d b 0 0 m f words words
+ends-none = record {
+  front = below-none _;
+  back = λ k h l. absurd (omega arith);
+  between = λ k h l. refl;
+  low = λ k h. refl;
+  high = λ k h. refl;
+  len = refl;
+}
+
+-- the back after the front, which a call has written
+pub ends-join : {A : Type 0} {d : A} {b a c m : ℕ} {f g : ℕ → A} {before between after : List A}
+    → WrittenOf d b a g before between → a + c ≤ m → ((k : ℕ) → k < a → g k ≡ f k) → Ends d b 0 c m f between after → Ends d b a c m f before after
+ends-join {b = b} w h e p = record {
+  front = λ k l. p .between k (omega arith) (omega arith) ∙ w .new k l ∙ e k l;
+  back = p .back;
+  between = λ k l o. p .between k (omega arith) o ∙ w .high (b + k) (omega arith);
+  low = λ k l. p .low k l ∙ w .low k l;
+  high = λ k l. p .high k l ∙ w .high k (omega arith);
+  len = p .len ∙ w .len;
+}
+
+module _ {A : Type 0} {d : A} {b a c m : ℕ} {f : ℕ → A} {before after : List A} (p : Ends d b a c m f before after) where
+  pub ends-all : m ≤ a + c → WrittenOf d b m f before after
+  ends-all h = record {
+    new = λ k l. ⊎-elim (λ o. p .back k l (omega arith)) (p .front k) (le-or-lt a k);
+    low = p .low;
+    high = p .high;
+    len = p .len;
+  }
+
+  pub ends-pass : a + c < m → getD before (b + a) d ≡ f a → Ends d b (a + 1) c m f before after
+  ends-pass h e = record {
+    front = below-more _ _ (p .front) (p .between a (omega arith) h ∙ e);
+    back = p .back;
+    between = λ k l o. p .between k (omega arith) o;
+    low = p .low;
+    high = p .high;
+    len = p .len;
+  }
+
+  module _ (i : ℕ) (x : A) where
+    stored : i < length before → getD (set after i x) i d ≡ x
+    stored h = getD-set-same after i x d (omega (arith, p .len))
+
+    kept : (k : ℕ) → (k ≡ i → ⊥) → getD (set after i x) k d ≡ getD after k d
+    kept k h = getD-set-other after i k x d h
+
+  -- the place of the store is i, where b + a, or b + m less c, is meant
+  pub ends-front : {x : A} {i : ℕ} → (i ≡ b + a) × (a + c < m) × (b + m ≤ length before) → x ≡ f a → Ends d b (a + 1) c m f before (set after i x)
+  ends-front {x} {i} h e = record {
+    front = below-more _ _
+        (λ k l. kept i x (b + k) (λ e. omega arith) ∙ p .front k l)
+        (ap (λ j. getD (set after i x) j d) (sym (h .0)) ∙ stored i x (omega arith) ∙ e);
+    back = λ k l o. kept i x (b + k) (λ e. omega arith) ∙ p .back k l o;
+    between = λ k l o. kept i x (b + k) (λ e. omega arith) ∙ p .between k (omega arith) o;
+    low = λ k l. kept i x k (λ e. omega arith) ∙ p .low k l;
+    high = λ k l. kept i x k (λ e. omega arith) ∙ p .high k l;
+    len = length-set after i x ∙ p .len;
+  }
+
+  pub ends-back : {x : A} {i c′ : ℕ} (j : ℕ) → (i ≡ b + j) × (a ≤ j) × (b + m ≤ length before) × (j + c′ ≡ m) × (c′ ≡ c + 1) → x ≡ f j
+      → Ends d b a c′ m f before (set after i x)
+  ends-back {x} {i} j h e = record {
+    front = λ k l. kept i x (b + k) (λ e. omega arith) ∙ p .front k l;
+    back = λ k l o. ⊎-elim
+        (λ g. kept i x (b + k) (λ e. omega arith) ∙ p .back k l g)
+        (λ g. let here : b + k ≡ i = omega arith in let same : k ≡ j = omega arith in rw (here, same) (stored i x (omega arith) ∙ e))
+        (le-or-lt m (k + c));
+    between = λ k l o. kept i x (b + k) (λ e. omega arith) ∙ p .between k l (omega arith);
+    low = λ k l. kept i x k (λ e. omega arith) ∙ p .low k l;
+    high = λ k l. kept i x k (λ e. omega arith) ∙ p .high k l;
+    len = length-set after i x ∙ p .len;
+  }
+
+module _ {A : Type 0} {d : A} {b m : ℕ} {f : ℕ → A} {before after : List A} (w : WrittenOf d b m f before after) where
+  pub written-same : {n : ℕ} {g : ℕ → A} → n ≡ m → ((k : ℕ) → k < n → f k ≡ g k) → WrittenOf d b n g before after
+  written-same h e = record { new = λ k l. w .new k (omega arith) ∙ e k l; low = w .low; high = λ k l. w .high k (omega arith); len = w .len }
+
+module _ {A : Type 0} {d : A} {m : ℕ} {f : ℕ → A} {before after : List A} (w : WrittenOf d 0 m f before after) where
+  pub front : (k : ℕ) → k < m → getD after k d ≡ f k
+  front k h = ap (λ j. getD after j d) {x = k} {y = 0 + k} (omega arith) ∙ w .new k h
+
+  pub beyond : (k : ℕ) → m ≤ k → getD after k d ≡ getD before k d
+  beyond k h = w .high k (omega arith)
+
+-- past its end a list has no element
+pub past : {A : Type 0} (d : A) (w : List A) (k : ℕ) → length w ≤ k → getD w k d ≡ d
+past d [] k h = refl
+past d (x ∷ w) (suc k) h = past d w k (omega (arith, h))
