@@ -1,18 +1,18 @@
 // The transforms of an accepted block, from 32-bit samples to 32-bit coefficients, over words that are all cleared at the end.
 pub mod buffers;
 
-use circle::quarter_wave;
-use steps::tally::Tally;
-use steps::tally::total;
-use transforms::cosine_dft;
-use transforms::dct;
-use transforms::sine_dft;
 use buffers::add_sine;
 use buffers::clear;
 use buffers::load;
 use buffers::store;
 use buffers::store_mirrored;
 use buffers::subtract_sine;
+use circle::quarter_wave;
+use steps::tally::Tally;
+use steps::tally::total;
+use transforms::cosine_dft;
+use transforms::dct;
+use transforms::sine_dft;
 ghost use mathlib.Core.Path.{_≡_};
 ghost use Prim.Native.Nat.{_+_, _/_, _≤_};
 ghost use lib.ListN.{length};

@@ -4,15 +4,16 @@ use mathlib.Core.Path.{_≡_, refl, sym, ap, _∙_, subst}
 use mathlib.Core.Logic.{_⊎_, inl, inr, ⊎-elim}
 use mathlib.Core.List.{List, [], _∷_}
 use mathlib.Core.Bool.{Bool, true, false, not, cond, _||_, false≢true}
-use Prim.Native.Nat.{ℕ, zero, suc, _+_, _/_, _%_, _^_, _≤_, _<_}
+use Prim.Native.Nat.{ℕ, zero, suc, _+_, _*_, _/_, _%_, _^_, _≤_, _<_}
 use native.Mathlib.Nat.{pow-succ'}
 use native.Mathlib.Omega.{arith}
 use lib.Count.{onesIn, ones, ones-step, trailingZeros}
-use lib.Dec.{T, eqb, leb, eqb→eq, leb→le}
+use lib.Dec.{T, eqb, leb, ltb, eqb→eq, leb→le}
 use lib.Pow.{pow-pos, pow-mono}
-use borrow.Author.Tests.{eqb-true}
+use borrow.Author.Tests.{eqb-true, le-ltb}
 use Rattle.whole.proofs.Cases.{both, both-left, both-right, below, below-at, le-or-lt}
 use Rattle.ffct.specs.Block.{lengths, topLevel, oneOf, isLength, level}
+use Rattle.ffct.proofs.Lengths.{len, pow-len, len-pos}
 
 -- ---- a test of every number of a list, and what it says of one of them
 every : (ℕ → Bool) → List ℕ → Bool
@@ -54,9 +55,65 @@ trailing N h = eqb→eq _ _ (both-right _ _ (both-right _ _ (levelled-at N h)))
 pub length-le : (N : ℕ) → isLength N ≡ true → N ≤ 1024
 length-le N h = omega (arith, is-power N h, pow-mono (level-le N h))
 
+pub as-len : (N : ℕ) → isLength N ≡ true → N ≡ len (level N)
+as-len N h = is-power N h ∙ pow-len (level N)
+
+pub length-pos : (N : ℕ) → isLength N ≡ true → 1 ≤ N
+length-pos N h = omega (arith, as-len N h, len-pos (level N))
+
+-- ---- half of a length is a length, of the level below, and from 4 on a quarter too
+pub record Half (N : ℕ) : Type 0 where
+  pub ok : isLength (N / 2) ≡ true
+  pub level-is : level N ≡ suc (level (N / 2))
+  pub twice : N ≡ 2 * len (level (N / 2))
+
+halvable : ℕ → Bool
+halvable N = cond (ltb N 2) true (both (isLength (N / 2)) (eqb (level N) (suc (level (N / 2)))))
+
+halvable-at : (N : ℕ) → isLength N ≡ true → 2 ≤ N → T (both (isLength (N / 2)) (eqb (level N) (suc (level (N / 2)))))
+unfolding isLength level both every halvable
+halvable-at N h l = rw (le-ltb N 2 l) at (every-at halvable N lengths tt h)
+
+is-true : (b : Bool) → T b → b ≡ true
+is-true true t = refl
+is-true false t = absurd t
+
+pub half : (N : ℕ) → isLength N ≡ true → 2 ≤ N → Half N
+half N h l =
+    let t = halvable-at N h l in
+    let e = eqb→eq _ _ (both-right _ _ t) in
+    record { ok = is-true _ (both-left _ _ t); level-is = e; twice = as-len N h ∙ ap len e }
+
+pub record Quarter (N : ℕ) : Type 0 where
+  pub half-ok : isLength (N / 2) ≡ true
+  pub ok : isLength (N / 4) ≡ true
+  pub half-level : level (N / 2) ≡ suc (level (N / 4))
+  pub level-is : level N ≡ suc (suc (level (N / 4)))
+  pub four : N ≡ 4 * len (level (N / 4))
+
+pub quarter : (N : ℕ) → isLength N ≡ true → 4 ≤ N → Quarter N
+quarter N h l =
+    let first = half N h (omega arith) in
+    let e : N / 2 / 2 ≡ N / 4 = omega arith in
+    let second = half (N / 2) (first .ok) (omega arith) in
+    let below : level (N / 2) ≡ suc (level (N / 4)) = rw e at (second .level-is) in
+    record {
+      half-ok = first .ok;
+      ok = rw e at (second .ok);
+      half-level = below;
+      level-is = first .level-is ∙ ap suc below;
+      four = omega (arith, first .twice, ap len below);
+    }
+
 -- ---- the level of 1, and of the lengths above
 pub exponent-lt : (L M : ℕ) → 2 ^ L < 2 ^ M → L < M
 exponent-lt L M h = ⊎-elim (λ l. absurd (omega (arith, pow-mono l))) (λ l. l) (le-or-lt M L)
+
+-- the next length after 2 ^ L
+pub next-length : (L N : ℕ) → isLength N ≡ true → 2 ^ L < N → N ≤ 2 ^ suc L → N ≡ 2 ^ suc L
+next-length L N h l m =
+    let e = is-power N h in
+    omega (arith, e, pow-mono {i = suc L} {j = level N} (exponent-lt L (level N) (omega (arith, e))))
 
 pub one-level : (N : ℕ) → N ≡ 1 → level N ≡ 0
 unfolding level

@@ -7,13 +7,13 @@ use mathlib.Core.Logic.{⊎-elim}
 use Prim.Native.Nat.{ℕ, zero, suc, _+_, _*_, _-_, _/_, _^_, _<_, _≤_}
 use native.Mathlib.Nat.{le-trans, mul-le-mul-left, mul-div-le, le-div-iff-mul-le}
 use native.Mathlib.Omega.{arith}
-use lib.Dec.{T, leb, leb→le, lit<}
+use lib.Dec.{T, leb, leb→le, lit<, lit≤}
 use lib.IntN.{ℤ, natAbs, _+ℤ_, _-ℤ_, _*ℤ_}
 use mir.Syntax.{w32, w64}
 use mir.Val.{SFits}
 use Rattle.whole.proofs.Cases.{le-or-lt, both, below, below-at}
 use Rattle.whole.proofs.Difference.{int, parts, diff}
-use Rattle.whole.proofs.Size.{near, _within_, size-within, within-neg, within-le, within-add, within-sub, within-mul, within-fits}
+use Rattle.whole.proofs.Size.{near, _within_, size-within, within-size, within-neg, within-le, within-add, within-sub, within-mul, within-fits}
 use Rattle.whole.proofs.Words.{Word}
 use Rattle.whole.proofs.Operations.{Computes, computes}
 use Rattle.circle.specs.Circle as Circle
@@ -84,12 +84,12 @@ module _ {L : ℕ} {x : Samples} {X : ℕ} (i : Inner L x X) where
       (le-trans (dct-grows L share (dft-grows L share)) (dct-small L (i .level)))
 
 -- ---- the sums of two coefficients, on words
-module _ {p q : ℕ} {x y : ℤ} (a : Word w64 p x) (b : Word w64 q y) (h : x within 2 * largestSum) (l : y within 2 * largestSum) where
+module _ {p q : ℕ} {x y : ℤ} (a : Word w64 p x) (b : Word w64 q y) (h : natAbs x ≤ 2 * largestSum) (l : natAbs y ≤ 2 * largestSum) where
   pub added : Computes _+ℤ_ p q x y
-  added = computes _+ℤ_ a b (within-fits (within-add h l) (lit< tt))
+  added = computes _+ℤ_ a b (within-fits (within-add (size-within x h) (size-within y l)) (lit< tt))
 
   pub subtracted : Computes _-ℤ_ p q x y
-  subtracted = computes _-ℤ_ a b (within-fits (within-sub h l) (lit< tt))
+  subtracted = computes _-ℤ_ a b (within-fits (within-sub (size-within x h) (size-within y l)) (lit< tt))
 
 -- ---- the rotation
 pub entry-within : (j : ℕ) → j ≤ 1024 → Circle.T j within 2 ^ 30
@@ -114,6 +114,9 @@ pub record RotationFits (C S c s : ℤ) : Type 0 where
   pub m3 : SFits w64 (C *ℤ (s -ℤ c))
   pub first : SFits w64 ((C +ℤ S) *ℤ c -ℤ S *ℤ (c +ℤ s))
   pub second : SFits w64 ((C +ℤ S) *ℤ c +ℤ C *ℤ (s -ℤ c))
+  -- and with the half of the rounding too
+  pub first-small : natAbs ((C +ℤ S) *ℤ c -ℤ S *ℤ (c +ℤ s)) ≤ 2 ^ 62
+  pub second-small : natAbs ((C +ℤ S) *ℤ c +ℤ C *ℤ (s -ℤ c)) ≤ 2 ^ 62
 
 pub rotation-fits : {C S c s : ℤ} → C within largestSum + 128 → S within largestSum + 128 → c within 2 ^ 30 → s within 2 ^ 30 → RotationFits C S c s
 rotation-fits hC hS hc hs =
@@ -132,6 +135,8 @@ rotation-fits hC hS hc hs =
       m3 = within-fits m3 (lit< tt);
       first = within-fits (within-sub m1 m2) (lit< tt);
       second = within-fits (within-add m1 m3) (lit< tt);
+      first-small = within-size (within-le (within-sub m1 m2) (lit≤ tt));
+      second-small = within-size (within-le (within-add m1 m3) (lit≤ tt));
     }
 
 -- ---- the coefficients of an accepted block fit a signed 32-bit word

@@ -1,33 +1,34 @@
--- A run of a cosine- or sine-DFT of n samples, n at least 4, after each of its calls. `transform` is cosineDft or sineDft, `fold` is foldedSums or foldedDifferences.
+-- A run of a cosine- or sine-DFT of n samples, n at least 4: what its calls ask after each other, and what they come to. One record, `Kind`, has what differs between the two.
+--     even-ready            the even samples may be transformed
+--     fold-ready            then the block may be folded
+--     odd-ready             then the DCT may be taken
+--     join-ready            then both may be joined
+--     dft-ends              what the join leaves is the transform
 -- Assumes nothing.
-use mathlib.Core.Path.{_≡_, sym, ap, ap₂, _∙_}
-use mathlib.Core.Logic.{⊎-elim}
+use mathlib.Core.Path.{_≡_, refl, sym, ap, ap₂, _∙_, subst}
 use mathlib.Core.List.{List}
-use Prim.Native.Nat.{ℕ, suc, _+_, _-_, _*_, _/_, _^_, _≤_, _<_}
+use Prim.Native.Nat.{ℕ, suc, _+_, _-_, _*_, _/_, _≤_, _<_}
 use native.Mathlib.Nat.{le-refl, mul-le-mul-left, mul-le-mul-right}
 use native.Mathlib.Omega.{arith}
 use lib.IntN.{ℤ, pos, natAbs, _+ℤ_, _-ℤ_}
 use lib.ListN.{length}
-use Rattle.whole.proofs.Cases.{le-or-lt}
 use Rattle.whole.proofs.Size.{within-size, size-add, within-sub, size-within}
 use Rattle.words.specs.Words.{Samples, word}
-use Rattle.ffct.specs.Block.{topLevel, largestSum}
-use Rattle.ffct.specs.Transforms.{Transform, evens, foldedSums, foldedDifferences, alternate, cosineBeyond, sineBeyond, dctBeyond, apart, cosineDft, sineDft, dct}
-use Rattle.ffct.proofs.Lengths.{len, pow-len, len-pos}
-use Rattle.ffct.proofs.Counts.{few-operations}
+use Rattle.words.proofs.Parts.{part, back, part-length, part-at}
+use Rattle.ffct.specs.Block.{level, largestSum}
+use Rattle.ffct.specs.Transforms.{Transform, evens, foldedSums, foldedDifferences, alternate, cosineDft, sineDft, dct}
+use Rattle.ffct.proofs.Lengths.{len, len-pos}
+use Rattle.ffct.proofs.ElevenLengths.{as-len, half, Quarter, quarter}
 use Rattle.ffct.proofs.Near.{alternate-within, apart-le}
 use Rattle.ffct.proofs.Sizes.{Inner, dft-size, dct-within}
 use Rattle.ffct.proofs.Blocks.{Same, dft-same, dct-same, sine-first, sine-last, cosine-beyond-same, sine-beyond-same, dct-beyond-same}
 use Rattle.ffct.proofs.Steps.{cosine-step, sine-step, cosine-products, cosine-sums, sine-products, sine-sums}
-use Rattle.transforms.specs.Words.{Filled, FilledBySums}
-use Rattle.transforms.specs.Steps.{Ready, dftRoom, dctRoom, Gives, Transformed, evenAt, oddAt, CosineJoined, SineJoined}
-use Rattle.transforms.proofs.Parts.{part, back}
-use Rattle.transforms.proofs.Levels.{as-len, inner, at-most, sample-le, at-level, quarters}
-use Rattle.transforms.proofs.Runs.{handed, handed-length, left, kept, whole-length}
-
--- where the DCT's part begins
-abbrev pub mark : ℕ → ℕ
-mark n = n + n / 4 + 1
+use Rattle.counts.specs.declared.tally.Tally.{Tally}
+use Rattle.counts.specs.Tally.{Tallied, HasRoom}
+use Rattle.transforms.specs.Pairs.{paired}
+use Rattle.transforms.specs.Steps.{Ready, Gives, DftReady, DftDone, DctReady, FoldReady, Folded, evenAt, oddAt, cosineJoin, sineJoin, JoinReady, Joined}
+use Rattle.transforms.proofs.Pairs.{paired-same, paired-evens}
+use Rattle.transforms.proofs.Levels.{inner, sample-le, ready-same}
 
 -- a quarter of n times a sum of two, from n times each
 quarter-le : (n u v z : ℕ) → n * u ≤ largestSum → n * v ≤ largestSum → z ≤ u + v → n / 4 * z ≤ largestSum
@@ -35,305 +36,232 @@ quarter-le n u v z hu hv hz =
     let k : 2 * (n / 4) ≤ n = omega arith in
     omega (arith, mul-le-mul-left (n / 4) hz, mul-le-mul-right u k, mul-le-mul-right v k)
 
--- what is used of the two transforms and their folds
-pub record Kind (transform : ℕ → Samples → Transform) (fold : ℕ → Samples → Samples) : Type 0 where
-  -- a transform reads its block, and its coefficients are small
+-- what differs: the transform, its fold, its join, and the sums of the join of n coefficients; 4 m is n
+pub record Kind (transform : ℕ → Samples → Transform) (fold : ℕ → Samples → Samples) (join : ℕ → (ℕ → ℤ) → (ℕ → ℤ) → ℕ → ℤ) (joins : ℕ → ℕ) : Type 0 where
   same : (L : ℕ) (x y : Samples) → Same L x y → transform L x ≡ transform L y
   small : (L X : ℕ) (x : Samples) → Inner L x X → (k : ℕ) → 2 * k ≤ len L → natAbs (transform L x .at k) ≤ largestSum + 128
-  -- an accepted length's counts are small
-  few : (L : ℕ) (x : Samples) → L ≤ topLevel → transform L x .products + transform L x .sums ≤ 2 ^ 16
-  -- a fold of n samples at i is made of two of them, and no larger than their sizes together
   fold-same : (n : ℕ) (x y : Samples) → ((i : ℕ) → i < n → x i ≡ y i) → (i : ℕ) → i < n / 4 → fold n x i ≡ fold n y i
   fold-le : (n : ℕ) (x : Samples) (i : ℕ) → natAbs (fold n x i) ≤ natAbs (x (2 * i + 1)) + natAbs (x (n - 2 * i - 1))
+  join-same : (n : ℕ) → 4 * (n / 4) ≡ n → (E E′ D D′ : ℕ → ℤ) → ((j : ℕ) → j ≤ n / 4 → E j ≡ E′ j) → ((j : ℕ) → j < n / 4 → D j ≡ D′ j) →
+      (k : ℕ) → k < n / 2 + 1 → join n E D k ≡ join n E′ D′ k
+  step : (L : ℕ) (x : Samples) (k : ℕ) →
+      transform (suc (suc L)) x .at k ≡ join (4 * len L) (transform (suc L) (evens x) .at) (dct L (fold (4 * len L) x) .at) k
+  products : (L : ℕ) (x : Samples) → transform (suc (suc L)) x .products ≡ transform (suc L) (evens x) .products + dct L (fold (4 * len L) x) .products
+  sums : (L : ℕ) (x : Samples) →
+      transform (suc (suc L)) x .sums ≡ transform (suc L) (evens x) .sums + dct L (fold (4 * len L) x) .sums + (len L + joins (4 * len L))
 
-module _ (transform : ℕ → Samples → Transform) (fold : ℕ → Samples → Samples) where
-  -- the even samples are put at n
-  pub record Run₁ (n : ℕ) (w₀ w₁ : List ℤ) : Type 0 where
-    pub ready : Ready n (dftRoom n) w₀
-    pub many : 2 < n
-    pub evens-put : Filled n (n / 2) (evens (word w₀)) w₀ w₁
-
-  -- they are transformed, with p products and a sums
-  pub record Run₂ (n : ℕ) (w₀ w₁ p₁ : List ℤ) (p a : ℕ) : Type 0 where
-    pub so-far : Run₁ n w₀ w₁
-    pub even : Transformed transform (n / 2) (n / 2 / 2 + 1) (part n w₁) p₁ p a
-
-  -- the folded samples are put at the mark, with f sums
-  pub record Run₃ (n : ℕ) (w₀ w₁ p₁ w₃ : List ℤ) (p a f : ℕ) : Type 0 where
-    pub so-far : Run₂ n w₀ w₁ p₁ p a
-    pub folded : FilledBySums (mark n) (n / 4) (fold n (word (back n w₁ p₁))) (back n w₁ p₁) w₃ f
-
-  -- they are transformed by the DCT, with q products and b sums
-  pub record Run₄ (n : ℕ) (w₀ w₁ p₁ w₃ p₃ : List ℤ) (p a f q b : ℕ) : Type 0 where
-    pub so-far : Run₃ n w₀ w₁ p₁ w₃ p a f
-    pub odd : Transformed dct (n / 4) (n / 4) (part (mark n) w₃) p₃ q b
-
-  -- ---- after the even samples are put
-  module _ {n : ℕ} {w₀ w₁ : List ℤ} (r : Run₁ n w₀ w₁) where
-    -- n is 4 m, and m is the length of level l
-    pub l : ℕ
-    l = quarters (r .ready .level) n (as-len (r .ready)) (r .many) .0
-
-    pub level-is : r .ready .level ≡ suc (suc l)
-    unfolding l
-    level-is = quarters (r .ready .level) n (as-len (r .ready)) (r .many) .1
-
-    pub four-m : n ≡ 4 * len l
-    unfolding l
-    four-m = quarters (r .ready .level) n (as-len (r .ready)) (r .many) .2
-
-    pub room : 2 * n + (n + 1) / 2 ≤ length w₀
-    room = r .ready .fits
-
-    pub four : 4 ≤ n
-    four = omega (arith, four-m, len-pos l)
-
-    pub half-is : n / 2 ≡ 2 ^ suc l
-    half-is = omega (arith, four-m, pow-len (suc l))
-
-    pub quarter-is : n / 4 ≡ 2 ^ l
-    quarter-is = omega (arith, four-m, pow-len l)
-
-    half-le : (a : ℕ) → n / 2 * a ≤ n * a
-    half-le a = mul-le-mul-right a (omega arith)
-
-    pub ready-even : Ready (n / 2) (dftRoom (n / 2)) (part n w₁)
-    ready-even = record {
-      level = suc l;
-      small = omega (arith, level-is, r .ready .small);
-      is = half-is;
-      fits = omega (arith, handed-length (r .evens-put), room, four-m);
-      samples = λ i h. rw (handed (r .evens-put) i h)
-          (omega (arith, r .ready .samples (2 * i) (omega arith), half-le (natAbs (word w₀ (2 * i)))));
-    }
-
-    pub even-same : Same (suc l) (word (part n w₁)) (evens (word w₀))
-    even-same i h = handed (r .evens-put) i (omega (arith, four-m))
-
-  -- ---- after they are transformed
-  module _ {n : ℕ} {w₀ w₁ p₁ : List ℤ} {p a : ℕ} (r : Run₂ n w₀ w₁ p₁ p a) where
-    abbrev r₁ : Run₁ n w₀ w₁
-    r₁ = r .so-far
-
-    pub even-gives : Gives (transform (suc (l r₁)) (word (part n w₁))) (n / 2 / 2 + 1) (part n w₁) p₁ p a
-    even-gives = r .even .gives (suc (l r₁)) (half-is r₁)
-
-    inside : n ≤ length w₀
-    inside = omega (arith, room r₁)
-
-    pub length₂ : length (back n w₁ p₁) ≡ length w₀
-    length₂ = whole-length (r₁ .evens-put) p₁ inside (even-gives .len)
-
-    pub kept₂ : (i : ℕ) → i < n → word (back n w₁ p₁) i ≡ word w₀ i
-    kept₂ = kept (r₁ .evens-put) p₁ inside
-
-    pub left₂ : (k : ℕ) → word (back n w₁ p₁) (n + k) ≡ word p₁ k
-    left₂ = left (r₁ .evens-put) p₁ inside
-
-    -- what the folding of the samples asks
-    pub ready-fold : (n ≤ mark n) × (mark n + n / 4 ≤ length (back n w₁ p₁))
-    ready-fold = (omega arith, omega (arith, length₂, room r₁, four-m r₁, len-pos (l r₁)))
-
-    pub samples₂ : (k : ℕ) → k < n → natAbs (word (back n w₁ p₁) k) ≤ largestSum
-    samples₂ k h = rw (kept₂ k h) (sample-le (r₁ .ready) k h)
-
-  -- ---- after the folded samples are put
-  module _ (K : Kind transform fold) where
-    module _ {n : ℕ} {w₀ w₁ p₁ w₃ : List ℤ} {p a f : ℕ} (r : Run₃ n w₀ w₁ p₁ w₃ p a f) where
-      abbrev r₂ : Run₂ n w₀ w₁ p₁ p a
-      r₂ = r .so-far
-
-      abbrev m : ℕ
-      m = len (l (r₁ r₂))
-
-      pub odd-same : Same (l (r₁ r₂)) (word (part (mark n) w₃)) (fold (4 * m) (word w₀))
-      odd-same i h =
-          handed (r .folded .filled) i (omega (arith, four-m (r₁ r₂)))
-          ∙ K .fold-same n (word (back n w₁ p₁)) (word w₀) (kept₂ r₂) i (omega (arith, four-m (r₁ r₂)))
-          ∙ ap (λ n. fold n (word w₀) i) (four-m (r₁ r₂))
-
-      -- a quarter of n times a sum of two samples
-      small-fold : (i : ℕ) → i < n / 4 → n / 4 * natAbs (fold n (word (back n w₁ p₁)) i) ≤ largestSum
-      small-fold i h =
-          let x = word (back n w₁ p₁) in
-          let u = natAbs (x (2 * i + 1)) in
-          let v = natAbs (x (n - 2 * i - 1)) in
-          let hu : n * u ≤ largestSum = rw (kept₂ r₂ (2 * i + 1) (omega arith)) (r₁ r₂ .ready .samples (2 * i + 1) (omega arith)) in
-          let hv : n * v ≤ largestSum = rw (kept₂ r₂ (n - 2 * i - 1) (omega arith)) (r₁ r₂ .ready .samples (n - 2 * i - 1) (omega arith)) in
-          quarter-le n u v _ hu hv (K .fold-le n x i)
-
-      pub ready-odd : Ready (n / 4) (dctRoom (n / 4)) (part (mark n) w₃)
-      ready-odd = record {
-        level = l (r₁ r₂);
-        small = omega (arith, level-is (r₁ r₂), r₁ r₂ .ready .small);
-        is = quarter-is (r₁ r₂);
-        fits = omega (arith, handed-length (r .folded .filled), length₂ r₂, room (r₁ r₂), four-m (r₁ r₂));
-        samples = λ i h. rw (handed (r .folded .filled) i h) (small-fold i h);
-      }
-
-    -- ---- after the DCT
-    module _ {n : ℕ} {w₀ w₁ p₁ w₃ p₃ : List ℤ} {p a f q b : ℕ} (r : Run₄ n w₀ w₁ p₁ w₃ p₃ p a f q b) where
-      abbrev r₃ : Run₃ n w₀ w₁ p₁ w₃ p a f
-      r₃ = r .so-far
-
-      pub odd-gives : Gives (dct (l (r₁ (r₂ r₃))) (word (part (mark n) w₃))) (n / 4) (part (mark n) w₃) p₃ q b
-      odd-gives = r .odd .gives (l (r₁ (r₂ r₃))) (quarter-is (r₁ (r₂ r₃)))
-
-      inside₄ : mark n ≤ length (back n w₁ p₁)
-      inside₄ = omega (arith, ready-fold (r₂ r₃))
-
-      pub length₄ : length (back (mark n) w₃ p₃) ≡ length w₀
-      length₄ = whole-length (r₃ .folded .filled) p₃ inside₄ (odd-gives .len) ∙ length₂ (r₂ r₃)
-
-      pub even₄ : (k : ℕ) → k ≤ n / 4 → evenAt n (back (mark n) w₃ p₃) k ≡ word p₁ k
-      even₄ k h = kept (r₃ .folded .filled) p₃ inside₄ (n + k) (omega arith) ∙ left₂ (r₂ r₃) k
-
-      pub odd₄ : (k : ℕ) → oddAt n (back (mark n) w₃ p₃) k ≡ word p₃ k
-      odd₄ k = left (r₃ .folded .filled) p₃ inside₄ k
-
-      -- the coefficients that are joined
-      abbrev lev : ℕ
-      lev = l (r₁ (r₂ r₃))
-
-      abbrev x : Samples
-      x = word w₀
-
-      pub even-is : transform (suc lev) (word (part n w₁)) ≡ transform (suc lev) (evens x)
-      even-is = K .same (suc lev) (word (part n w₁)) (evens x) (even-same (r₁ (r₂ r₃)))
-
-      pub odd-is : dct lev (word (part (mark n) w₃)) ≡ dct lev (fold (4 * len lev) x)
-      odd-is = dct-same lev (word (part (mark n) w₃)) (fold (4 * len lev) x) (odd-same r₃)
-
-      pub even-value : (k : ℕ) → k ≤ n / 4 → evenAt n (back (mark n) w₃ p₃) k ≡ transform (suc lev) (evens x) .at k
-      even-value k h = even₄ k h ∙ even-gives (r₂ r₃) .coefficients k (omega (arith, four-m (r₁ (r₂ r₃)))) ∙ ap (λ t. t .at k) even-is
-
-      pub odd-value : (k : ℕ) → k < n / 4 → oddAt n (back (mark n) w₃ p₃) k ≡ dct lev (fold (4 * len lev) x) .at k
-      odd-value k h = odd₄ k ∙ odd-gives .coefficients k h ∙ ap (λ t. t .at k) odd-is
-
-      -- what the join asks
-      pub joinable : (4 * (n / 4) ≡ n) × (4 ≤ n) × (n ≤ 1024) × (n + n / 4 + 1 + n / 4 ≤ length (back (mark n) w₃ p₃))
-      joinable =
-          let g = r₁ (r₂ r₃) in
-          (omega (arith, four-m g), four g, at-most (g .ready), omega (arith, length₄, room g, four-m g, len-pos lev))
-
-      pub small₄ : (k : ℕ) → k < n / 4 + 1 + n / 4 → natAbs (word (back (mark n) w₃ p₃) (n + k)) ≤ 2 * largestSum
-      unfolding ready-even ready-odd
-      small₄ k h = ⊎-elim even-part odd-part (le-or-lt k (n / 4))
-        where
-          even-part : k ≤ n / 4 → natAbs (word (back (mark n) w₃ p₃) (n + k)) ≤ 2 * largestSum
-          even-part g =
-              rw (even₄ k g ∙ even-gives (r₂ r₃) .coefficients k (omega (arith, four-m (r₁ (r₂ r₃)))))
-              (omega (arith, K .small (suc lev) _ _ (inner (ready-even (r₁ (r₂ r₃)))) k (omega (arith, four-m (r₁ (r₂ r₃))))))
-
-          odd-part : n / 4 < k → natAbs (word (back (mark n) w₃ p₃) (n + k)) ≤ 2 * largestSum
-          odd-part g =
-              rw (ap (word (back (mark n) w₃ p₃)) {x = n + k} {y = mark n + (k - (n / 4 + 1))} (omega arith) ∙ odd₄ (k - (n / 4 + 1)) ∙ odd-gives .coefficients (k - (n / 4 + 1)) (omega arith))
-              (omega (arith, within-size (dct-within (inner (ready-odd r₃)) (k - (n / 4 + 1)) (omega (arith, four-m (r₁ (r₂ r₃)))))))
-
-      -- what was spent so far
-      pub spent-even : (p ≡ transform (suc lev) (evens x) .products) × (a ≡ transform (suc lev) (evens x) .sums)
-      spent-even = (even-gives (r₂ r₃) .products ∙ ap (λ t. t .products) even-is, even-gives (r₂ r₃) .sums ∙ ap (λ t. t .sums) even-is)
-
-      pub spent-odd : (q ≡ dct lev (fold (4 * len lev) x) .products) × (b ≡ dct lev (fold (4 * len lev) x) .sums) × (f ≡ len lev)
-      spent-odd =
-          (odd-gives .products ∙ ap (λ t. t .products) odd-is, odd-gives .sums ∙ ap (λ t. t .sums) odd-is, omega (arith, r₃ .folded .counted, four-m (r₁ (r₂ r₃))))
-
-      pub spent-small : (p + a ≤ 2 ^ 16) × (q + b ≤ 2 ^ 16) × (f ≤ 1024)
-      spent-small =
-          let s = r₁ (r₂ r₃) .ready .small in (
-            omega (arith, spent-even, K .few (suc lev) (evens x) (omega (arith, level-is (r₁ (r₂ r₃))))),
-            omega (arith, spent-odd, few-operations lev (fold (4 * len lev) x) (omega (arith, level-is (r₁ (r₂ r₃))))),
-            omega (arith, r₃ .folded .counted, at-most (r₁ (r₂ r₃) .ready)),
-          )
-
--- ---- the two transforms, and the ends of their runs
-pub cosine-kind : Kind cosineDft foldedSums
+pub cosine-kind : Kind cosineDft foldedSums cosineJoin (λ n. n / 2)
 cosine-kind = record {
   same = λ L x y e. dft-same L x y e .0;
   small = λ L X x i k h. within-size (dft-size i k h .0);
-  few = λ L x h. few-operations L x h .cosine;
   fold-same = λ n x y e i h. ap₂ _+ℤ_ (e (2 * i + 1) (omega arith)) (e (n - 2 * i - 1) (omega arith));
   fold-le = λ n x i. size-add (x (2 * i + 1)) (x (n - 2 * i - 1));
+  join-same = λ n q E E′ D D′ e d k h. ap₂ _+ℤ_
+      (cosine-beyond-same (n / 2) E E′ k (omega arith) (λ j l. e j (omega arith)))
+      (dct-beyond-same (n / 4) D D′ k (omega arith) d);
+  step = λ L x k. rw (halved (len L), quartered (len L)) (cosine-step L x k);
+  products = cosine-products;
+  sums = λ L x. rw (halved (len L)) (cosine-sums L x);
 }
+  where
+    halved : (m : ℕ) → 4 * m / 2 ≡ 2 * m
+    halved m = omega arith
 
-pub sine-kind : Kind sineDft foldedDifferences
+    quartered : (m : ℕ) → 4 * m / 4 ≡ m
+    quartered m = omega arith
+
+pub sine-kind : Kind sineDft foldedDifferences sineJoin (λ n. n / 2 - 2)
 sine-kind = record {
   same = λ L x y e. dft-same L x y e .1;
   small = λ L X x i k h. within-size (dft-size i k h .1);
-  few = λ L x h. few-operations L x h .sine;
   fold-same = λ n x y e i h. ap₂ (λ u v. alternate i (u -ℤ v)) (e (2 * i + 1) (omega arith)) (e (n - 2 * i - 1) (omega arith));
-  fold-le = λ n x i. within-size (alternate-within i (within-sub (size-within (x (2 * i + 1)) (le-refl _)) (size-within (x (n - 2 * i - 1)) (le-refl _))));
+  fold-le = λ n x i. within-size (alternate-within i
+      (within-sub (size-within (x (2 * i + 1)) (le-refl _)) (size-within (x (n - 2 * i - 1)) (le-refl _))));
+  join-same = λ n q E E′ D D′ e d k h. ap₂ _+ℤ_
+      (sine-beyond-same (n / 2) E E′ k (omega arith) (λ j l. e j (omega arith)))
+      (dct-beyond-same (n / 4) D D′ _ (apart-le (n / 4) k (omega arith)) d);
+  step = λ L x k. rw (halved (len L), quartered (len L)) (sine-step L x k);
+  products = sine-products;
+  sums = λ L x. rw (halved (len L)) (sine-sums L x);
 }
+  where
+    halved : (m : ℕ) → 4 * m / 2 ≡ 2 * m
+    halved m = omega arith
 
-module _ {n : ℕ} {w₀ w₁ p₁ w₃ p₃ w₅ : List ℤ} {p a f q b j : ℕ} where
-  pub cosine-ends : Run₄ cosineDft foldedSums n w₀ w₁ p₁ w₃ p₃ p a f q b → CosineJoined n (back (mark n) w₃ p₃) w₅ j →
-      Transformed cosineDft n (n / 2 + 1) w₀ w₅ (p + q + 0) (a + b + (f + j))
-  cosine-ends r joined =
-      at-level (g .ready) (rw (level-is _ _ g) (record {
-        coefficients = λ k h. joined .words k h
-            ∙ ap₂ (λ N M. cosineBeyond N (evenAt n w₄) k +ℤ dctBeyond M (oddAt n w₄) k) {x = n / 2} {y = 2 * m} {u = n / 4} {v = m} (omega (arith, four-is)) (omega (arith, four-is))
-            ∙ ap₂ _+ℤ_ (cosine-beyond-same (2 * m) (evenAt n w₄) _ k (omega (arith, four-is)) (λ i l. even-value _ _ cosine-kind r i (omega (arith, four-is))))
-            (dct-beyond-same m (oddAt n w₄) _ k (omega (arith, four-is)) (λ i l. odd-value _ _ cosine-kind r i (omega (arith, four-is))))
-            ∙ sym (cosine-step lev x k);
-        products = omega (arith, spent-even _ _ cosine-kind r, spent-odd _ _ cosine-kind r, cosine-products lev x);
-        sums = omega (arith, spent-even _ _ cosine-kind r, spent-odd _ _ cosine-kind r, cosine-sums lev x, joined .counted, four-is);
-        len = joined .len ∙ length₄ _ _ cosine-kind r;
-      }))
+    quartered : (m : ℕ) → 4 * m / 4 ≡ m
+    quartered m = omega arith
+
+module _ {transform : ℕ → Samples → Transform} {fold : ℕ → Samples → Samples} {join : ℕ → (ℕ → ℤ) → (ℕ → ℤ) → ℕ → ℤ} {joins : ℕ → ℕ}
+    (K : Kind transform fold join joins) {n s at : ℕ} {w₀ : List ℤ} {spent : Tally} (start : DftReady transform n s at w₀ spent) (many : 4 ≤ n) where
+  -- the block, and the levels of its parts
+  abbrev x : Samples
+  x = paired n s (word w₀)
+
+  Q : Quarter n
+  Q = quarter n (start .ready .length-ok) many
+
+  abbrev l : ℕ
+  l = level (n / 4)
+
+  pub quarters : 4 * (n / 4) ≡ n
+  quarters = omega (arith, Q .four)
+
+  quarter-is : n / 4 ≡ len l
+  quarter-is = omega (arith, Q .four)
+
+  -- where the DCT's part begins
+  abbrev b : ℕ
+  b = at + n / 2 + 1
+
+  -- the two parts of the definition
+  abbrev even : Transform
+  even = transform (suc l) (evens x)
+
+  abbrev odd : Transform
+  odd = dct l (fold n x)
+
+  whole-counts : (transform (level n) x .products ≡ even .products + odd .products)
+      × (transform (level n) x .sums ≡ even .sums + odd .sums + (n / 4 + joins n))
+  whole-counts = rw (Q .level-is) (
+    rw (sym (Q .four)) at (K .products l x),
+    rw (sym (Q .four), sym quarter-is) at (K .sums l x),
+  )
+
+  even-is : transform (level (n / 2)) (paired (n / 2) (2 * s) (word w₀)) ≡ even
+  even-is = rw (Q .half-level) (K .same (suc l) _ _ (λ i h. paired-evens n s (word w₀) quarters i (omega (arith, quarter-is))))
+
+  pub even-ready : DftReady transform (n / 2) (2 * s) at w₀ spent
+  even-ready = record {
+    ready = record {
+      length-ok = Q .half-ok;
+      samples = λ i h. rw (paired-evens n s (word w₀) quarters i h)
+          (omega (arith, start .ready .samples (2 * i) (omega arith), mul-le-mul-right (natAbs (x (2 * i))) half-le));
+    };
+    stride = omega (arith, start .stride);
+    behind = omega (arith, start .behind, ap (λ m. s * m) half-is);
+    fits = omega (arith, start .fits, Q .four);
+    room = rw even-is (omega (arith, start .room, whole-counts));
+  }
     where
-      g : Run₁ cosineDft foldedSums n w₀ w₁
-      g = r .so-far .so-far .so-far
+      half-le : n / 2 ≤ n
+      half-le = omega arith
 
-      lev : ℕ
-      lev = l _ _ g
+      half-is : 2 * (n / 2) ≡ n
+      half-is = omega (arith, Q .four)
 
-      m : ℕ
-      m = len lev
+  -- twice the stride lies below the result, and so fits a word
+  pub stride-below : 2 * s ≤ at
+  stride-below = omega (arith, start .behind, mul-le-mul-left {m = 2} {n = n} s (omega arith))
 
-      four-is : n ≡ 4 * m
-      four-is = four-m _ _ g
+  -- ---- after the even samples are transformed
+  module _ {w₁ : List ℤ} {t₁ : Tally} (evened : DftDone transform (n / 2) (2 * s) at w₀ w₁ spent t₁) where
+    even-tallied : Tallied (even .products) (even .sums) spent t₁
+    even-tallied = subst (λ t. Tallied (t .products) (t .sums) spent t₁) even-is (evened .tallied)
 
-      w₄ : List ℤ
-      w₄ = back (mark n) w₃ p₃
+    -- the block is as it was
+    block₁ : (i : ℕ) → i < n → paired n s (word w₁) i ≡ x i
+    block₁ = paired-same n s (word w₁) (word w₀) (start .stride) (λ j h. evened .front j (omega (arith, start .behind)))
 
-      x : Samples
-      x = word w₀
+    pub fold-ready : FoldReady n s b w₁ t₁
+    fold-ready = record {
+      quarters = quarters;
+      stride = start .stride;
+      behind = omega (arith, start .behind);
+      fits = omega (arith, start .fits, evened .len, Q .four);
+      samples = λ i h. rw (block₁ i h) (sample-le (start .ready) i h);
+      room = omega (arith, start .room, whole-counts, even-tallied);
+    }
 
-  pub sine-ends : Run₄ sineDft foldedDifferences n w₀ w₁ p₁ w₃ p₃ p a f q b → SineJoined n (back (mark n) w₃ p₃) w₅ j →
-      Transformed sineDft n (n / 2 + 1) w₀ w₅ (p + q + 0) (a + b + (f + j))
-  sine-ends r joined =
-      at-level (g .ready) (rw (level-is _ _ g) (record {
-        coefficients = λ k h. joined .words k h
-            ∙ ap₂ (λ N M. sineBeyond N (evenAt n w₄) k +ℤ dctBeyond M (oddAt n w₄) (apart M k)) {x = n / 2} {y = 2 * m} {u = n / 4} {v = m} (omega (arith, four-is)) (omega (arith, four-is))
-            ∙ ap₂ _+ℤ_ (sine-beyond-same (2 * m) (evenAt n w₄) _ k (omega (arith, four-is)) (λ i l. even-value _ _ sine-kind r i (omega (arith, four-is))))
-            (dct-beyond-same m (oddAt n w₄) _ (apart m k) (apart-le m k (omega (arith, four-is))) (λ i l. odd-value _ _ sine-kind r i (omega (arith, four-is))))
-            ∙ sym (sine-step lev x k);
-        products = omega (arith, spent-even _ _ sine-kind r, spent-odd _ _ sine-kind r, sine-products lev x);
-        sums = omega (arith, spent-even _ _ sine-kind r, spent-odd _ _ sine-kind r, sine-sums lev x, joined .counted, four-is);
-        len = joined .len ∙ length₄ _ _ sine-kind r;
-      }))
-    where
-      g : Run₁ sineDft foldedDifferences n w₀ w₁
-      g = r .so-far .so-far .so-far
+    -- ---- after the block is folded
+    module _ {w₂ : List ℤ} {t₂ : Tally} (folded : Folded fold n s b w₁ w₂ t₁ t₂) where
+      pub tail-starts : b ≤ length w₂
+      tail-starts = omega (arith, fold-ready .fits, folded .words .len)
 
-      lev : ℕ
-      lev = l _ _ g
+      -- what the DCT finds
+      odd-block : (i : ℕ) → i < n / 4 → word (part b w₂) i ≡ fold n x i
+      odd-block i h = part-at b w₂ i ∙ folded .words .new i h ∙ K .fold-same n (paired n s (word w₁)) x block₁ i h
 
-      m : ℕ
-      m = len lev
+      odd-is : dct l (word (part b w₂)) ≡ odd
+      odd-is = dct-same l _ _ (λ i h. odd-block i (omega (arith, quarter-is)))
 
-      four-is : n ≡ 4 * m
-      four-is = four-m _ _ g
+      odd-block-ready : Ready (n / 4) (word (part b w₂))
+      odd-block-ready = record {
+        length-ok = Q .ok;
+        samples = λ i h. rw (odd-block i h) (quarter-le n _ _ _
+            (start .ready .samples (2 * i + 1) (omega arith)) (start .ready .samples (n - 2 * i - 1) (omega arith)) (K .fold-le n x i));
+      }
 
-      w₄ : List ℤ
-      w₄ = back (mark n) w₃ p₃
+      pub odd-ready : DctReady (n / 4) (part b w₂) t₂
+      odd-ready = record {
+        ready = odd-block-ready;
+        fits = omega (arith, part-length b w₂, folded .words .len, evened .len, start .fits);
+        room = rw odd-is (omega (arith, start .room, whole-counts, even-tallied, folded .tallied));
+      }
 
-      x : Samples
-      x = word w₀
+      -- ---- after the DCT
+      module _ {w₃ : List ℤ} {t₃ : Tally} (oddened : Gives (dct l (word (part b w₂))) b (n / 4) w₂ w₃ t₂ t₃) where
+        odd-tallied : Tallied (odd .products) (odd .sums) t₂ t₃
+        odd-tallied = subst (λ t. Tallied (t .products) (t .sums) t₂ t₃) odd-is (oddened .tallied)
+
+        length₃ : length w₃ ≡ length w₀
+        length₃ = oddened .len ∙ folded .words .len ∙ evened .len
+
+        -- what the join finds
+        pub even-word : (k : ℕ) → k ≤ n / 4 → evenAt at w₃ k ≡ even .at k
+        even-word k h =
+            oddened .front (at + k) (omega arith) ∙ folded .words .low (at + k) (omega arith)
+            ∙ evened .coefficients k (omega (arith, Q .four)) ∙ ap (λ t. t .at k) even-is
+
+        odd-word : (k : ℕ) → k < n / 4 → oddAt n at w₃ k ≡ odd .at k
+        odd-word k h = oddened .coefficients k h ∙ ap (λ t. t .at k) odd-is
+
+        pub join-ready : JoinReady (joins n) n at w₃ t₃
+        join-ready = record {
+          quarters = quarters;
+          some = many;
+          fits = omega (arith, start .fits, length₃);
+          even-small = λ k h. rw (even-word k (omega arith)) (omega (arith, even-size k (omega arith)));
+          odd-small = λ k h. rw (odd-word k h) (omega (arith, odd-size k h));
+          room = omega (arith, start .room, whole-counts, even-tallied, folded .tallied, odd-tallied);
+        }
+          where
+            even-size : (k : ℕ) → k ≤ n / 4 → natAbs (even .at k) ≤ largestSum + 128
+            even-size k h = subst (λ t. natAbs (t .at k) ≤ largestSum + 128) even-is
+                (K .small _ _ _ (inner (even-ready .ready)) k (omega (arith, as-len (n / 2) (Q .half-ok))))
+
+            odd-size : (k : ℕ) → k < n / 4 → natAbs (odd .at k) ≤ largestSum + 257
+            odd-size k h = subst (λ t. natAbs (t .at k) ≤ largestSum + 257) odd-is
+                (within-size (dct-within (inner odd-block-ready) k (omega (arith, quarter-is))))
+
+        pub dft-ends : {w₄ : List ℤ} {t₄ : Tally} → Joined join (joins n) n at w₃ w₄ t₃ t₄ → DftDone transform n s at w₀ w₄ spent t₄
+        dft-ends {w₄} {t₄} joined = record {
+          coefficients = λ k h. joined .words .new k h
+              ∙ K .join-same n quarters _ _ _ _ even-word odd-word k h ∙ sym (whole-at k);
+          front = λ k h. joined .words .low k h ∙ oddened .front k (omega arith) ∙ folded .words .low k (omega arith) ∙ evened .front k h;
+          tallied = omega (arith, whole-counts, even-tallied, folded .tallied, odd-tallied, joined .tallied);
+          len = joined .words .len ∙ length₃;
+        }
+          where
+            whole-at : (k : ℕ) → transform (level n) x .at k ≡ join n (even .at) (odd .at) k
+            whole-at k = rw (Q .level-is) (rw (sym (Q .four)) at (K .step l x k))
 
 -- the even samples' sine-DFT is zero where the join takes it to be
-pub sine-zeros : {n : ℕ} {w₀ w₁ p₁ w₃ p₃ : List ℤ} {p a f q b : ℕ} → Run₄ sineDft foldedDifferences n w₀ w₁ p₁ w₃ p₃ p a f q b →
-    (evenAt n (back (mark n) w₃ p₃) 0 ≡ pos 0) × (evenAt n (back (mark n) w₃ p₃) (n / 4) ≡ pos 0)
-sine-zeros {n} r = (
-  even-value _ _ sine-kind r 0 (omega arith) ∙ sine-first _ _,
-  even-value _ _ sine-kind r (n / 4) (omega arith) ∙ sine-last _ _ (n / 4) (omega (arith, four-m _ _ (r .so-far .so-far .so-far))),
-)
+module _ {n s at : ℕ} {w₀ : List ℤ} {spent : Tally} (start : DftReady sineDft n s at w₀ spent) (many : 4 ≤ n)
+    {w₁ w₂ w₃ : List ℤ} {t₁ t₂ t₃ : Tally} (evened : DftDone sineDft (n / 2) (2 * s) at w₀ w₁ spent t₁)
+    (folded : Folded foldedDifferences n s (at + n / 2 + 1) w₁ w₂ t₁ t₂)
+    (oddened : Gives (dct (level (n / 4)) (word (part (at + n / 2 + 1) w₂))) (at + n / 2 + 1) (n / 4) w₂ w₃ t₂ t₃) where
+  pub sine-zeros : (evenAt at w₃ 0 ≡ pos 0) × (evenAt at w₃ (n / 4) ≡ pos 0)
+  sine-zeros = (
+    even-word sine-kind start many evened folded oddened 0 (omega arith) ∙ sine-first _ _,
+    even-word sine-kind start many evened folded oddened (n / 4) (omega arith) ∙ sine-last _ _ (n / 4) (omega (arith, quarter-is sine-kind start many)),
+  )
+
+-- two differences are put at a time
+multiple : (n k : ℕ) → n ≡ 8 * k → 8 * (n / 8) ≡ n
+multiple n k e = omega arith
+
+pub eighths : {n s at : ℕ} {w : List ℤ} {spent : Tally} → DftReady sineDft n s at w spent → 8 ≤ n → 8 * (n / 8) ≡ n
+eighths {n} r h =
+    let q = quarter n (r .ready .length-ok) (omega arith) in
+    let e = half (n / 4) (q .ok) (omega arith) in
+    multiple n (len (level (n / 4 / 2))) (omega (arith, e .twice, q .four, as-len (n / 4) (q .ok)))

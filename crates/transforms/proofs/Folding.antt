@@ -1,59 +1,92 @@
--- One turn of a loop that folds (12), (15): sample 2 i + 1 and its mirror image, read while a run behind the n samples is filled.
+-- One turn of a loop that folds (12), (15): sample 2 i + 1 and its mirror image, which are neighbours, read while a run behind the block is written.
 -- Assumes nothing.
 use mathlib.Core.List.{List}
-use mathlib.Core.Path.{_≡_, refl, sym}
-use Prim.Native.Nat.{ℕ, _+_, _*_, _-_, _/_, _%_, _≤_, _<_}
+use mathlib.Core.Path.{_≡_, sym, _∙_}
+use Prim.Native.Nat.{ℕ, _+_, _*_, _-_, _/_, _%_, _^_, _≤_, _<_}
+use native.Mathlib.Nat.{mul-le-mul-left}
 use native.Mathlib.Omega.{arith}
-use lib.IntN.{ℤ, natAbs, _-ℤ_}
+use lib.IntN.{ℤ, pos, natAbs, _+ℤ_, _-ℤ_}
 use lib.ListN.{length}
+use lib.Signed.{mag}
 use mir.Syntax.{w64}
-use mir.Val.{SFits, ofZ}
-use Rattle.whole.proofs.Size.{_within_, size-within}
-use Rattle.whole.proofs.Words.{Word}
-use Rattle.words.specs.Words.{word}
+use mir.Val.{ofZ}
+use Rattle.whole.proofs.Words.{held}
+use Rattle.whole.proofs.Operations.{Computes}
+use Rattle.words.specs.Words.{Samples, word, Written}
+use Rattle.words.proofs.Writing.{Ends, ends-more}
 use Rattle.ffct.specs.Block.{largestSum}
-use Rattle.ffct.specs.Transforms.{foldedDifferences}
-use Rattle.transforms.specs.Words.{Filled}
+use Rattle.ffct.specs.Transforms.{foldedSums, foldedDifferences}
+use Rattle.ffct.proofs.Sizes.{added}
 use Rattle.ffct.proofs.Alternate.{alternate-even, alternate-turned}
-use Rattle.transforms.proofs.Filling.{read-below, fill-join}
+use Rattle.counts.specs.declared.tally.Tally.{Tally}
+use Rattle.counts.specs.Tally.{HasRoom}
+use Rattle.transforms.specs.Pairs.{paired}
+use Rattle.transforms.specs.Steps.{FoldReady, DifferenceReady}
+use Rattle.transforms.proofs.Pairs.{paired-odd, paired-mirror}
 
--- the words read, and the samples that they are
-pub record Folded (n i : ℕ) (before after : List ℤ) : Type 0 where
-  pub x : Word w64 (ofZ w64 (word after (2 * i + 1))) (word before (2 * i + 1))
-  pub y : Word w64 (ofZ w64 (word after (n - 2 * i - 1))) (word before (n - 2 * i - 1))
-  pub x-small : word before (2 * i + 1) within largestSum
-  pub y-small : word before (n - 2 * i - 1) within largestSum
+-- the place of sample 2 i + 1
+abbrev pub place : ℕ → ℕ → ℕ
+place s i = 2 * s * (2 * i + 1)
 
-pub folded : {n b i : ℕ} {f : ℕ → ℤ} {before after : List ℤ} → Filled b i f before after → n ≤ b → i < n / 4
-    → ((k : ℕ) → k < n → natAbs (word before k) ≤ largestSum) → SFits w64 (word after (2 * i + 1)) → SFits w64 (word after (n - 2 * i - 1)) → Folded n i before after
-folded run l h small x-fits y-fits =
-    record {
-      x = read-below run _ (omega arith) x-fits;
-      y = read-below run _ (omega arith) y-fits;
-      x-small = size-within _ (small _ (omega arith));
-      y-small = size-within _ (small _ (omega arith));
-    }
+module _ {n s b : ℕ} {before : List ℤ} {spent : Tally} (r : FoldReady n s b before spent) {i : ℕ} (h : i < n / 4) where
+  abbrev x : Samples
+  x = paired n s (word before)
 
--- ---- the differences, whose signs alternate
-module _ {n b i : ℕ} {before after : List ℤ} (run : Filled b i (foldedDifferences n (word before)) before after) (l : n ≤ b) (h : i < n / 4) where
-  -- what storing one more of them asks
-  pub asks : b + n / 4 ≤ length before → ((k : ℕ) → k < n → natAbs (word before k) ≤ largestSum) → (x y : ℕ) → x < n → y < n →
-      (x < b + i) × (y < b + i) × (b + i < length after) × (natAbs (word after x) ≤ largestSum) × (natAbs (word after y) ≤ largestSum)
-  asks room small x y x-in y-in = (omega arith, omega arith, omega (arith, run .len), sample x x-in, sample y y-in)
-    where
-      sample : (k : ℕ) → k < n → natAbs (word after k) ≤ largestSum
-      sample k o = rw (run .low k (omega arith)) (small k o)
+  -- it lies inside the block, and is not its first
+  pub inside : (place s i < b) × (1 ≤ place s i) × (2 * s ≤ b)
+  inside =
+      let l = mul-le-mul-left {m = 4 * i + 3} {n = n} s (omega (arith, r .quarters)) in
+      let o = mul-le-mul-left {m = 1} {n = 2 * i + 1} s (omega arith) in
+      omega (arith, r .stride, r .behind)
 
-  one-more : {z : ℤ} {last : List ℤ} → z ≡ foldedDifferences n (word before) i → Filled (b + i) 1 (λ _. z) after last → Filled b (i + 1) (foldedDifferences n (word before)) before last
-  one-more {z} e next = fill-join run next (λ k o. refl) (λ k o. let at : i + k ≡ i = omega arith in rw at e)
+  module _ {f : ℕ → ℤ} {a c m : ℕ} {after : List ℤ} (run : Ends (pos 0) b a c m f before after) where
+    pub first-is : word after (place s i) ≡ x (2 * i + 1)
+    first-is = run .low (place s i) (inside .0) ∙ sym (paired-odd n s (word before) (r .quarters) i h)
 
-  -- one more of them, at an even and at an odd place
-  pub even-more : {last : List ℤ} → i % 2 ≡ 0 → Filled (b + i) 1 (λ _. word after (2 * i + 1) -ℤ word after (n - 2 * i - 1)) after last
-      → Filled b (i + 1) (foldedDifferences n (word before)) before last
-  even-more e = one-more (rw (run .low (2 * i + 1) (omega arith), run .low (n - 2 * i - 1) (omega arith)) (sym (alternate-even i _ e)))
+    pub second-is : word after (place s i - 1) ≡ x (n - 2 * i - 1)
+    second-is = run .low (place s i - 1) (omega (arith, inside)) ∙ sym (paired-mirror n s (word before) (r .quarters) i h)
 
-  pub odd-more : {last : List ℤ} → i % 2 ≡ 1 → Filled (b + i) 1 (λ _. word after (n - 2 * i - 1) -ℤ word after (2 * i + 1)) after last
-      → Filled b (i + 1) (foldedDifferences n (word before)) before last
-  odd-more e =
-      one-more
-      (rw (run .low (2 * i + 1) (omega arith), run .low (n - 2 * i - 1) (omega arith)) (alternate-turned i (word before (2 * i + 1)) (word before (n - 2 * i - 1)) e))
+    -- the sum of the two
+    pub folded-sum : mag (word after (place s i)) < 2 ^ 63 → mag (word after (place s i - 1)) < 2 ^ 63 →
+        Computes _+ℤ_ (ofZ w64 (word after (place s i))) (ofZ w64 (word after (place s i - 1))) (x (2 * i + 1)) (x (n - 2 * i - 1))
+    folded-sum u v = added (held u first-is) (held v second-is)
+        (omega (arith, r .samples (2 * i + 1) (omega arith))) (omega (arith, r .samples (n - 2 * i - 1) (omega arith)))
+
+    -- what putting their difference asks, either way round
+    module _ {tally : Tally} (room : HasRoom 0 1 tally) (l : b + a < length before) where
+      first-small : natAbs (word after (place s i)) ≤ largestSum
+      first-small = rw first-is (r .samples (2 * i + 1) (omega arith))
+
+      second-small : natAbs (word after (place s i - 1)) ≤ largestSum
+      second-small = rw second-is (r .samples (n - 2 * i - 1) (omega arith))
+
+      pub even-ready : DifferenceReady (place s i) (place s i - 1) (b + a) after tally
+      even-ready = record {
+        x-below = omega (arith, inside);
+        y-below = omega (arith, inside);
+        fits = omega (arith, run .len);
+        x-small = first-small;
+        y-small = second-small;
+        room = room;
+      }
+
+      pub odd-ready : DifferenceReady (place s i - 1) (place s i) (b + a) after tally
+      odd-ready = record {
+        x-below = even-ready .y-below;
+        y-below = even-ready .x-below;
+        fits = even-ready .fits;
+        x-small = second-small;
+        y-small = first-small;
+        room = room;
+      }
+
+-- one difference more: the signs alternate, so at an odd place the difference is turned round
+module _ {n s b : ℕ} {before : List ℤ} {spent : Tally} (r : FoldReady n s b before spent) {i : ℕ} (h : i < n / 4) {after last : List ℤ}
+    (run : Ends (pos 0) b i 0 (n / 4) (foldedDifferences n (paired n s (word before))) before after) where
+  pub even-more : i % 2 ≡ 0 → Written (b + i) 1 (λ k. word after (place s i) -ℤ word after (place s i - 1)) after last →
+      Ends (pos 0) b (i + 1) 0 (n / 4) (foldedDifferences n (paired n s (word before))) before last
+  even-more e = ends-more (omega arith) (rw (first-is r h run, second-is r h run) (sym (alternate-even i _ e))) run
+
+  pub odd-more : i % 2 ≡ 1 → Written (b + i) 1 (λ k. word after (place s i - 1) -ℤ word after (place s i)) after last →
+      Ends (pos 0) b (i + 1) 0 (n / 4) (foldedDifferences n (paired n s (word before))) before last
+  odd-more e = ends-more (omega arith) (rw (first-is r h run, second-is r h run) (alternate-turned i (paired n s (word before) (2 * i + 1)) (paired n s (word before) (n - 2 * i - 1)) e)) run

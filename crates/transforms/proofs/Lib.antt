@@ -1,11 +1,8 @@
-pub mod Filling
+pub mod Pairs
 pub mod Folding
-pub mod Mirroring
 pub mod Joining
-pub mod Parts
+pub mod Rotating
 pub mod Levels
-pub mod Bases
-pub mod Fronts
-pub mod Runs
 pub mod DftRuns
 pub mod DctRuns
+pub mod Bases

@@ -1,82 +1,137 @@
--- What the functions of this crate promise: each step its values and its counts together, by the definitions of the crate ffct.
+-- What the functions of this crate ask and promise: each step its values and its counts together, by the definitions of the crate ffct. `spent` is the tally that a
+-- function is handed, `total` the one that it gives back.
+use mathlib.Core.Bool.{true}
 use mathlib.Core.List.{List}
 use mathlib.Core.Path.{_≡_}
-use Prim.Native.Nat.{ℕ, _+_, _-_, _*_, _/_, _^_, _≤_, _<_, min}
-use lib.IntN.{ℤ, natAbs, _+ℤ_, _-ℤ_, _*ℤ_}
+use Prim.Native.Nat.{ℕ, _+_, _-_, _*_, _/_, _≤_, _<_, min}
+use lib.IntN.{ℤ, pos, natAbs, _+ℤ_, _-ℤ_}
 use lib.ListN.{length}
-use Rattle.whole.specs.Round.{round}
-use Rattle.circle.specs.Circle.{T}
-use Rattle.words.specs.Words.{Samples, word}
-use Rattle.ffct.specs.Block.{topLevel, largestSum}
-use Rattle.ffct.specs.Transforms.{Transform, cosineBeyond, sineBeyond, dctBeyond, apart, rotated}
-use Rattle.transforms.specs.Words.{Mirrored}
+use Rattle.words.specs.Words.{Samples, word, Written}
+use Rattle.ffct.specs.Block.{isLength, level, largestSum}
+use Rattle.ffct.specs.Transforms.{Transform, dct, cosineBeyond, sineBeyond, dctBeyond, apart, rotated}
+use Rattle.counts.specs.declared.tally.Tally.{Tally}
+use Rattle.counts.specs.Tally.{Tallied, HasRoom}
+use Rattle.transforms.specs.Pairs.{paired}
 
--- ---- what a transform of n samples asks of the slice that it is lent: n is one of the eleven lengths, there is room, and n times the size of each sample is at most
--- 1,024 times 1,000,000, which holds of an accepted block and of the samples of every step
+-- ---- the transforms
 
-pub record Ready (n room : ℕ) (words : List ℤ) : Type 0 where
-  pub level : ℕ
-  pub small : level ≤ topLevel
-  pub is : n ≡ 2 ^ level
-  pub fits : room ≤ length words
-  pub samples : (i : ℕ) → i < n → n * natAbs (word words i) ≤ largestSum
+-- a block of n samples, n one of the eleven lengths, and n times the size of each sample at most 1,024 times 1,000,000: that holds of an accepted block and of the samples of
+-- every step
+pub record Ready (n : ℕ) (x : Samples) : Type 0 where
+  pub length-ok : isLength n ≡ true
+  pub samples : (i : ℕ) → i < n → n * natAbs (x i) ≤ largestSum
 
--- the words that a cosine- or sine-DFT of n samples works in: 5/2 n
-abbrev pub dftRoom : ℕ → ℕ
-dftRoom n = 2 * n + (n + 1) / 2
+-- what a transform t leaves: its first m coefficients from place `at` on, and its counts; the words below `at` are as before. What stands in the words behind the
+-- coefficients is the program's choice. The length stays
+pub record Gives (t : Transform) (at m : ℕ) (before after : List ℤ) (spent total : Tally) : Type 0 where
+  pub coefficients : (k : ℕ) → k < m → word after (at + k) ≡ t .at k
+  pub front : (k : ℕ) → k < at → word after k ≡ word before k
+  pub tallied : Tallied (t .products) (t .sums) spent total
+  pub len : length after ≡ length before
 
--- and those of a DCT: 4 n + 1, but for one sample that one word
+-- the words that a DCT of n samples works in: the samples, which its coefficients replace, and its two DFTs, 3 n words in all; for one sample that one word
 abbrev pub dctRoom : ℕ → ℕ
-dctRoom n = n + min (3 * n + 1) (7 * (n - 1))
+dctRoom n = min (3 * n) (5 * n - 4)
 
--- ---- what a transform leaves: its first m coefficients at the front of the slice, and its counts, p products and a sums. The other words are the program's choice; the slice keeps its length
-pub record Gives (t : Transform) (m : ℕ) (before after : List ℤ) (p a : ℕ) : Type 0 where
-  pub coefficients : (k : ℕ) → k < m → word after k ≡ t .at k
-  pub products : p ≡ t .products
-  pub sums : a ≡ t .sums
-  pub len : length after ≡ length before
+-- the words from its result on that a cosine- or sine-DFT of n samples works in: its n/2 + 1 coefficients, and the DCT of n/4 behind them
+abbrev pub dftRoom : ℕ → ℕ
+dftRoom n = n / 2 + 1 + dctRoom (n / 4)
 
--- the transform of the samples at the front, at the level of n
-pub record Transformed (transform : ℕ → Samples → Transform) (n m : ℕ) (before after : List ℤ) (p a : ℕ) : Type 0 where
-  pub gives : (L : ℕ) → n ≡ 2 ^ L → Gives (transform L (word before)) m before after p a
+-- a cosine- or sine-DFT: n samples in pairs at the front, with the stride s, and a result at `at`, behind them
+pub record DftReady (transform : ℕ → Samples → Transform) (n s at : ℕ) (words : List ℤ) (spent : Tally) : Type 0 where
+  pub ready : Ready n (paired n s (word words))
+  pub stride : 1 ≤ s
+  pub behind : s * n ≤ at
+  pub fits : at + dftRoom n ≤ length words
+  pub room :
+      let t = transform (level n) (paired n s (word words)) in
+      HasRoom (t .products) (t .sums) spent
 
--- ---- N = 2
-pub record Halved (before after : List ℤ) (sums : ℕ) : Type 0 where
-  pub sum : word after 0 ≡ word before 0 +ℤ word before 1
-  pub difference : word after 1 ≡ word before 0 -ℤ word before 1
-  pub counted : sums ≡ 2
-  pub len : length after ≡ length before
+abbrev pub DftDone : (ℕ → Samples → Transform) → ℕ → ℕ → ℕ → List ℤ → List ℤ → Tally → Tally → Type 0
+DftDone transform n s at before after spent total =
+    Gives (transform (level n) (paired n s (word before))) at (n / 2 + 1) before after spent total
 
--- ---- the joins of (12) and (15): the coefficients E of the even samples stand at n .. n + n/4, those of the DCT, D, after them
+-- a DCT: n samples at the front, and its coefficients in their place
+pub record DctReady (n : ℕ) (words : List ℤ) (spent : Tally) : Type 0 where
+  pub ready : Ready n (word words)
+  pub fits : dctRoom n ≤ length words
+  pub room :
+      let t = dct (level n) (word words) in
+      HasRoom (t .products) (t .sums) spent
+
+abbrev pub DctDone : ℕ → List ℤ → List ℤ → Tally → Tally → Type 0
+DctDone n before after spent total = Gives (dct (level n) (word before)) 0 n before after spent total
+
+-- ---- the folds of (12) and (15): of the n samples in pairs at the front, put at b behind them
+pub record FoldReady (n s b : ℕ) (words : List ℤ) (spent : Tally) : Type 0 where
+  pub quarters : 4 * (n / 4) ≡ n
+  pub stride : 1 ≤ s
+  pub behind : s * n ≤ b
+  pub fits : b + n / 4 ≤ length words
+  pub samples : (i : ℕ) → i < n → natAbs (paired n s (word words) i) ≤ largestSum
+  pub room : HasRoom 0 (n / 4) spent
+
+pub record Folded (fold : ℕ → Samples → Samples) (n s b : ℕ) (before after : List ℤ) (spent total : Tally) : Type 0 where
+  pub words : Written b (n / 4) (fold n (paired n s (word before))) before after
+  pub tallied : Tallied 0 (n / 4) spent total
+
+-- the word at x less the word at y, put at a place behind them
+pub record DifferenceReady (x y place : ℕ) (words : List ℤ) (spent : Tally) : Type 0 where
+  pub x-below : x < place
+  pub y-below : y < place
+  pub fits : place < length words
+  pub x-small : natAbs (word words x) ≤ largestSum
+  pub y-small : natAbs (word words y) ≤ largestSum
+  pub room : HasRoom 0 1 spent
+
+pub record DifferencePut (x y place : ℕ) (before after : List ℤ) (spent total : Tally) : Type 0 where
+  pub words : Written place 1 (λ k. word before x -ℤ word before y) before after
+  pub tallied : Tallied 0 1 spent total
+
+-- ---- the joins of (12) and (15): the coefficients E of the even samples stand at `at` .. at + n/4, those of the DCT, D, from at + n/2 + 1 on; what they make stands at
+-- `at` .. at + n/2
 abbrev pub evenAt : ℕ → List ℤ → ℕ → ℤ
-evenAt n words k = word words (n + k)
+evenAt at words k = word words (at + k)
 
-abbrev pub oddAt : ℕ → List ℤ → ℕ → ℤ
-oddAt n words k = word words (n + n / 4 + 1 + k)
+abbrev pub oddAt : ℕ → ℕ → List ℤ → ℕ → ℤ
+oddAt n at words k = word words (at + n / 2 + 1 + k)
 
-pub record CosineJoined (n : ℕ) (before after : List ℤ) (sums : ℕ) : Type 0 where
-  pub words : (k : ℕ) → k < n / 2 + 1 → word after k ≡ cosineBeyond (n / 2) (evenAt n before) k +ℤ dctBeyond (n / 4) (oddAt n before) k
-  pub counted : sums ≡ n / 2
-  pub len : length after ≡ length before
+-- (12)
+abbrev pub cosineJoin : ℕ → (ℕ → ℤ) → (ℕ → ℤ) → ℕ → ℤ
+cosineJoin n E D k = cosineBeyond (n / 2) E k +ℤ dctBeyond (n / 4) D k
 
-pub record SineJoined (n : ℕ) (before after : List ℤ) (sums : ℕ) : Type 0 where
-  pub words : (k : ℕ) → k < n / 2 + 1 → word after k ≡ sineBeyond (n / 2) (evenAt n before) k +ℤ dctBeyond (n / 4) (oddAt n before) (apart (n / 4) k)
-  pub counted : sums ≡ n / 2 - 2
-  pub len : length after ≡ length before
+-- (15)
+abbrev pub sineJoin : ℕ → (ℕ → ℤ) → (ℕ → ℤ) → ℕ → ℤ
+sineJoin n E D k = sineBeyond (n / 2) E k +ℤ dctBeyond (n / 4) D (apart (n / 4) k)
 
--- ---- the rotation: the pairs k, n - k, for k from 1 up to n/2, with C at n and S at n + n/2 + 1
-pub record PairsRotated (n : ℕ) (before after : List ℤ) (p a : ℕ) : Type 0 where
-  pub words :
-      Mirrored 1 (n / 2) n n
-      (λ k. round (T (1024 / n * k) *ℤ word before (n + k) -ℤ T (1024 - 1024 / n * k) *ℤ word before (n + n / 2 + 1 + k)))
-      (λ k. round (T (1024 - 1024 / n * k) *ℤ word before (n + k) +ℤ T (1024 / n * k) *ℤ word before (n + n / 2 + 1 + k)))
-      before after
-  pub products : p ≡ 3 * (n / 2 - 1)
-  pub sums : a ≡ 3 * (n / 2 - 1)
+-- `sums` of them are made
+pub record JoinReady (sums n at : ℕ) (words : List ℤ) (spent : Tally) : Type 0 where
+  pub quarters : 4 * (n / 4) ≡ n
+  pub some : 4 ≤ n
+  pub fits : at + dftRoom n ≤ length words
+  pub even-small : (k : ℕ) → k < n / 4 + 1 → natAbs (evenAt at words k) ≤ 2 * largestSum
+  pub odd-small : (k : ℕ) → k < n / 4 → natAbs (oddAt n at words k) ≤ 2 * largestSum
+  pub room : HasRoom 0 sums spent
 
--- the cosine-DFT stands at n .. n + n/2, the sine-DFT after it; the DCT goes to the front
-pub record DctRotated (n : ℕ) (before after : List ℤ) (p a : ℕ) : Type 0 where
-  pub words : (k : ℕ) → k < n → word after k ≡ rotated n (λ j. word before (n + j)) (λ j. word before (n + n / 2 + 1 + j)) k
-  pub products : p ≡ 3 * (n / 2 - 1) + 1
-  pub sums : a ≡ 3 * (n / 2 - 1)
-  pub len : length after ≡ length before
+pub record Joined (join : ℕ → (ℕ → ℤ) → (ℕ → ℤ) → ℕ → ℤ) (sums n at : ℕ) (before after : List ℤ) (spent total : Tally) : Type 0 where
+  pub words : Written at (n / 2 + 1) (join n (evenAt at before) (oddAt n at before)) before after
+  pub tallied : Tallied 0 sums spent total
+
+-- ---- the rotation (18), (19): the cosine-DFT C stands at n .. n + n/2, the sine-DFT S behind it; the DCT goes to the front
+abbrev pub cosineAt : ℕ → List ℤ → ℕ → ℤ
+cosineAt n words k = word words (n + k)
+
+abbrev pub sineAt : ℕ → List ℤ → ℕ → ℤ
+sineAt n words k = word words (n + n / 2 + 1 + k)
+
+pub record RotationReady (n : ℕ) (words : List ℤ) (spent : Tally) : Type 0 where
+  pub length-ok : isLength n ≡ true
+  pub some : 2 ≤ n
+  pub fits : n + (n / 2 + 1) + (n / 2 + 1) ≤ length words
+  pub cosine-small : (k : ℕ) → k < n / 2 + 1 → natAbs (cosineAt n words k) ≤ largestSum + 128
+  pub sine-small : (k : ℕ) → k < n / 2 + 1 → natAbs (sineAt n words k) ≤ largestSum + 128
+  pub room : HasRoom (3 * (n / 2 - 1) + 1) (3 * (n / 2 - 1)) spent
+
+pub record Rotated (n : ℕ) (before after : List ℤ) (spent total : Tally) : Type 0 where
+  pub words : Written 0 n (rotated n (cosineAt n before) (sineAt n before)) before after
+  pub tallied : Tallied (3 * (n / 2 - 1) + 1) (3 * (n / 2 - 1)) spent total

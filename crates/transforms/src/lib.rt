@@ -1,119 +1,77 @@
-// Cosine-DFT, sine-DFT and DCT in place, over words that the caller lends. The three call each other in a cycle; each function promises the definition of
-// the crate ffct, values and counts together. A part of the lent words holds the input on entry and the result on return; what a transform needs
-// for itself stands behind it, and it lends the tail of the slice on.
-pub mod base;
+// Cosine-DFT, sine-DFT and DCT, over words that the caller lends. The three call each other in a cycle; each promises the definition of the crate ffct, values and counts
+// together. A DFT finds its block in pairs at the front of the words, with a stride, leaves what stands below its result, and puts the result at `at`; a DCT works in its place.
+// What a function needs for itself stands behind its result.
 pub mod fold;
 pub mod join;
 pub mod rotate;
+pub mod short;
 
-use base::cosine_base;
-use base::cosine_of_8;
-use base::cosine_of_16;
-use base::cosine_of_32;
-use base::dct_of_8;
-use base::dct_of_16;
-use base::sine_base;
-use base::sine_of_8;
-use base::sine_of_16;
-use base::sine_of_32;
-use fold::put_evens;
+use counts::tally::Tally;
 use fold::put_folded_differences;
 use fold::put_folded_sums;
-use fold::rearrange;
 use join::join_cosine;
 use join::join_sine;
-use rotate::rotate_all;
-use steps::tally::Tally;
-use steps::tally::total;
-ghost use Prim.Native.Nat.{_+_, _/_};
+use rotate::rotate;
+use short::cosine_short;
+use short::dct_short;
+use short::sine_short;
 ghost use Rattle.circle.specs.Circle.{IsQuarterWave};
-ghost use Rattle.ffct.specs.Transforms.{cosineDft, sineDft, dct as dctOf};
-ghost use Rattle.transforms.specs.Steps.{Ready, dftRoom, dctRoom, Transformed};
+ghost use Rattle.ffct.specs.Transforms.{cosineDft, sineDft};
+ghost use Rattle.transforms.specs.Steps.{DftReady, DftDone, DctReady, DctDone};
 
-// The cosine-DFT of the n samples at the front, in their place: n / 2 + 1 words.
-pub fn cosine_dft(wave: &[i32; 1025], w: &mut [i64], n: usize) -> Tally
-    requires { ⌜ IsQuarterWave (now wave) × Ready n (dftRoom n) (now w) ⌝ }
-    ensures { λ r. ⌜ Transformed cosineDft n (n / 2 + 1) (now (w .entry)) (now (w .exit)) (r .products) (r .sums) ⌝ }
+// (12): the cosine-DFT of the n samples in pairs at the front, n / 2 + 1 words at `at`.
+pub fn cosine_dft(
+    wave: &[i32; 1025],
+    w: &mut [i64],
+    n: usize,
+    stride: usize,
+    at: usize,
+    spent: Tally,
+) -> Tally
+    requires { ⌜ IsQuarterWave (now wave) × DftReady cosineDft n stride at (now w) spent ⌝ }
+    ensures { λ r. ⌜ DftDone cosineDft n stride at (now (w .entry)) (now (w .exit)) spent r ⌝ }
 {
-    if n == 32 {
-        return cosine_of_32(wave, w);
+    if n <= 32 {
+        return cosine_short(wave, w, n, stride, at, spent);
     }
-    if n == 16 {
-        return cosine_of_16(wave, w);
-    }
-    if n == 8 {
-        return cosine_of_8(wave, w);
-    }
-    if n <= 2 {
-        return cosine_base(w, n);
-    }
-    put_evens(w, n, n);
-    let even = cosine_dft(wave, &mut w[n..], n / 2);
-    let b = n + n / 4 + 1;
-    let folded = put_folded_sums(w, n, b);
-    let odd = dct(wave, &mut w[b..], n / 4);
-    let joined = join_cosine(w, n);
-    let sums = folded + joined;
-    let step = Tally {
-        products: 0,
-        sums: sums,
-    };
-    total(even, odd, step)
+    let even = cosine_dft(wave, w, n / 2, 2 * stride, at, spent);
+    let b = at + n / 2 + 1;
+    let folded = put_folded_sums(w, n, stride, b, even);
+    let odd = dct(wave, &mut w[b..], n / 4, folded);
+    join_cosine(w, n, at, odd)
 }
 
-// The sine-DFT of the n samples at the front, in their place: n / 2 + 1 words.
-pub fn sine_dft(wave: &[i32; 1025], w: &mut [i64], n: usize) -> Tally
-    requires { ⌜ IsQuarterWave (now wave) × Ready n (dftRoom n) (now w) ⌝ }
-    ensures { λ r. ⌜ Transformed sineDft n (n / 2 + 1) (now (w .entry)) (now (w .exit)) (r .products) (r .sums) ⌝ }
+// (15): the sine-DFT of the n samples in pairs at the front, n / 2 + 1 words at `at`.
+pub fn sine_dft(
+    wave: &[i32; 1025],
+    w: &mut [i64],
+    n: usize,
+    stride: usize,
+    at: usize,
+    spent: Tally,
+) -> Tally
+    requires { ⌜ IsQuarterWave (now wave) × DftReady sineDft n stride at (now w) spent ⌝ }
+    ensures { λ r. ⌜ DftDone sineDft n stride at (now (w .entry)) (now (w .exit)) spent r ⌝ }
 {
-    if n == 32 {
-        return sine_of_32(wave, w);
+    if n <= 32 {
+        return sine_short(wave, w, n, stride, at, spent);
     }
-    if n == 16 {
-        return sine_of_16(wave, w);
-    }
-    if n == 8 {
-        return sine_of_8(wave, w);
-    }
-    if n <= 2 {
-        return sine_base(w, n);
-    }
-    put_evens(w, n, n);
-    let even = sine_dft(wave, &mut w[n..], n / 2);
-    let b = n + n / 4 + 1;
-    let folded = put_folded_differences(w, n, b);
-    let odd = dct(wave, &mut w[b..], n / 4);
-    let joined = join_sine(w, n);
-    let sums = folded + joined;
-    let step = Tally {
-        products: 0,
-        sums: sums,
-    };
-    total(even, odd, step)
+    let even = sine_dft(wave, w, n / 2, 2 * stride, at, spent);
+    let b = at + n / 2 + 1;
+    let folded = put_folded_differences(w, n, stride, b, even);
+    let odd = dct(wave, &mut w[b..], n / 4, folded);
+    join_sine(w, n, at, odd)
 }
 
-// The DCT of the n samples at the front, in their place.
-pub fn dct(wave: &[i32; 1025], w: &mut [i64], n: usize) -> Tally
-    requires { ⌜ IsQuarterWave (now wave) × Ready n (dctRoom n) (now w) ⌝ }
-    ensures { λ r. ⌜ Transformed dctOf n n (now (w .entry)) (now (w .exit)) (r .products) (r .sums) ⌝ }
+// (18), (19): the DCT of the n samples at the front, in their place. As they stand they are the block rearranged by (16), in pairs.
+pub fn dct(wave: &[i32; 1025], w: &mut [i64], n: usize, spent: Tally) -> Tally
+    requires { ⌜ IsQuarterWave (now wave) × DctReady n (now w) spent ⌝ }
+    ensures { λ r. ⌜ DctDone n (now (w .entry)) (now (w .exit)) spent r ⌝ }
 {
-    if n == 16 {
-        return dct_of_16(wave, w);
+    if n <= 16 {
+        return dct_short(wave, w, n, spent);
     }
-    if n == 8 {
-        return dct_of_8(wave, w);
-    }
-    if n == 1 {
-        return Tally {
-            products: 0,
-            sums: 0,
-        };
-    }
-    rearrange(w, n, n);
-    let cosine = cosine_dft(wave, &mut w[n..], n);
-    let b = n + n / 2 + 1;
-    rearrange(w, n, b);
-    let sine = sine_dft(wave, &mut w[b..], n);
-    let rotation = rotate_all(wave, w, n);
-    total(cosine, sine, rotation)
+    let cosine = cosine_dft(wave, w, n, 1, n, spent);
+    let sine = sine_dft(wave, w, n, 1, n + n / 2 + 1, cosine);
+    rotate(wave, w, n, sine)
 }

@@ -2,7 +2,7 @@
 -- Assumes nothing.
 use mathlib.Core.Path.{_≡_, ap}
 use Prim.Native.Nat.{ℕ, suc, _+_, _*_, _-_, _/_, _%_, _<_, _≤_}
-use native.Mathlib.Nat.{div-add-mod', mod-lt, mul-le-mul-right}
+use native.Mathlib.Nat.{div-add-mod', mod-lt}
 use native.Mathlib.Omega.{arith}
 use lib.IntN.{ℤ, pos, negsuc, negℤ, _+ℤ_, _-ℤ_, _*ℤ_}
 use lib.Signed.{shrZ, _≤ℤ_, _<ℤ_}
@@ -65,12 +65,3 @@ module _ (h : ℕ) (v : ℤ) where
           let e = ⊖-same _ _ _ _ (simp diff at (rw (parts v, parts q) at (f .split))) in
           let b = f .below in
           record { low = rw (parts v, parts q) (simp diff (omega near)); high = rw (parts v, parts q) (simp diff (omega near)) }
-
--- ---- the nearest multiple of 2 h from the number p of whole h in v: the floor of (p + 1) / 2
-pub nearest-halved : (h : ℕ) (v p q : ℤ) → Floor v h p → Floor (p +ℤ int 1) 2 q → Nearest h v q
-nearest-halved h v p q f g =
-    let e = ⊖-same _ _ _ _ (simp diff at (rw (parts v, parts p) at (f .split))) in
-    let d = ap (λ t. t * h) (⊖-same _ _ _ _ (simp diff at (rw (parts p, parts q) at (g .split)))) in
-    let b = f .below in
-    let s = mul-le-mul-right {m = g .rest} {n = 1} h (omega (arith, g .below)) in
-    record { low = rw (parts v, parts q) (simp diff (omega near)); high = rw (parts v, parts q) (simp diff (omega near)) }

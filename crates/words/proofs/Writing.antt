@@ -1,17 +1,22 @@
 -- Loops that write the m elements from place b on, from the front and from the back (`Ends`), up to all of them (`WrittenOf` of specs/Words).
 --     ends-none       before the first store
 --     ends-front      one store more at the front; `ends-back` at the back
+--     ends-turn       one store more at each end
+--     ends-more       one element more at the front, which a call has written
 --     ends-pass       one element more at the front, which held what it is to hold
 --     ends-join       the back, after a call that wrote the front
 --     ends-all        when all are stored
 -- And of what is written:
 --     front, beyond   by place, where b is 0
+--     written-one     a run of one element
+--     written-more    one element more behind the run
+--     written-first   the first element, after those behind it
 --     written-same    the same elements by another name
 -- Assumes nothing.
 use mathlib.Core.Path.{_≡_, refl, sym, _∙_, ap, subst}
 use mathlib.Core.List.{List, [], _∷_}
 use mathlib.Core.Logic.{⊎-elim}
-use Prim.Native.Nat.{ℕ, suc, _+_, _≤_, _<_}
+use Prim.Native.Nat.{ℕ, suc, _+_, _-_, _≤_, _<_}
 use native.Mathlib.Nat.{zero-add}
 use native.Mathlib.Omega.{arith}
 use lib.ListN.{length, getD, set, length-set}
@@ -49,6 +54,20 @@ ends-join {b = b} w h e p = record {
   low = λ k l. p .low k l ∙ w .low k l;
   high = λ k l. p .high k l ∙ w .high k (omega arith);
   len = p .len ∙ w .len;
+}
+
+-- one element more at the front, which a call has written
+pub ends-more : {A : Type 0} {d : A} {b a c m i : ℕ} {f g : ℕ → A} {before between after : List A}
+    → (i ≡ b + a) × (a + c < m) → g 0 ≡ f a → Ends d b a c m f before between → WrittenOf d i 1 g between after → Ends d b (a + 1) c m f before after
+ends-more {d = d} {b = b} {a = a} {i = i} {after = after} h e p w = record {
+  front = below-more _ _
+      (λ k l. w .low (b + k) (omega arith) ∙ p .front k l)
+      (ap (λ j. getD after j d) {x = b + a} {y = i + 0} (omega arith) ∙ w .new 0 (omega arith) ∙ e);
+  back = λ k l o. w .high (b + k) (omega arith) ∙ p .back k l o;
+  between = λ k l o. w .high (b + k) (omega arith) ∙ p .between k (omega arith) o;
+  low = λ k l. w .low k (omega arith) ∙ p .low k l;
+  high = λ k l. w .high k (omega arith) ∙ p .high k l;
+  len = w .len ∙ p .len;
 }
 
 module _ {A : Type 0} {d : A} {b a c m : ℕ} {f : ℕ → A} {before after : List A} (p : Ends d b a c m f before after) where
@@ -104,9 +123,33 @@ module _ {A : Type 0} {d : A} {b a c m : ℕ} {f : ℕ → A} {before after : Li
     len = length-set after i x ∙ p .len;
   }
 
+-- a turn that stores at both ends
+pub ends-turn : {A : Type 0} {d : A} {b a c m : ℕ} {f : ℕ → A} {before after : List A} → Ends d b a c m f before after → {x y : A} {i i′ a′ c′ : ℕ} (j : ℕ)
+    → (a′ ≡ a + 1) × (c′ ≡ c + 1) × (i ≡ b + a) × (i′ ≡ b + j) × (a < j) × (j + c′ ≡ m) × (b + m ≤ length before) → x ≡ f a → y ≡ f j
+    → Ends d b a′ c′ m f before (set (set after i x) i′ y)
+ends-turn p j h e g = rw (h .0) (ends-back (ends-front p (omega arith) e) j (omega arith) g)
+
+-- a run of one element
+pub written-one : {A : Type 0} {d : A} {b : ℕ} {f : ℕ → A} {words : List A} {v : A} → b < length words → v ≡ f 0 → WrittenOf d b 1 f words (set words b v)
+written-one h e = ends-all (ends-front ends-none (omega arith) e) (omega arith)
+
 module _ {A : Type 0} {d : A} {b m : ℕ} {f : ℕ → A} {before after : List A} (w : WrittenOf d b m f before after) where
   pub written-same : {n : ℕ} {g : ℕ → A} → n ≡ m → ((k : ℕ) → k < n → f k ≡ g k) → WrittenOf d b n g before after
   written-same h e = record { new = λ k l. w .new k (omega arith) ∙ e k l; low = w .low; high = λ k l. w .high k (omega arith); len = w .len }
+
+  -- one element more behind the run
+  pub written-more : {x : A} {i : ℕ} → (i ≡ b + m) × (i < length before) → x ≡ f m → WrittenOf d b (m + 1) f before (set after i x)
+  written-more {x} {i} h e = record {
+    new = below-more _ _
+        (λ k l. other (b + k) (λ e. omega arith) ∙ w .new k l)
+        (ap (λ j. getD (set after i x) j d) (sym (h .0)) ∙ getD-set-same after i x d (omega (arith, w .len)) ∙ e);
+    low = λ k l. other k (λ e. omega arith) ∙ w .low k l;
+    high = λ k l. other k (λ e. omega arith) ∙ w .high k (omega arith);
+    len = length-set after i x ∙ w .len;
+  }
+    where
+      other : (k : ℕ) → (k ≡ i → ⊥) → getD (set after i x) k d ≡ getD after k d
+      other k ne = getD-set-other after i k x d ne
 
 module _ {A : Type 0} {d : A} {m : ℕ} {f : ℕ → A} {before after : List A} (w : WrittenOf d 0 m f before after) where
   pub front : (k : ℕ) → k < m → getD after k d ≡ f k
@@ -114,6 +157,22 @@ module _ {A : Type 0} {d : A} {m : ℕ} {f : ℕ → A} {before after : List A} 
 
   pub beyond : (k : ℕ) → m ≤ k → getD after k d ≡ getD before k d
   beyond k h = w .high k (omega arith)
+
+-- the first element, after those behind it
+pub written-first : {A : Type 0} {d : A} {m n : ℕ} {f : ℕ → A} {before after : List A} {x : A} → WrittenOf d 1 m (λ i. f (1 + i)) before after
+    → (n ≡ 1 + m) × (0 < length before) → x ≡ f 0 → WrittenOf d 0 n f before (set after 0 x)
+written-first {A} {d} {m} {n} {f} {before} {after} {x} w h e = record {
+  new = λ k l. ⊎-elim (λ o. behind k l o) (λ o. let zeroth : k ≡ 0 = omega arith in rw zeroth (getD-set-same after 0 x d (omega (arith, w .len)) ∙ e)) (le-or-lt 1 k);
+  low = λ k l. absurd (omega arith);
+  high = λ k l. getD-set-other after 0 k x d (λ e. omega arith) ∙ w .high k (omega arith);
+  len = length-set after 0 x ∙ w .len;
+}
+  where
+    behind : (k : ℕ) → k < n → 1 ≤ k → getD (set after 0 x) (0 + k) d ≡ f k
+    behind k l o =
+        let place : 1 + (k - 1) ≡ k = omega arith in
+        getD-set-other after 0 (0 + k) x d (λ e. omega arith)
+        ∙ ap (λ j. getD after j d) {x = 0 + k} {y = 1 + (k - 1)} (omega arith) ∙ w .new (k - 1) (omega arith) ∙ ap f place
 
 -- past its end a list has no element
 pub past : {A : Type 0} (d : A) (w : List A) (k : ℕ) → length w ≤ k → getD w k d ≡ d

@@ -1,46 +1,30 @@
--- `whole::round` meets its contract: the number of whole 2^29 in v, and one, halved and rounded toward minus infinity, is nearest.
--- Assumes nothing.
+-- `whole::round` meets its contract: v and the half fit a word together, and the shift is the floor division. Assumes nothing.
 use mathlib.Core.Path.{refl, _∙_}
-use Prim.Native.Nat.{_^_}
-use native.Mathlib.Omega.{arith}
 use lib.Dec.{lit<}
-use lib.IntN.{ℤ, pos, negsuc, _+ℤ_}
-use lib.Signed.{shrZ}
+use lib.IntN.{_+ℤ_}
 use mir.Syntax.{w64}
-use mir.Val.{SFits, toZ, ofZ}
+use mir.Val.{SFits}
 use mir.Facts.{sfits-lit}
+use Rattle.whole.specs.Round.{round}
 use Rattle.whole.proofs.Difference.{int}
-use Rattle.whole.proofs.Size.{_within_, size-within, within-add, within-int, within-fits}
-use Rattle.whole.proofs.Floor.{floor, nearest-halved}
-use Rattle.whole.proofs.Rounding.{round-only}
+use Rattle.whole.proofs.Size.{size-within, within-add, within-int, within-fits}
 use Rattle.whole.proofs.Words.{Word, word, asked, made, shifted}
 use Rattle.whole.proofs.round.Statement.{statement}
 use Rattle.whole.proofs.round.Tie as tie
 
-halves-within : (v : ℤ) → SFits w64 v → shrZ v (2 ^ 29) within 2 ^ 34
-halves-within (pos a) f = size-within _ (omega (arith, f .sfits))
-halves-within (negsuc a) f = size-within _ (omega (arith, f .sfits))
+half : Word w64 536870912 (int 536870912)
+unfolding int
+half = record { is = refl; fits = sfits-lit tt }
 
-one : Word w64 1 (pos 1)
-one = record { is = refl; fits = sfits-lit tt }
-
-module _ (v : ℤ) (f : SFits w64 v) where
-  halves : Word w64 (ofZ w64 (shrZ (toZ w64 (ofZ w64 v)) (2 ^ 29))) (shrZ v (2 ^ 29))
-  halves = shifted (2 ^ 29) (word f)
-
-  more-fits : SFits w64 (shrZ v (2 ^ 29) +ℤ pos 1)
-  unfolding int
-  more-fits = within-fits (within-add (halves-within v f) (within-int 1)) (lit< tt)
+sum-fits : (c : tie.Start) → SFits w64 (c .args .v +ℤ int 536870912)
+sum-fits c = within-fits (within-add (size-within (c .args .v) (c .pre)) (within-int 536870912)) (lit< tt)
 
 add-result : tie.Need-add-result
-add-result c = let f = c .fits .v in asked _+ℤ_ (halves _ f) one (more-fits _ f)
+add-result c = asked _+ℤ_ (word (c .fits .v)) half (sum-fits c)
 
 returns : tie.Need-returns
-returns c =
-    let v = c .args .v in
-    let f = c .fits .v in
-    shifted 2 (made _+ℤ_ (halves v f) one (more-fits v f)) .is
-    ∙ (unfold int in round-only v _ (nearest-halved (2 ^ 29) v _ _ (floor v (2 ^ 29) (lit< tt)) (floor _ 2 (lit< tt))))
+unfolding int round
+returns c = shifted _ (made _+ℤ_ (word (c .fits .v)) half (sum-fits c)) .is
 
 pub round-spec : {M : Type 1} → statement M
 round-spec = tie.close (tie.spec add-result returns)

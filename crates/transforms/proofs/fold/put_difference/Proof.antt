@@ -1,36 +1,33 @@
--- `transforms::fold::put_difference` meets its contract. Assumes nothing.
-use borrow.Author.Needs.{needs, sfits-of}
-use lib.Dec.{lit<}
+-- `transforms::fold::put_difference` meets its contract: a run of one word. Assumes nothing.
+use native.Mathlib.Omega.{arith}
+use borrow.Author.Needs.{needs}
 use lib.IntN.{_-ℤ_}
 use mir.Syntax.{w64}
-use mir.Val.{SFits, ofZ}
-use Rattle.whole.proofs.Size.{size-within, within-sub, within-fits}
-use Rattle.whole.proofs.Words.{Word, word as held, asked, made}
+use mir.Val.{ofZ}
+use mathlib.Core.Path.{refl}
+use Rattle.whole.proofs.Words.{held}
+use Rattle.whole.proofs.Operations.{Computes}
 use Rattle.words.specs.Words.{word}
-use Rattle.transforms.proofs.Filling.{fill-one}
+use Rattle.words.proofs.Writing.{written-one}
+use Rattle.ffct.proofs.Sizes.{subtracted}
 use Rattle.transforms.proofs.fold.put_difference.Statement.{statement}
 use Rattle.transforms.proofs.fold.put_difference.Tie as tie
 
-module _ (c : tie.After-second) where
-  abbrev start : tie.Start
-  start = c .before .before
-
-  first : let a = start .args in Word w64 (ofZ w64 (word (a .w .now) (a .x))) (word (a .w .now) (a .x))
-  first = held (sfits-of (c .before .first .given))
-
-  second : let a = start .args in Word w64 (ofZ w64 (word (a .w .now) (a .y))) (word (a .w .now) (a .y))
-  second = held (sfits-of (c .second .given))
-
-  fits : let a = start .args in SFits w64 (word (a .w .now) (a .x) -ℤ word (a .w .now) (a .y))
-  fits =
-      let a = start .args in
-      within-fits (within-sub (size-within (word (a .w .now) (a .x)) (start .pre .3)) (size-within (word (a .w .now) (a .y)) (start .pre .4))) (lit< tt)
+difference : (c : tie.After-second) →
+    let s = c .before .before in
+    let w = s .args .w .now in
+    let x = word w (s .args .x) in
+    let y = word w (s .args .y) in
+    Computes _-ℤ_ (ofZ w64 x) (ofZ w64 y) x y
+difference c =
+    let p = c .before .before .pre in
+    subtracted (held (c .before .first .given) refl) (held (c .second .given) refl) (omega (arith, p .x-small)) (omega (arith, p .y-small))
 
 sub-w : tie.Need-sub-w
-sub-w c = asked _-ℤ_ (first c) (second c) (fits c)
+sub-w c = difference c .asked
 
 returns : tie.Need-returns
-returns c = record { filled = fill-one (start c .pre .2) (made _-ℤ_ (first c) (second c) (fits c) .is); counted = search needs }
+returns c = record { words = written-one (omega arith) (difference (c .before) .made); tallied = search needs }
 
 pub put-difference-spec : {M : Type 1} → statement M
 put-difference-spec =
@@ -43,6 +40,6 @@ put-difference-spec =
     sub-w
     (λ c. search needs)  -- mul-t8
     (λ c. search needs)  -- slice-set-from-w
-    (λ c. search needs)  -- add-sums
+    (λ c. search needs)  -- add-t13
     (λ c. search needs)  -- same-length
     returns)

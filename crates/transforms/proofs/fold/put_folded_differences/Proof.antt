@@ -1,71 +1,82 @@
--- `transforms::fold::put_folded_differences` meets its contract: i is even, i differences are stored and counted, and the samples are as they were. Assumes nothing.
-use mathlib.Core.Path.{_≡_}
-use Prim.Native.Nat.{_+_, _-_, _%_, _≤_}
+-- `transforms::fold::put_folded_differences` meets its contract: after i turns i differences are put and tallied, and the block is as it was. Assumes nothing.
+use mathlib.Core.Path.{_≡_, _∙_}
+use Prim.Native.Nat.{ℕ, _+_, _-_, _*_, _/_, _%_, _≤_, _<_}
 use native.Mathlib.Omega.{arith}
 use borrow.Author.Needs.{needs}
-use Rattle.ffct.specs.Transforms.{foldedDifferences}
-use Rattle.transforms.specs.Words.{Filled, FilledBySums}
+use lib.IntN.{pos}
+use Rattle.counts.specs.Tally.{Tallied}
 use Rattle.words.specs.Words.{word}
-use Rattle.transforms.proofs.Filling.{fill-none, fill-all}
-use Rattle.transforms.proofs.Folding.{asks, even-more, odd-more}
+use Rattle.words.proofs.Writing.{Ends, ends-none, ends-all}
+use Rattle.ffct.specs.Transforms.{foldedDifferences}
+use Rattle.transforms.specs.Pairs.{paired}
+use Rattle.transforms.proofs.Folding.{place, inside, even-ready, odd-ready, even-more, odd-more}
 use Rattle.transforms.proofs.fold.put_folded_differences.Statement.{statement}
 use Rattle.transforms.proofs.fold.put_folded_differences.Tie as tie
 
 abbrev Inv-loop : tie.InvT-loop
-Inv-loop w₀ n b q sums₀ i₀ w sums i = (i ≤ q) × (i % 2 ≡ 0) × FilledBySums b i (foldedDifferences n (word w₀)) w₀ w sums
+Inv-loop w₀ n stride b tally₀ i₀ w tally i =
+    ((i ≤ n / 4) × (i % 2 ≡ 0) × Tallied 0 i tally₀ tally) × Ends (pos 0) b i 0 (n / 4) (foldedDifferences n (paired n stride (word w₀))) w₀ w
 
 abbrev μ-loop : tie.MeasureT-loop
-μ-loop w₀ n b q sums₀ i₀ w sums i = q - i
+μ-loop w₀ n stride b tally₀ i₀ w tally i = n / 4 - i
+
+loop-holds : tie.Need-loop-holds Inv-loop μ-loop
+loop-holds c = (omega arith, ends-none)
+
+-- a turn that begins at an even place has room for two
+second : (n i : ℕ) → 8 * (n / 8) ≡ n → i % 2 ≡ 0 → i < n / 4 → i + 1 < n / 4
+second n i e p h =
+    let q : n / 4 ≡ 2 * (n / 8) = omega arith in
+    let r : i ≡ 2 * (i / 2) = omega arith in
+    omega arith
+
+-- the places that a turn reads lie inside the block
+room : (c : tie.In-loop Inv-loop μ-loop) (i : ℕ) → i < c .before .before .args .n / 4 →
+    let s = c .before .before .args .stride in
+    (place s i < c .before .before .args .b) × (1 ≤ place s i) × (2 * s ≤ c .before .before .args .b)
+room c i h = inside (c .before .before .pre .0) h
+
+follows : (c : tie.In-loop Inv-loop μ-loop) → c .before .loop .i + 1 < c .before .before .args .n / 4
+follows c = second _ _ (c .before .before .pre .1) (c .before .loop .inv .0 .1) (omega arith)
+
+-- after the first store
+even : (c : tie.After-put-difference Inv-loop μ-loop) →
+    let l = c .before .before .before in
+    let n = l .before .args .n in
+    let w = l .before .args .w .now in
+    Ends (pos 0) (l .before .args .b) (l .loop .i + 1) 0 (n / 4) (foldedDifferences n (paired n (l .before .args .stride) (word w))) w (c .put-difference .last .0)
+even c =
+    let l = c .before .before .before in
+    even-more (l .before .pre .0) (omega arith) (l .loop .inv .1) (omega arith) (c .put-difference .ensures .words)
 
 put-difference-requires : tie.Need-put-difference-requires Inv-loop μ-loop
 put-difference-requires c κs =
-    let t = c .before .before in
-    let s = t .before in
-    asks (t .loop .inv .2 .filled) (omega arith) (omega arith) (omega arith) (s .pre .1) _ _ (omega arith) (omega arith)
-
--- a turn's first difference is stored
-module _ (c : tie.After-put-difference Inv-loop μ-loop) where
-  abbrev turn : tie.At-loop Inv-loop μ-loop
-  turn = c .before .before .before
-
-  first : Filled (turn .before .args .b) (turn .loop .i + 1) (foldedDifferences (turn .before .args .n) (word (turn .before .args .w .now))) (turn .before .args .w .now) (c .put-difference .last .0)
-  first = even-more (turn .loop .inv .2 .filled) (omega arith) (omega arith) (turn .loop .inv .1) (c .put-difference .ensures .filled)
+    let l = c .before .before in
+    let r = l .before .pre .0 in
+    even-ready r {i = l .loop .i} (omega arith) (l .loop .inv .1) (omega (arith, r .room)) (omega (arith, r .fits))
 
 put-difference-requires-2 : tie.Need-put-difference-requires-2 Inv-loop μ-loop
 put-difference-requires-2 c κs =
     let d = c .before .before in
-    let s = turn d .before in
-    asks (first d) (omega arith) (omega arith) (omega arith) (s .pre .1) _ _ (omega arith) (omega arith)
+    let l = d .before .before .before in
+    let r = l .before .pre .0 in
+    let h = follows (d .before .before) in
+    odd-ready r {i = l .loop .i + 1} h (even d) (omega (arith, r .room, d .put-difference .ensures .tallied)) (omega (arith, r .fits))
 
 loop-again : tie.Need-loop-again Inv-loop μ-loop
 loop-again c =
     let d = c .before .before .before .before in
-    let e = c .before .put-difference2 .ensures in
-    let t = turn d in
-    let run = odd-more (first d) (omega arith) (omega arith) (omega (arith, t .loop .inv .1)) (e .filled) in (
-      search needs,
-      omega (arith, t .loop .inv .1),
-      record { filled = fill-all run (omega arith); counted = omega (arith, e .counted, d .put-difference .ensures .counted, t .loop .inv .2 .counted) },
+    let l = d .before .before .before in
+    let h = follows (d .before .before) in
+    let two : l .loop .i + 1 + 1 ≡ l .loop .i + 2 = omega arith in (
+      omega (arith, d .put-difference .ensures .tallied, c .before .put-difference2 .ensures .tallied),
+      rw two at (odd-more (l .before .pre .0) h (even d) (omega arith) (c .before .put-difference2 .ensures .words)),
     )
-
-put-difference-requires-3 : tie.Need-put-difference-requires-3 Inv-loop μ-loop
-put-difference-requires-3 c κs =
-    let t = c .before .before .before in
-    asks (t .loop .inv .2 .filled) (omega arith) (omega arith) (omega arith) (t .before .pre .1) _ _ (omega arith) (omega arith)
 
 returns : tie.Need-returns Inv-loop μ-loop
 returns c =
-    let e = c .before .put-difference3 .ensures in
-    let t = c .before .before .before .before .before in
-    record {
-      filled = fill-all (even-more (t .loop .inv .2 .filled) (omega arith) (omega arith) (t .loop .inv .1) (e .filled)) (omega arith);
-      counted = omega (arith, e .counted, t .loop .inv .2 .counted);
-    }
-
-returns-2 : tie.Need-returns-2 Inv-loop μ-loop
-returns-2 c =
-    let t = c .before .before in
-    record { filled = fill-all (t .loop .inv .2 .filled) (omega arith); counted = omega (arith, t .loop .inv .2 .counted) }
+    let end : c .before .loop .i ≡ c .before .before .args .n / 4 = omega arith in
+    record { words = ends-all (c .before .loop .inv .1) (omega arith); tallied = rw end at (c .before .loop .inv .0 .2) }
 
 pub put-folded-differences-spec : {M : Type 1} → statement M
 put-folded-differences-spec =
@@ -73,37 +84,24 @@ put-folded-differences-spec =
     (tie.spec
     Inv-loop
     μ-loop
-    (λ c. search (needs, fill-none))  -- loop-holds
-    (λ c. search needs)  -- add-loop
-    (λ c. search needs)  -- mul-put-difference
+    loop-holds
+    (λ c. omega (arith, room c (c .before .loop .i) (omega arith)))  -- mul-p
+    (λ c. search needs)  -- mul-p-2
+    (λ c. search needs)  -- add-p
+    (λ c. omega (arith, room c (c .before .loop .i) (omega arith)))  -- mul-p-3
+    (λ c. room (c .before) (c .before .before .loop .i) (omega arith) .1)  -- sub-put-difference
     (λ c. search needs)  -- add-put-difference
-    (λ c. search needs)  -- mul-put-difference-2
-    (λ c. search needs)  -- sub-put-difference
-    (λ c. search needs)  -- sub-put-difference-2
-    (λ c. search needs)  -- add-put-difference-2
     put-difference-requires
     (λ c. search needs)  -- add-j
-    (λ c. search needs)  -- mul-put-difference-3
-    (λ c. search needs)  -- sub-put-difference-3
-    (λ c. search needs)  -- sub-put-difference-4
-    (λ c. search needs)  -- mul-put-difference-4
-    (λ c. search needs)  -- add-put-difference-3
-    (λ c. search needs)  -- add-put-difference-4
+    (λ c. omega (arith, room (c .before .before .before) _ (follows (c .before .before .before))))  -- mul-q
+    (λ c. search needs)  -- mul-q-2
+    (λ c. search needs)  -- add-q
+    (λ c. omega (arith, room (c .before .before .before) _ (follows (c .before .before .before))))  -- mul-q-3
+    (λ c. room (c .before .before .before .before) _ (follows (c .before .before .before .before)) .1)  -- sub-put-difference-2
+    (λ c. search needs)  -- add-put-difference-2
     put-difference-requires-2
-    (λ c. search needs)  -- add-sums
-    (λ c. search needs)  -- add-sums-2
     (λ c. search needs)  -- add-i
     (λ c. search needs)  -- loop-less
     loop-again
-    (λ c. search needs)  -- mul-put-difference-5
-    (λ c. search needs)  -- add-put-difference-5
-    (λ c. search needs)  -- mul-put-difference-6
-    (λ c. search needs)  -- sub-put-difference-5
-    (λ c. search needs)  -- sub-put-difference-6
-    (λ c. search needs)  -- add-put-difference-6
-    put-difference-requires-3
-    (λ c. search needs)  -- add-sums-3
     (λ c. search needs)  -- same-length
-    returns
-    (λ c. search needs)  -- same-length-2
-    returns-2)
+    returns)

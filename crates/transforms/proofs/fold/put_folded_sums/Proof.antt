@@ -1,49 +1,54 @@
--- `transforms::fold::put_folded_sums` meets its contract: after i turns i sums are stored and counted, and the samples are as they were. Assumes nothing.
-use mathlib.Core.List.{List}
-use Prim.Native.Nat.{ℕ, _-_, _≤_}
+-- `transforms::fold::put_folded_sums` meets its contract: after i turns i sums are put and tallied, and the block is as it was. Assumes nothing.
+use mathlib.Core.Path.{_≡_, _∙_}
+use Prim.Native.Nat.{_+_, _-_, _*_, _/_, _≤_, _<_}
 use native.Mathlib.Omega.{arith}
-use borrow.Author.Needs.{needs, sfits-of}
-use lib.Dec.{lit<}
-use lib.IntN.{ℤ, _+ℤ_}
+use borrow.Author.Needs.{needs}
+use lib.IntN.{pos, _+ℤ_}
 use mir.Syntax.{w64}
-use mir.Val.{SFits}
-use Rattle.whole.proofs.Size.{within-add, within-fits}
-use Rattle.whole.proofs.Words.{asked, made}
-use Rattle.ffct.specs.Transforms.{foldedSums}
-use Rattle.transforms.specs.Words.{FilledBySums}
+use mir.Val.{ofZ}
+use Rattle.whole.proofs.Operations.{Computes}
 use Rattle.words.specs.Words.{word}
-use Rattle.transforms.proofs.Filling.{fill-none, fill-more, fill-all}
-use Rattle.transforms.proofs.Folding.{Folded, folded}
+use Rattle.words.proofs.Writing.{Ends, ends-none, ends-front, ends-all}
+use Rattle.ffct.specs.Transforms.{foldedSums}
+use Rattle.transforms.specs.Pairs.{paired}
+use Rattle.transforms.proofs.Folding.{place, inside, folded-sum}
 use Rattle.transforms.proofs.fold.put_folded_sums.Statement.{statement}
 use Rattle.transforms.proofs.fold.put_folded_sums.Tie as tie
 
-sum-fits : {n i : ℕ} {before after : List ℤ} → Folded n i before after → SFits w64 (foldedSums n (word before) i)
-sum-fits s = within-fits (within-add (s .x-small) (s .y-small)) (lit< tt)
-
 abbrev Inv-loop : tie.InvT-loop
-Inv-loop w₀ n b q sums₀ i₀ w sums i = (i ≤ q) × FilledBySums b i (foldedSums n (word w₀)) w₀ w sums
+Inv-loop w₀ n stride b spent sums₀ i₀ w sums i =
+    (i ≤ n / 4) × (sums ≡ spent .sums + i) × Ends (pos 0) b i 0 (n / 4) (foldedSums n (paired n stride (word w₀))) w₀ w
 
 abbrev μ-loop : tie.MeasureT-loop
-μ-loop w₀ n b q sums₀ i₀ w sums i = q - i
+μ-loop w₀ n stride b spent sums₀ i₀ w sums i = n / 4 - i
 
--- the two samples that a turn reads
-samples : (c : tie.After-y Inv-loop μ-loop) → let t = c .before .before .before in Folded (t .before .args .n) (t .loop .i) (t .before .args .w .now) (t .loop .w)
-samples c =
-    let t = c .before .before .before in
-    folded (t .loop .inv .1 .filled) (omega arith) (omega arith) (t .before .pre .1) (sfits-of (c .before .x .given)) (sfits-of (c .y .given))
+loop-holds : tie.Need-loop-holds Inv-loop μ-loop
+loop-holds c = (omega arith, omega arith, ends-none)
+
+-- the place that a turn reads lies inside the block
+room : (c : tie.In-loop Inv-loop μ-loop) →
+    let s = c .before .before .args .stride in
+    (place s (c .before .loop .i) < c .before .before .args .b) × (1 ≤ place s (c .before .loop .i)) × (2 * s ≤ c .before .before .args .b)
+room c = inside (c .before .before .pre) (omega arith)
+
+-- the sum of the two samples
+sum : (c : tie.After-y Inv-loop μ-loop) →
+    let l = c .before .before .before in
+    let n = l .before .args .n in
+    let s = l .before .args .stride in
+    let x = paired n s (word (l .before .args .w .now)) in
+    let p = place s (l .loop .i) in
+    Computes _+ℤ_ (ofZ w64 (word (l .loop .w) p)) (ofZ w64 (word (l .loop .w) (p - 1))) (x (2 * l .loop .i + 1)) (x (n - 2 * l .loop .i - 1))
+sum c = let l = c .before .before .before in folded-sum (l .before .pre) (omega arith) (l .loop .inv .2) (c .before .x .given) (c .y .given)
 
 add-w : tie.Need-add-w Inv-loop μ-loop
-add-w c = let s = samples c in asked _+ℤ_ (s .x) (s .y) (sum-fits s)
+add-w c = sum c .asked
 
 loop-again : tie.Need-loop-again Inv-loop μ-loop
-loop-again c =
-    let run = c .before .before .before .loop .inv .1 .filled in
-    let s = samples c in
-    let is = made _+ℤ_ (s .x) (s .y) (sum-fits s) .is in
-    (search needs, record { filled = fill-more run (omega arith) is; counted = search needs })
+loop-again c = let l = c .before .before .before in (omega arith, omega arith, ends-front (l .loop .inv .2) (omega arith) (sum c .made))
 
 returns : tie.Need-returns Inv-loop μ-loop
-returns c = record { filled = fill-all (c .before .loop .inv .1 .filled) (omega arith); counted = search needs }
+returns c = record { words = ends-all (c .before .loop .inv .2) (omega arith); tallied = omega arith }
 
 pub put-folded-sums-spec : {M : Type 1} → statement M
 put-folded-sums-spec =
@@ -51,19 +56,19 @@ put-folded-sums-spec =
     (tie.spec
     Inv-loop
     μ-loop
-    (λ c. search (needs, fill-none))  -- loop-holds
-    (λ c. search needs)  -- mul-x
-    (λ c. search needs)  -- add-x
-    (λ c. search needs)  -- mul-x-2
-    (λ c. search needs)  -- slice-copy-out-x
-    (λ c. search needs)  -- mul-y
-    (λ c. search needs)  -- sub-y
-    (λ c. search needs)  -- sub-y-2
-    (λ c. search needs)  -- mul-y-2
-    (λ c. search needs)  -- slice-copy-out-y
+    loop-holds
+    (λ c. omega (arith, room c))  -- mul-p
+    (λ c. search needs)  -- mul-p-2
+    (λ c. search needs)  -- add-p
+    (λ c. omega (arith, room c))  -- mul-p-3
+    (λ c. omega (arith, room c))  -- mul-x
+    (λ c. omega (arith, room c))  -- slice-copy-out-x
+    (λ c. omega (arith, room (c .before)))  -- sub-y
+    (λ c. omega (arith, room (c .before)))  -- mul-y
+    (λ c. omega (arith, room (c .before)))  -- slice-copy-out-y
     add-w
-    (λ c. search needs)  -- add-t10
-    (λ c. search needs)  -- mul-t15
+    (λ c. search needs)  -- add-t11
+    (λ c. search needs)  -- mul-t13
     (λ c. search needs)  -- slice-set-from-w
     (λ c. search needs)  -- add-sums
     (λ c. search needs)  -- add-i

@@ -1,0 +1,85 @@
+-- `transforms::rotate::rotate_pair` meets its contract: each step of (20) fits a word (ffct/proofs/Sizes), and what is rounded is (19). Assumes nothing.
+use mathlib.Core.Path.{refl, _∙_, ap}
+use Prim.Native.Nat.{ℕ}
+use lib.IntN.{ℤ, _+ℤ_, _-ℤ_, _*ℤ_}
+use mir.Syntax.{w64}
+use mir.Val.{toZ, ofZ}
+use borrow.Author.Needs.{needs}
+use Rattle.whole.specs.Round.{round}
+use Rattle.whole.proofs.Size.{size-within}
+use Rattle.whole.proofs.Words.{Word, word, made, held}
+use Rattle.whole.proofs.Operations.{Computes, computes}
+use Rattle.ffct.proofs.Sizes.{RotationFits, rotation-fits, first-form, second-form}
+use Rattle.transforms.proofs.rotate.rotate_pair.Statement.{statement}
+use Rattle.transforms.proofs.rotate.rotate_pair.Tie as tie
+
+-- the bits that an operation makes
+abbrev done : (ℤ → ℤ → ℤ) → ℕ → ℕ → ℕ
+done op p q = ofZ w64 (op (toZ w64 p) (toZ w64 q))
+
+module _ (a : tie.Start) where
+  fits : let v = a .args in RotationFits (v .cosine) (v .sine) (v .c) (v .s)
+  fits =
+      let p = a .pre in
+      rotation-fits (size-within _ (p .0 .0)) (size-within _ (p .0 .1)) (size-within _ (p .1 .0)) (size-within _ (p .1 .1))
+
+  -- the bits of the three products, and the products
+  abbrev bits1 : ℕ
+  bits1 = let v = a .args in done _*ℤ_ (done _+ℤ_ (ofZ w64 (v .cosine)) (ofZ w64 (v .sine))) (ofZ w64 (v .c))
+
+  abbrev bits2 : ℕ
+  bits2 = let v = a .args in done _*ℤ_ (ofZ w64 (v .sine)) (done _+ℤ_ (ofZ w64 (v .c)) (ofZ w64 (v .s)))
+
+  abbrev bits3 : ℕ
+  bits3 = let v = a .args in done _*ℤ_ (ofZ w64 (v .cosine)) (done _-ℤ_ (ofZ w64 (v .s)) (ofZ w64 (v .c)))
+
+  m1 : let v = a .args in Word w64 bits1 ((v .cosine +ℤ v .sine) *ℤ v .c)
+  m1 = made _*ℤ_ (made _+ℤ_ (word (a .fits .cosine)) (word (a .fits .sine)) (fits .sum)) (word (a .fits .c)) (fits .m1)
+
+  m2 : let v = a .args in Word w64 bits2 (v .sine *ℤ (v .c +ℤ v .s))
+  m2 = made _*ℤ_ (word (a .fits .sine)) (made _+ℤ_ (word (a .fits .c)) (word (a .fits .s)) (fits .entries)) (fits .m2)
+
+  m3 : let v = a .args in Word w64 bits3 (v .cosine *ℤ (v .s -ℤ v .c))
+  m3 = made _*ℤ_ (word (a .fits .cosine)) (made _-ℤ_ (word (a .fits .s)) (word (a .fits .c)) (fits .difference)) (fits .m3)
+
+  -- what is rounded
+  first : let v = a .args in Computes _-ℤ_ bits1 bits2 ((v .cosine +ℤ v .sine) *ℤ v .c) (v .sine *ℤ (v .c +ℤ v .s))
+  first = computes _-ℤ_ m1 m2 (fits .first)
+
+  second : let v = a .args in Computes _+ℤ_ bits1 bits3 ((v .cosine +ℤ v .sine) *ℤ v .c) (v .cosine *ℤ (v .s -ℤ v .c))
+  second = computes _+ℤ_ m1 m3 (fits .second)
+
+returns : tie.Need-returns
+returns c =
+    let a = c .before .before in
+    let v = a .args in
+    record {
+      low = held (c .before .round .ok) (c .before .round .ensures) .is
+          ∙ ap round (first a .made ∙ first-form (v .cosine) (v .sine) (v .c) (v .s));
+      high = held (c .round2 .ok) (c .round2 .ensures) .is
+          ∙ ap round (second a .made ∙ second-form (v .cosine) (v .sine) (v .c) (v .s));
+      three-products = refl;
+      three-sums = refl;
+    }
+
+pub rotate-pair-spec : {M : Type 1} → statement M
+rotate-pair-spec =
+    tie.close
+    (tie.spec
+    (λ c. search (needs, fits c))  -- add-s1
+    (λ c. search needs)  -- add-sums
+    (λ c. search (needs, fits c))  -- mul-m1
+    (λ c. search needs)  -- add-products
+    (λ c. search (needs, fits c))  -- add-m2
+    (λ c. search (needs, fits c))  -- mul-m2
+    (λ c. search needs)  -- add-products-2
+    (λ c. search (needs, fits c))  -- sub-m3
+    (λ c. search (needs, fits c))  -- mul-m3
+    (λ c. search needs)  -- add-products-3
+    (λ c. first c .asked)  -- sub-round
+    (λ c κs. rw (first c .made) (fits c .first-small))  -- round-requires
+    (λ c. search needs)  -- add-sums-2
+    (λ c. second (c .before) .asked)  -- add-round
+    (λ c κs. rw (second (c .before) .made) (fits (c .before) .second-small))  -- round-requires-2
+    (λ c. search needs)  -- add-sums-3
+    returns)
