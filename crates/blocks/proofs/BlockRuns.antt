@@ -2,14 +2,15 @@
 -- Assumes nothing.
 use mathlib.Core.Path.{_≡_, refl, sym, _∙_, subst}
 use mathlib.Core.Bool.{true}
-use mathlib.Core.List.{List, [], _∷_}
-use Prim.Native.Nat.{ℕ, suc, _+_, _*_, _/_, _^_, _≤_, _<_}
+use mathlib.Core.List.{List}
+use Prim.Native.Nat.{ℕ, _+_, _*_, _/_, _^_, _≤_, _<_}
 use native.Mathlib.Nat.{mul-le-mul}
 use native.Mathlib.Omega.{arith}
-use lib.IntN.{ℤ, pos, natAbs}
+use lib.IntN.{ℤ, natAbs}
 use lib.ListN.{length}
 use Rattle.whole.proofs.Size.{within-size}
-use Rattle.words.specs.Words.{Samples, word}
+use Rattle.words.specs.Words.{Samples, word, Written}
+use Rattle.words.proofs.Writing.{front, beyond, past, written-same}
 use Rattle.ffct.specs.Block.{AcceptedBlock, largestSum, isLength, level}
 use Rattle.ffct.specs.Transforms.{Transform, cosineBeyond, cosineDft, sineDft, dct}
 use Rattle.ffct.proofs.Lengths.{len, pow-len, len-pos}
@@ -17,7 +18,6 @@ use Rattle.ffct.proofs.Blocks.{Same, dft-same, dct-same, cosine-beyond-same}
 use Rattle.ffct.proofs.Counts.{FewOperations, few-operations}
 use Rattle.ffct.proofs.Sizes.{accepted-inner, dft-size, dct-within}
 use Rattle.transforms.specs.Steps.{Ready, Gives, Transformed}
-use Rattle.blocks.specs.Words.{Written}
 use Rattle.blocks.specs.Blocks.{Workable, Cleared}
 use Rattle.ffct.proofs.ElevenLengths.{is-power, level-le, length-le}
 
@@ -48,18 +48,18 @@ module _ {block w : List ℤ} {n : ℕ} (k : Workable block w) (e : length block
   few = few-operations L (word block) (level-le n accepted-length)
 
   -- the block is loaded
-  module _ {v : List ℤ} (l : Written (length block) (word block) w v) where
+  module _ {v : List ℤ} (l : Written 0 (length block) (word block) w v) where
     pub ready : (room : ℕ) → room ≤ 4 * n + 1 → Ready n room v
     ready room h = record {
       level = L;
       small = level-le n accepted-length;
       is = power;
       fits = omega (arith, l .len, k .room, e);
-      samples = λ i g. rw (l .words i (omega (arith, e))) (omega (arith, mul-le-mul n-le (k .range i (omega (arith, e)))));
+      samples = λ i g. rw (front l i (omega (arith, e))) (omega (arith, mul-le-mul n-le (k .range i (omega (arith, e)))));
     }
 
     loaded-same : Same L (word v) (word block)
-    loaded-same i h = l .words i (omega (arith, as-len, e))
+    loaded-same i h = front l i (omega (arith, as-len, e))
 
     -- and transformed: v′ are the words after, and the transform spends p products and a sums
     module _ {v′ : List ℤ} {p a : ℕ} where
@@ -99,27 +99,20 @@ module _ {t : Transform} {m : ℕ} {v v′ : List ℤ} {p a : ℕ} (g : Gives t 
   sized h b j i = rw (g .coefficients j i) (omega (arith, h, b j i))
 
   -- words stored are the coefficients
-  pub stored : {out out′ : List ℤ} → Written m (word v′) out out′ → Written m (t .at) out out′
-  stored s = record { words = λ j h. s .words j h ∙ g .coefficients j h; stays = s .stays; len = s .len }
+  pub stored : {out out′ : List ℤ} → Written 0 m (word v′) out out′ → Written 0 m (t .at) out out′
+  stored s = written-same s refl (g .coefficients)
 
 -- and so are those that (9) tells above n / 2
-pub mirrored : {t : Transform} {n p a : ℕ} {v v′ out out′ : List ℤ} → Gives t (n / 2 + 1) v v′ p a → Written n (cosineBeyond n (word v′)) out out′ →
-    Written n (cosineBeyond n (t .at)) out out′
-mirrored {t} {n} {v′ = v′} g s = record {
-  words = λ k h. s .words k h ∙ cosine-beyond-same n (word v′) (t .at) k (omega arith) (λ j l. g .coefficients j (omega arith));
-  stays = s .stays;
-  len = s .len;
-}
-
--- past its end a slice has no words
-past : (w : List ℤ) (k : ℕ) → length w ≤ k → word w k ≡ pos 0
-past [] k h = refl
-past (x ∷ w) (suc k) h = past w k (omega (arith, h))
+pub mirrored : {t : Transform} {n p a : ℕ} {v v′ out out′ : List ℤ} → Gives t (n / 2 + 1) v v′ p a → Written 0 n (cosineBeyond n (word v′)) out out′ →
+    Written 0 n (cosineBeyond n (t .at)) out out′
+mirrored {t} {n} {v′ = v′} g s =
+    written-same s refl (λ k h. cosine-beyond-same n (word v′) (t .at) k (omega arith) (λ j l. g .coefficients j (omega arith)))
 
 -- words cleared in the end are cleared, whatever stood there meanwhile
 pub cleared : {w v w′ : List ℤ} → length v ≡ length w → Cleared v w′ → Cleared w w′
 cleared {w} {v} e c = record {
-  words = λ j h. c .words j (omega (arith, h, e));
-  stays = λ j h. c .stays j (omega (arith, h, e)) ∙ past v j (omega (arith, h, e)) ∙ sym (past w j h);
+  new = λ j h. c .new j (omega (arith, h, e));
+  low = λ j h. absurd (omega arith);
+  high = λ j h. beyond c j (omega (arith, h, e)) ∙ past _ v j (omega (arith, h, e)) ∙ sym (past _ w j (omega arith));
   len = c .len ∙ e;
 }

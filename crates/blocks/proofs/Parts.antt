@@ -8,13 +8,14 @@ use native.Mathlib.Omega.{arith}
 use lib.IntN.{ℤ, pos, natAbs}
 use lib.ListN.{length}
 use Rattle.whole.proofs.Cases.{le-or-lt}
-use Rattle.words.specs.Words.{Samples, word}
+use Rattle.words.specs.Words.{Samples, word, Written}
+use Rattle.words.proofs.Writing.{front}
 use Rattle.ffct.specs.Block.{level, largestSum}
 use Rattle.ffct.specs.Transforms.{Transform, cosineBeyond, sineBeyond, cosineDft, sineDft}
 use Rattle.ffct.proofs.Lengths.{pow-len}
 use Rattle.ffct.proofs.Steps.{cosine-low, cosine-high}
 use Rattle.ffct.proofs.Blocks.{sine-first, sine-last, sine-beyond-same}
-use Rattle.blocks.specs.Words.{Written, WrittenBySums, Joinable}
+use Rattle.blocks.specs.Words.{WrittenBySums, Joinable}
 use Rattle.blocks.specs.Blocks.{Workable, DftsMade}
 use Rattle.blocks.proofs.BlockRuns.{power, some, n-le, again, few, cosine-small, sine-small}
 
@@ -48,7 +49,7 @@ exchanged b e = record { first = again (b .second) e; second = again (b .first) 
 -- ---- a part as Pair's definition has it, at the level of n: p products; a sums for the DFTs, and s for joining them by op
 pub record Part (op : ℤ → ℤ → ℤ) (n : ℕ) (x y out out′ : List ℤ) (p a s : ℕ) : Type 0 where
   pub words :
-      Written n (λ k. op (cosineBeyond (2 ^ level n) (cosineDft (level n) (word x) .at) k) (sineBeyond (2 ^ level n) (sineDft (level n) (word y) .at) k)) out out′
+      Written 0 n (λ k. op (cosineBeyond (2 ^ level n) (cosineDft (level n) (word x) .at) k) (sineBeyond (2 ^ level n) (sineDft (level n) (word y) .at) k)) out out′
   pub products : p ≡ cosineDft (level n) (word x) .products + sineDft (level n) (word y) .products
   pub sums : a + s ≡ cosineDft (level n) (word x) .sums + sineDft (level n) (word y) .sums + (2 ^ level n - 2)
   pub few : p + a + s ≤ 2 ^ 18
@@ -76,17 +77,18 @@ module _ {n : ℕ} {x y out w out′ w′ : List ℤ} {p a : ℕ} (b : TwoBlocks
     first = made .sineWords 0 (omega arith) ∙ sine-first (level n) (word y);
     half = made .sineWords (n / 2) (omega arith) ∙ sine-half (level n) n (word y) is;
     sines = λ i h. rw (made .sineWords i h) (sine-small (b .second) (b .second-is) i h);
-    words = λ i h. rw (made .cosineWords .words i h) (cosine-as-small n (C .at) (largestSum + 128) (cosine-small (b .first) (b .first-is)) i h);
+    words = λ i h. rw (front (made .cosineWords) i h) (cosine-as-small n (C .at) (largestSum + 128) (cosine-small (b .first) (b .first-is)) i h);
   }
 
   -- and are joined
   pub part : (op : ℤ → ℤ → ℤ) {out″ : List ℤ} {s : ℕ} → WrittenBySums n (λ k. op (word out′ k) (sineBeyond n (word w′) k)) (2 * (n - n / 2 - 1)) out′ out″ s →
       Part op n x y out out″ p a s
   part op {out″} j = record {
-    words = subst (λ N. Written n (λ k. op (cosineBeyond N (C .at) k) (sineBeyond N (S .at) k)) out out″) is (record {
-      words = λ k h. j .written .words k h
-          ∙ ap₂ op (made .cosineWords .words k h) (sine-beyond-same n (word w′) (S .at) k (omega arith) (λ i l. made .sineWords i (omega arith)));
-      stays = λ k h. j .written .stays k h ∙ made .cosineWords .stays k h;
+    words = subst (λ N. Written 0 n (λ k. op (cosineBeyond N (C .at) k) (sineBeyond N (S .at) k)) out out″) is (record {
+      new = λ k h. j .written .new k h
+          ∙ ap₂ op (front (made .cosineWords) k h) (sine-beyond-same n (word w′) (S .at) k (omega arith) (λ i l. made .sineWords i (omega arith)));
+      low = λ k h. absurd (omega arith);
+      high = λ k h. j .written .high k h ∙ made .cosineWords .high k h;
       len = j .written .len ∙ made .cosineWords .len;
     });
     products = made .products;

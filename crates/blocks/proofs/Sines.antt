@@ -8,6 +8,7 @@ use mathlib.Core.Path.{_≡_, refl, _∙_}
 use mathlib.Core.List.{List}
 use mathlib.Core.Logic.{⊎-elim}
 use Prim.Native.Nat.{ℕ, _+_, _-_, _*_, _/_, _≤_, _<_}
+use native.Mathlib.Nat.{zero-add}
 use native.Mathlib.Omega.{arith}
 use lib.Dec.{lit<}
 use lib.IntN.{ℤ, pos, negℤ, natAbs, _+ℤ_, _-ℤ_, +ℤ-idr}
@@ -19,11 +20,12 @@ use Rattle.whole.proofs.Difference.{parts, diff}
 use Rattle.whole.proofs.Size.{_within_, near, size-within, within-neg, within-add, within-sub, within-fits}
 use Rattle.whole.proofs.Words.{asked, made}
 use Rattle.words.specs.Words.{word}
+use Rattle.words.proofs.Writing.{Ends, ends-none, ends-front, ends-back, ends-pass, ends-all}
 use Rattle.ffct.specs.Block.{largestSum}
 use Rattle.ffct.specs.Transforms.{sineBeyond}
 use Rattle.ffct.proofs.Steps.{sine-low, sine-high}
 use Rattle.blocks.specs.Words.{WrittenBySums, Joinable}
-use Rattle.blocks.proofs.Writing.{narrows, narrowed, Ends, ends-none, ends-read, ends-front, ends-back, ends-pass, ends-all}
+use Rattle.blocks.proofs.Writing.{narrows, narrowed, ends-read}
 
 -- a sum and a difference, in either order
 pub record Opposite (op rev : ℤ → ℤ → ℤ) : Type 0 where
@@ -42,7 +44,7 @@ pub record SineRun (op : ℤ → ℤ → ℤ) (n k sums : ℕ) (w before after :
   pub from : 1 ≤ k
   pub to : k ≤ n - n / 2
   pub counted : sums ≡ 2 * (k - 1)
-  pub ends : Ends k (k - 1) n (λ j. op (word before j) (sineBeyond n (word w) j)) before after
+  pub ends : Ends (pos 0) 0 k (k - 1) n (λ j. op (word before j) (sineBeyond n (word w) j)) before after
 
 -- a turn: the bits of the sine, and the buffer after the first and after the second store
 module _ (op rev : ℤ → ℤ → ℤ) (n k : ℕ) (w after : List ℤ) where
@@ -69,7 +71,7 @@ module _ {op rev : ℤ → ℤ → ℤ} (o : Opposite op rev) {n : ℕ} {w befor
     from = omega arith;
     to = omega (arith, j .some);
     counted = refl;
-    ends = ends-pass ends-none (j .some) (rw (sine-low n (word w) 0 (omega arith), j .first, o .none));
+    ends = ends-pass ends-none (j .some) (rw (zero-add, sine-low n (word w) 0 (omega arith), j .first, o .none));
   }
 
   -- and at n / 2, where an even n leaves a word
@@ -78,7 +80,7 @@ module _ {op rev : ℤ → ℤ → ℤ} (o : Opposite op rev) {n : ℕ} {w befor
   sine-all {k} h p = record {
     written = ⊎-elim
         (ends-all (p .ends))
-        (λ l. let middle : k ≡ n / 2 = omega arith in ends-all (ends-pass (p .ends) l (rw (middle, sine-low n (word w) (n / 2) (omega arith), j .half, o .none))) (omega arith))
+        (λ l. let middle : k ≡ n / 2 = omega arith in ends-all (ends-pass (p .ends) l (rw (zero-add, middle, sine-low n (word w) (n / 2) (omega arith), j .half, o .none))) (omega arith))
         (le-or-lt n (k + (k - 1)));
     counted = omega arith;
   }
@@ -92,7 +94,7 @@ module _ {op rev : ℤ → ℤ → ℤ} (o : Opposite op rev) {n : ℕ} {w befor
       let S = narrowed (word w k) small in
       let X = ends-read (p .ends) k (omega arith) (within-fits x (lit< tt)) in
       let f : SFits w32 (op (word before k) (word w k)) = within-fits (o .small x s) (lit< tt) in
-      let p₁ = ends-front (p .ends) (omega (arith, j .words-fit)) (made op X S f .is ∙ rw (sine-low n (word w) k (omega arith))) in
+      let p₁ = ends-front (p .ends) {i = k} (omega (arith, j .words-fit)) (made op X S f .is ∙ rw (sine-low n (word w) k (omega arith))) in
       let Y = ends-read p₁ (n - k) (omega arith) (within-fits y (lit< tt)) in
       let g : SFits w32 (rev (word before (n - k)) (word w k)) = within-fits (rw (o .turned) at (o .small y (within-neg s))) (lit< tt) in
       let back : n - (n - k) ≡ k = omega arith in
@@ -104,6 +106,6 @@ module _ {op rev : ℤ → ℤ → ℤ} (o : Opposite op rev) {n : ℕ} {w befor
           from = omega arith;
           to = omega arith;
           counted = omega arith;
-          ends = ends-back p₁ (omega (arith, j .words-fit)) (made rev Y S g .is ∙ rw (sine-high n (word w) (n - k) (omega arith), back, o .turned));
+          ends = ends-back p₁ (n - k) (omega (arith, j .words-fit)) (made rev Y S g .is ∙ rw (sine-high n (word w) (n - k) (omega arith), back, o .turned));
         };
       }

@@ -1,21 +1,15 @@
--- Buffers: what a call has written to one, and what is asked of one that a sine-DFT is joined with.
+-- Buffers: what a call has written to one by sums, and what is asked of one that a sine-DFT is joined with.
 use mathlib.Core.List.{List}
 use mathlib.Core.Path.{_≡_}
 use Prim.Native.Nat.{ℕ, _+_, _/_, _≤_, _<_}
 use lib.IntN.{ℤ, pos, natAbs}
 use lib.ListN.{length}
-use Rattle.words.specs.Words.{word}
+use Rattle.words.specs.Words.{word, Written}
 use Rattle.ffct.specs.Block.{largestSum}
 
--- the first m words now hold f 0, f 1, .. f (m - 1); the words beyond stay, and so does the length
-pub record Written (m : ℕ) (f : ℕ → ℤ) (before after : List ℤ) : Type 0 where
-  pub words : (k : ℕ) → k < m → word after k ≡ f k
-  pub stays : (k : ℕ) → m ≤ k → word after k ≡ word before k
-  pub len : length after ≡ length before
-
--- the same, with the sums made on the way
+-- the first m words now hold f 0, f 1, .. f (m - 1), and the rest is as before; with the sums made on the way
 pub record WrittenBySums (m : ℕ) (f : ℕ → ℤ) (made : ℕ) (before after : List ℤ) (sums : ℕ) : Type 0 where
-  pub written : Written m f before after
+  pub written : Written 0 m f before after
   pub counted : sums ≡ made
 
 -- n words stand in out, and a sine-DFT of n samples at the front of w, up to n / 2; it is zero at 0 and at n / 2. All are so small that the sum or difference of two

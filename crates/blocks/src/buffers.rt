@@ -2,15 +2,15 @@
 ghost use Prim.Native.Nat.{ℕ, _+_, _-_, _*_, _/_, _≤_, _<_};
 ghost use lib.IntN.{pos, natAbs, _+ℤ_, _-ℤ_};
 ghost use lib.ListN.{length};
-ghost use Rattle.words.specs.Words.{word};
+ghost use Rattle.words.specs.Words.{word, Written};
 ghost use Rattle.ffct.specs.Block.{largestSum};
 ghost use Rattle.ffct.specs.Transforms.{cosineBeyond, sineBeyond};
-ghost use Rattle.blocks.specs.Words.{Written, WrittenBySums, Joinable};
+ghost use Rattle.blocks.specs.Words.{WrittenBySums, Joinable};
 
 // The block at the front of w.
 pub fn load(block: &[i32], w: &mut [i64])
     requires { ⌜ length (now block) ≤ length (now w) ⌝ }
-    ensures { λ _. ⌜ Written (length (now (block .entry))) (word (now (block .entry))) (now (w .entry)) (now (w .exit)) ⌝ }
+    ensures { λ _. ⌜ Written 0 (length (now (block .entry))) (word (now (block .entry))) (now (w .entry)) (now (w .exit)) ⌝ }
 {
     let mut i = 0;
     while i < block.len() {
@@ -24,7 +24,7 @@ pub fn load(block: &[i32], w: &mut [i64])
 pub fn store(w: &[i64], out: &mut [i32], m: usize)
     requires { ⌜ (m ≤ length (now w)) × (m ≤ length (now out)) ⌝ }
     requires { ⌜ ((k : ℕ) → k < m → natAbs (word (now w) k) ≤ largestSum + 257) ⌝ }
-    ensures { λ _. ⌜ Written m (word (now (w .entry))) (now (out .entry)) (now (out .exit)) ⌝ }
+    ensures { λ _. ⌜ Written 0 m (word (now (w .entry))) (now (out .entry)) (now (out .exit)) ⌝ }
 {
     let mut k = 0;
     while k < m {
@@ -38,7 +38,7 @@ pub fn store(w: &[i64], out: &mut [i32], m: usize)
 pub fn store_mirrored(w: &[i64], out: &mut [i32], n: usize)
     requires { ⌜ (1 ≤ n) × (n / 2 + 1 ≤ length (now w)) × (n ≤ length (now out)) ⌝ }
     requires { ⌜ ((k : ℕ) → k < n / 2 + 1 → natAbs (word (now w) k) ≤ largestSum + 257) ⌝ }
-    ensures { λ _. ⌜ Written n (cosineBeyond n (word (now (w .entry)))) (now (out .entry)) (now (out .exit)) ⌝ }
+    ensures { λ _. ⌜ Written 0 n (cosineBeyond n (word (now (w .entry)))) (now (out .entry)) (now (out .exit)) ⌝ }
 {
     store(w, out, n / 2 + 1);
     let mut k = 1;
@@ -91,7 +91,7 @@ pub fn subtract_sine(w: &[i64], out: &mut [i32], n: usize) -> u64
 
 // Every word of w is 0.
 pub fn clear(w: &mut [i64])
-    ensures { λ _. ⌜ Written (length (now (w .entry))) (λ k. pos 0) (now (w .entry)) (now (w .exit)) ⌝ }
+    ensures { λ _. ⌜ Written 0 (length (now (w .entry))) (λ k. pos 0) (now (w .entry)) (now (w .exit)) ⌝ }
 {
     let mut i = 0;
     while i < w.len() {

@@ -13,9 +13,8 @@ use lib.IntN.{ℤ}
 use lib.ListN.{length}
 use borrow.Author.Tests.{lt-ltb, le-ltb, eq-eqb, ne-eqb}
 use Rattle.whole.proofs.Cases.{le-or-lt}
-use Rattle.words.specs.Words.{Samples}
+use Rattle.words.specs.Words.{Samples, Written}
 use Rattle.ffct.specs.Block.{isLength}
-use Rattle.blocks.specs.Words.{Written}
 use Rattle.refusals.specs.Refusals.{someBelow, firstOutIn, refused, accepted}
 use Rattle.refusals.proofs.Ranges.{passed}
 use Rattle.refusals.proofs.Conditions.{AllReach, SomeBelow, all-reach, some-below, AllIn, OutAt, in-verdict, out-verdict, isAccepted}
@@ -129,7 +128,7 @@ module _ {file : List ℕ} {a b : List ℤ} where
   read-refused t = record { verdict = t .verdict; unchanged = λ _. (refl, refl); done = λ d. absurd (t .never d) }
 
   pub read-accepted : {a′ b′ : List ℤ} (sizes : Sizes) → Passed6 file (length a ∷ length b ∷ []) → sizes .samples ≡ sampleCount file → sizes .length ≡ blockLength file
-      → Written (sizes .samples) (samplesAt file startOfA) a a′ → Written (sizes .samples) (samplesAt file (startOfB (sizes .samples))) b b′
+      → Written 0 (sizes .samples) (samplesAt file startOfA) a a′ → Written 0 (sizes .samples) (samplesAt file (startOfB (sizes .samples))) b b′
       → ReadPromise file a b a′ b′ (Read sizes)
   read-accepted {b′ = b′} sizes p e l v w = let counted = p .past .past .past .past in record {
     verdict = sym (is-accepted p);
@@ -138,7 +137,7 @@ module _ {file : List ℕ} {a b : List ℤ} where
       samples = e;
       length = l;
       wordsOfA = v;
-      wordsOfB = subst (λ m. Written (sizes .samples) (samplesAt file (startOfB m)) b b′) e w;
+      wordsOfB = subst (λ m. Written 0 (sizes .samples) (samplesAt file (startOfB m)) b b′) e w;
       some = omega (arith, counted .some);
       most = omega (arith, counted .most);
       length-ok = rw l (p .past .past .blocks);

@@ -5,9 +5,9 @@ use mathlib.Core.Path.{_≡_}
 use Prim.Native.Nat.{ℕ, _≤_, _<_}
 use lib.IntN.{ℤ, natAbs}
 use lib.ListN.{length}
+use Rattle.words.specs.Words.{Written}
 use Rattle.ffct.specs.Block.{isLength, largestSample}
 use Rattle.refusals.specs.Refusals.{accepted}
-use Rattle.blocks.specs.Words.{Written}
 use Rattle.pairfile.specs.declared.FileAnswer.{FileAnswer}
 use Rattle.pairfile.specs.File.{sampleCount, blockLength, samplesOfA, samplesOfB, mostSamples, fileVerdict}
 use Rattle.pairfile.specs.Answers.{verdictOf, samples}
@@ -17,8 +17,8 @@ use Rattle.pairfile.specs.Answers as Answers
 pub record ReadDone (file : List ℕ) (a b a′ b′ : List ℤ) (m N : ℕ) : Type 0 where
   pub samples : m ≡ sampleCount file
   pub length : N ≡ blockLength file
-  pub wordsOfA : Written m (samplesOfA file) a a′
-  pub wordsOfB : Written m (samplesOfB file) b b′
+  pub wordsOfA : Written 0 m (samplesOfA file) a a′
+  pub wordsOfB : Written 0 m (samplesOfB file) b b′
   -- what acceptance says of them
   pub some : 1 ≤ m
   pub most : m ≤ mostSamples

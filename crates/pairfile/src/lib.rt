@@ -7,7 +7,7 @@ use refusals::range::in_range;
 ghost use mathlib.Core.Path.{_≡_};
 ghost use Prim.Native.Nat.{_+_, _*_, _≤_};
 ghost use lib.ListN.{length};
-ghost use Rattle.blocks.specs.Words.{Written};
+ghost use Rattle.words.specs.Words.{Written};
 ghost use Rattle.refusals.specs.Refusals.{firstOut, number};
 ghost use Rattle.pairfile.specs.File.{samplesAt};
 ghost use Rattle.pairfile.specs.Answers.{verdictOf, samples, place};
@@ -50,7 +50,7 @@ fn first_out(file: &[u8], start: usize, m: usize) -> usize
 // The m samples from byte `start` on, to the front of a recording.
 fn fill(file: &[u8], start: usize, m: usize, recording: &mut [i32])
     requires { ⌜ (start + 4 * m ≤ length (now file)) × (m ≤ length (now recording)) ⌝ }
-    ensures { λ _. ⌜ Written m (samplesAt (now (file .entry)) start) (now (recording .entry)) (now (recording .exit)) ⌝ }
+    ensures { λ _. ⌜ Written 0 m (samplesAt (now (file .entry)) start) (now (recording .entry)) (now (recording .exit)) ⌝ }
 {
     let mut i = 0;
     while i < m {

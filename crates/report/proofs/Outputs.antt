@@ -8,6 +8,7 @@ use native.Mathlib.Omega.{arith}
 use lib.IntN.{ℤ}
 use lib.ListN.{length, take}
 use Rattle.words.specs.Words.{Samples, word}
+use Rattle.words.proofs.Writing.{front}
 use Rattle.ffct.specs.Block.{isLength, level}
 use Rattle.ffct.proofs.Lengths.{pow-len}
 use Rattle.ffct.proofs.ElevenLengths.{is-power, length-le}
@@ -80,7 +81,7 @@ module _ {file : List ℕ} {a b a′ b′ : List ℤ} {m N : ℕ} (r : ReadDone 
   pub read-spectra : spectra m N (word a′) (word b′) ≡ spectra (sampleCount file) (blockLength file) (samplesOfA file) (samplesOfB file)
   read-spectra =
       ap (λ l. heading ++ l)
-      (same-blocks N (r .length-ok) (word a′) (samplesOfA file) (word b′) (samplesOfB file) (r .wordsOfA .words) (r .wordsOfB .words) (m / N) (whole-blocks (m / N) m N (r .length-ok) (omega arith)))
+      (same-blocks N (r .length-ok) (word a′) (samplesOfA file) (word b′) (samplesOfB file) (front (r .wordsOfA)) (front (r .wordsOfB)) (m / N) (whole-blocks (m / N) m N (r .length-ok) (omega arith)))
       ∙ ap₂ (λ m N. spectra m N (samplesOfA file) (samplesOfB file)) (r .samples) (r .length)
 
   pub read-printable : {real imaginary scratch : List ℤ} → mostSamples ≤ length a → mostSamples ≤ length b → 1024 ≤ length real → 1024 ≤ length imaginary
@@ -92,8 +93,8 @@ module _ {file : List ℕ} {a b a′ b′ : List ℤ} {m N : ℕ} (r : ReadDone 
         most = r .most;
         wordsOfA = omega (arith, r .most, r .wordsOfA .len);
         wordsOfB = omega (arith, r .most, r .wordsOfB .len);
-        rangeOfA = λ n l. rw (r .wordsOfA .words n l) (r .rangeOfA n l);
-        rangeOfB = λ n l. rw (r .wordsOfB .words n l) (r .rangeOfB n l);
+        rangeOfA = λ n l. rw (front (r .wordsOfA) n l) (r .rangeOfA n l);
+        rangeOfB = λ n l. rw (front (r .wordsOfB) n l) (r .rangeOfB n l);
         realWords = omega arith;
         imaginaryWords = omega arith;
         scratchFits = omega arith;

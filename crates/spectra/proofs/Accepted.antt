@@ -8,14 +8,14 @@ use native.Mathlib.Omega.{arith}
 use lib.IntN.{ℤ, pos}
 use lib.ListN.{length, take, drop, List·getD-append}
 use lib.Seq.{length-take-le, length-front, getD-drop, getD-append-add}
-use Rattle.words.specs.Words.{Samples, word}
+use Rattle.words.specs.Words.{Samples, word, Written}
+use Rattle.words.proofs.Writing.{front}
 use Rattle.ffct.specs.Block.{AcceptedBlock, isLength, level}
 use Rattle.ffct.specs.Transforms.{dct, spectrum, pair}
 use Rattle.ffct.specs.Exact.{exactCosine, exactSine, exactDct, exactReal, exactImaginary, eighth, quarterOfNext, quarter, Within}
 use Rattle.ffct.proofs.Lengths.{pow-len}
 use Rattle.ffct.proofs.Blocks.{Same, dct-same, spectrum-same, pair-same}
 use Rattle.ffct.proofs.Limits.{limits, pair-limits}
-use Rattle.blocks.specs.Words.{Written}
 use Rattle.refusals.specs.Refusals.{scratchWords, block, firstOut, accepted}
 use Rattle.spectra.specs.Calls.{Call, verdict}
 use Rattle.refusals.specs.Counts.{SixCounts}
@@ -71,12 +71,13 @@ module _ {recording : List ℤ} {start N : ℕ} (f : Fit recording start N) wher
   }
 
 -- the lent part of a buffer, put back to its front
-put-back : {m n : ℕ} {g : ℕ → ℤ} {w w′ : List ℤ} → m ≡ n → m ≤ length w → Written (length (take m w)) g (take m w) w′ → Written n g w (w′ ++ drop m w)
+put-back : {m n : ℕ} {g : ℕ → ℤ} {w w′ : List ℤ} → m ≡ n → m ≤ length w → Written 0 (length (take m w)) g (take m w) w′ → Written 0 n g w (w′ ++ drop m w)
 put-back {m} {n} {g} {w} {w′} e h p =
     let len : length w′ ≡ m = p .len ∙ length-take-le m w h in
     record {
-      words = λ k l. List·getD-append w′ (drop m w) (pos 0) k (omega (arith, l, len, e)) ∙ p .words k (omega (arith, l, len, p .len, e));
-      stays = λ k l.
+      new = λ k l. List·getD-append w′ (drop m w) (pos 0) (0 + k) (omega (arith, l, len, e)) ∙ p .new k (omega (arith, l, len, p .len, e));
+      low = λ k l. absurd (omega arith);
+      high = λ k l.
           ap (word (w′ ++ drop m w)) {x = k} {y = length w′ + (k - m)} (omega (arith, l, len, e))
           ∙ getD-append-add w′ (drop m w) (k - m) (pos 0)
           ∙ getD-drop m w (k - m) (pos 0)
@@ -114,14 +115,14 @@ module _ {N m allowance dctP dctS spectrumP spectrumS pairP pairS : ℕ} {scratc
       let f = cosine-fit passed in
       let x = block recording start in
       let same = dct-same (level N) _ x (fit-same f) in
-      let written : Written N (dct (level N) x .at) coefficients coefficients′ = rw (fit-length f, same) at (made .words) in
+      let written : Written 0 N (dct (level N) x .at) coefficients coefficients′ = rw (fit-length f, same) at (made .words) in
       let products = rw (fit-length f, same) at (made .products) in
       let sums = rw (fit-length f, same) at (made .sums) in
       let published = six-published N _ _ _ _ _ _ (f .length-ok) c .ofDct in
       record {
         block = fit-block f;
         words = written;
-        near = λ k h. rw (written .words k h) (dct-near N (f .length-ok) x (fit-block f) k h);
+        near = λ k h. rw (front written k h) (dct-near N (f .length-ok) x (fit-block f) k h);
         scratchCleared = put-back is (omega (arith, is, passed .past .past .scratch)) (made .cleared);
         tallied = (products, sums);
         published = (ap pos (products ∙ sym (c .ofDct .products x)) ∙ published .0, ap pos (sums ∙ sym (c .ofDct .sums x)) ∙ published .1);
@@ -140,8 +141,8 @@ module _ {N m allowance dctP dctS spectrumP spectrumS pairP pairS : ℕ} {scratc
       let f = spectrum-fit passed in
       let x = block recording start in
       let same = spectrum-same (level N) _ x (fit-same f) in
-      let cosines : Written (N / 2 + 1) (spectrum (level N) x .cosine) cosine cosine′ = rw (fit-length f, same) at (made .cosineWords) in
-      let sines : Written (N / 2 + 1) (spectrum (level N) x .sine) sine sine′ = rw (fit-length f, same) at (made .sineWords) in
+      let cosines : Written 0 (N / 2 + 1) (spectrum (level N) x .cosine) cosine cosine′ = rw (fit-length f, same) at (made .cosineWords) in
+      let sines : Written 0 (N / 2 + 1) (spectrum (level N) x .sine) sine sine′ = rw (fit-length f, same) at (made .sineWords) in
       let spent = rw (fit-length f, same) at (made .products) in
       let added = rw (fit-length f, same) at (made .sums) in
       let products = spent ∙ sym (c .ofSpectrum x .0) in
@@ -151,8 +152,8 @@ module _ {N m allowance dctP dctS spectrumP spectrumS pairP pairS : ℕ} {scratc
         block = fit-block f;
         cosineWords = cosines;
         sineWords = sines;
-        cosineNear = λ k h. rw (cosines .words k (omega (arith, h))) (cosine-near N (f .length-ok) x (fit-block f) k h);
-        sineNear = λ k h. rw (sines .words k (omega (arith, h))) (sine-near N (f .length-ok) x (fit-block f) k h);
+        cosineNear = λ k h. rw (front cosines k (omega (arith, h))) (cosine-near N (f .length-ok) x (fit-block f) k h);
+        sineNear = λ k h. rw (front sines k (omega (arith, h))) (sine-near N (f .length-ok) x (fit-block f) k h);
         scratchCleared = put-back is (omega (arith, is, passed .past .past .scratch)) (made .cleared);
         tallied = (spent, added);
         published = λ h. (ap pos products ∙ forms .ofSpectrum h .0, ap pos sums ∙ forms .ofSpectrum h .1);
@@ -173,8 +174,8 @@ module _ {N m allowance dctP dctS spectrumP spectrumS pairP pairS : ℕ} {scratc
       let x = block recording start in
       let y = block other start in
       let same = pair-same (level N) _ x _ y (fit-same f) (fit-same g) in
-      let reals : Written N (pair (level N) x y .real) real real′ = rw (fit-length f, same) at (made .realWords) in
-      let imaginaries : Written N (pair (level N) x y .imaginary) imaginary imaginary′ = rw (fit-length f, same) at (made .imaginaryWords) in
+      let reals : Written 0 N (pair (level N) x y .real) real real′ = rw (fit-length f, same) at (made .realWords) in
+      let imaginaries : Written 0 N (pair (level N) x y .imaginary) imaginary imaginary′ = rw (fit-length f, same) at (made .imaginaryWords) in
       let spent = rw (fit-length f, same) at (made .products) in
       let added = rw (fit-length f, same) at (made .sums) in
       let products = spent ∙ sym (c .ofPair x y .0) in
@@ -185,8 +186,8 @@ module _ {N m allowance dctP dctS spectrumP spectrumS pairP pairS : ℕ} {scratc
         blockB = fit-block g;
         realWords = reals;
         imaginaryWords = imaginaries;
-        realNear = λ k h. rw (reals .words k h) (real-near N (f .length-ok) x (fit-block f) y (fit-block g) k h);
-        imaginaryNear = λ k h. rw (imaginaries .words k h) (imaginary-near N (f .length-ok) x (fit-block f) y (fit-block g) k h);
+        realNear = λ k h. rw (front reals k h) (real-near N (f .length-ok) x (fit-block f) y (fit-block g) k h);
+        imaginaryNear = λ k h. rw (front imaginaries k h) (imaginary-near N (f .length-ok) x (fit-block f) y (fit-block g) k h);
         scratchCleared = put-back is (omega (arith, is, passed .past .past .scratch)) (made .cleared);
         tallied = (spent, added);
         published = λ h. (ap pos products ∙ forms .ofPair h .0, ap pos sums ∙ forms .ofPair h .1);

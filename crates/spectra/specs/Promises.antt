@@ -5,7 +5,7 @@ use mathlib.Core.List.{List, [], _∷_}
 use mathlib.Core.Path.{_≡_}
 use Prim.Native.Nat.{ℕ, _+_, _/_, _≤_, _<_}
 use lib.IntN.{ℤ, pos}
-use Rattle.words.specs.Words.{Samples, word}
+use Rattle.words.specs.Words.{Samples, word, Written}
 use Rattle.ffct.specs.Block.{AcceptedBlock, isLength, level}
 use Rattle.ffct.specs.Exact.{exactCosine, exactSine, exactDct, exactReal, exactImaginary, eighth, quarterOfNext, quarter, Within}
 use Rattle.ffct.specs.Transforms.{dct as dctOf, spectrum as spectrumOf, pair as pairOf}
@@ -13,7 +13,6 @@ use Rattle.ffct.specs.Counts.{dctProducts, dctSums, spectrumProducts, spectrumS
 use Rattle.spectra.specs.declared.Answer.{Answer}
 use Rattle.spectra.specs.declared.CountsAnswer.{CountsAnswer}
 use Rattle.spectra.specs.declared.CountsAnswer.the-variants.{BadLength, Counted}
-use Rattle.blocks.specs.Words.{Written}
 use Rattle.refusals.specs.Refusals.{scratchWords, block, accepted}
 use Rattle.spectra.specs.Calls.{Call, verdict}
 use Rattle.refusals.specs.Counts.{SixCounts, SixPublished}
@@ -36,11 +35,11 @@ spectrumCall recording start N allowance cosine sine scratch =
 -- an accepted call that spends p products and a sums; the buffers' words before, and after (marked ′)
 pub record SpectrumDone (N : ℕ) (x : Samples) (allowance : ℕ) (cosine sine scratch cosine′ sine′ scratch′ : List ℤ) (p a : ℕ) : Type 0 where
   pub block : AcceptedBlock (level N) x
-  pub cosineWords : Written (N / 2 + 1) (spectrumOf (level N) x .cosine) cosine cosine′
-  pub sineWords : Written (N / 2 + 1) (spectrumOf (level N) x .sine) sine sine′
+  pub cosineWords : Written 0 (N / 2 + 1) (spectrumOf (level N) x .cosine) cosine cosine′
+  pub sineWords : Written 0 (N / 2 + 1) (spectrumOf (level N) x .sine) sine sine′
   pub cosineNear : (k : ℕ) → k ≤ N / 2 → Within (eighth N) (word cosine′ k) (exactCosine N x k)
   pub sineNear : (k : ℕ) → k ≤ N / 2 → Within (eighth N) (word sine′ k) (exactSine N x k)
-  pub scratchCleared : Written (scratchWords N) (λ k. pos 0) scratch scratch′
+  pub scratchCleared : Written 0 (scratchWords N) (λ k. pos 0) scratch scratch′
   pub tallied : (p ≡ spectrumOf (level N) x .products) × (a ≡ spectrumOf (level N) x .sums)
   pub published : 2 ≤ N → (pos p ≡ spectrumProducts (level N)) × (pos a ≡ spectrumSums (level N))
   pub nothingAtOne : N ≡ 1 → (p ≡ 0) × (a ≡ 0)
@@ -68,9 +67,9 @@ cosineCall recording start N allowance coefficients scratch =
 
 pub record CosineDone (N : ℕ) (x : Samples) (allowance : ℕ) (coefficients scratch coefficients′ scratch′ : List ℤ) (p a : ℕ) : Type 0 where
   pub block : AcceptedBlock (level N) x
-  pub words : Written N (dctOf (level N) x .at) coefficients coefficients′
+  pub words : Written 0 N (dctOf (level N) x .at) coefficients coefficients′
   pub near : (k : ℕ) → k < N → Within (quarterOfNext N) (word coefficients′ k) (exactDct N x k)
-  pub scratchCleared : Written (scratchWords N) (λ k. pos 0) scratch scratch′
+  pub scratchCleared : Written 0 (scratchWords N) (λ k. pos 0) scratch scratch′
   pub tallied : (p ≡ dctOf (level N) x .products) × (a ≡ dctOf (level N) x .sums)
   pub published : (pos p ≡ dctProducts (level N)) × (pos a ≡ dctSums (level N))
   pub allowed : p ≤ allowance
@@ -98,11 +97,11 @@ pairCall a b start N allowance real imaginary scratch =
 pub record PairDone (N : ℕ) (x y : Samples) (allowance : ℕ) (real imaginary scratch real′ imaginary′ scratch′ : List ℤ) (p a : ℕ) : Type 0 where
   pub blockA : AcceptedBlock (level N) x
   pub blockB : AcceptedBlock (level N) y
-  pub realWords : Written N (pairOf (level N) x y .real) real real′
-  pub imaginaryWords : Written N (pairOf (level N) x y .imaginary) imaginary imaginary′
+  pub realWords : Written 0 N (pairOf (level N) x y .real) real real′
+  pub imaginaryWords : Written 0 N (pairOf (level N) x y .imaginary) imaginary imaginary′
   pub realNear : (k : ℕ) → k < N → Within (quarter N) (word real′ k) (exactReal N x y k)
   pub imaginaryNear : (k : ℕ) → k < N → Within (quarter N) (word imaginary′ k) (exactImaginary N x y k)
-  pub scratchCleared : Written (scratchWords N) (λ k. pos 0) scratch scratch′
+  pub scratchCleared : Written 0 (scratchWords N) (λ k. pos 0) scratch scratch′
   pub tallied : (p ≡ pairOf (level N) x y .products) × (a ≡ pairOf (level N) x y .sums)
   pub published : 2 ≤ N → (pos p ≡ pairProducts (level N)) × (pos a ≡ pairSums (level N))
   pub nothingAtOne : N ≡ 1 → (p ≡ 0) × (a ≡ 0)

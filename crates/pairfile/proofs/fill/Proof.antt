@@ -2,15 +2,16 @@
 use mathlib.Core.Path.{_∙_}
 use Prim.Native.Nat.{_-_, _≤_}
 use native.Mathlib.Omega.{arith}
+use lib.IntN.{pos}
 use mir.Facts.{toZ-ofZ}
 use borrow.Author.Needs.{needs, sfits-of}
-use Rattle.blocks.proofs.Writing.{Ends, ends-none, ends-front, ends-all}
+use Rattle.words.proofs.Writing.{Ends, ends-none, ends-front, ends-all}
 use Rattle.pairfile.specs.File.{samplesAt}
 use Rattle.pairfile.proofs.fill.Statement.{statement}
 use Rattle.pairfile.proofs.fill.Tie as tie
 
 abbrev Inv-loop : tie.InvT-loop
-Inv-loop file start m recording₀ i₀ recording i = (i ≤ m) × Ends i 0 m (samplesAt file start) recording₀ recording
+Inv-loop file start m recording₀ i₀ recording i = (i ≤ m) × Ends (pos 0) 0 i 0 m (samplesAt file start) recording₀ recording
 
 abbrev μ-loop : tie.MeasureT-loop
 μ-loop file start m recording₀ i₀ recording i = m - i

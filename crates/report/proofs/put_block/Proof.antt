@@ -1,6 +1,7 @@
 -- `report::put_block` meets its contract: Pair accepts the block, and the lines are put of what it leaves. Assumes nothing.
 use native.Mathlib.Omega.{arith}
 use borrow.Author.Needs.{needs}
+use Rattle.words.proofs.Writing.{front}
 use Rattle.ffct.proofs.ElevenLengths.{length-le}
 use Rattle.report.proofs.Printing.{pair-done, lines-same, few-blocks}
 use Rattle.report.proofs.put_block.Statement.{statement}
@@ -27,7 +28,7 @@ returns c =
     let done = pair-done (s .args .block) (s .pre .0) (p .before .before .before .before .pair-products .ensures) (p .pair .ensures) in
     let r = l .put-lines .ensures in
     record {
-      put = rw (lines-same (s .args .block) _ _ _ _ (s .args .n) (done .realWords .words) (done .imaginaryWords .words)) at (r .0);
+      put = rw (lines-same (s .args .block) _ _ _ _ (s .args .n) (front (done .realWords)) (front (done .imaginaryWords))) at (r .0);
       fits = r .1;
       realWords = done .realWords .len;
       imaginaryWords = done .imaginaryWords .len;

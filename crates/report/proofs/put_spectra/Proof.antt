@@ -4,7 +4,6 @@ use Prim.Native.Nat.{_+_, _-_, _/_, _≤_}
 use native.Mathlib.Nat.{div-le-self}
 use native.Mathlib.Omega.{arith}
 use borrow.Author.Needs.{needs}
-use lib.ListN.{length}
 use Rattle.text.proofs.Putting.{_then_}
 use Rattle.report.proofs.Printing.{some-samples, whole-blocks, next-block, printable-block, Blocks, no-blocks, one-more}
 use Rattle.report.proofs.put_spectra.Statement.{statement}

@@ -5,12 +5,12 @@ use native.Mathlib.Omega.{arith}
 use lib.IntN.{pos}
 use lib.ListN.{length}
 use borrow.Author.Needs.{needs}
-use Rattle.blocks.proofs.Writing.{Ends, ends-none, ends-front, ends-all}
+use Rattle.words.proofs.Writing.{Ends, ends-none, ends-front, ends-all}
 use Rattle.blocks.proofs.buffers.clear.Statement.{statement}
 use Rattle.blocks.proofs.buffers.clear.Tie as tie
 
 abbrev Inv-loop : tie.InvT-loop
-Inv-loop w₀ i₀ w i = (i ≤ length w₀) × Ends i 0 (length w₀) (λ k. pos 0) w₀ w
+Inv-loop w₀ i₀ w i = (i ≤ length w₀) × Ends (pos 0) 0 i 0 (length w₀) (λ k. pos 0) w₀ w
 
 abbrev μ-loop : tie.MeasureT-loop
 μ-loop w₀ i₀ w i = length w₀ - i

@@ -4,16 +4,17 @@ use native.Mathlib.Omega.{arith}
 use lib.ListN.{length}
 use mir.Syntax.{w32}
 use mir.Val.{ofZ}
+use lib.IntN.{pos}
 use borrow.Author.Needs.{needs, sfits-of}
 use Rattle.whole.proofs.Words as Words
 use Rattle.whole.proofs.Words.{Word, widens, widened}
 use Rattle.words.specs.Words.{word}
-use Rattle.blocks.proofs.Writing.{Ends, ends-none, ends-front, ends-all}
+use Rattle.words.proofs.Writing.{Ends, ends-none, ends-front, ends-all}
 use Rattle.blocks.proofs.buffers.load.Statement.{statement}
 use Rattle.blocks.proofs.buffers.load.Tie as tie
 
 abbrev Inv-loop : tie.InvT-loop
-Inv-loop block w₀ i₀ w i = (i ≤ length block) × Ends i 0 (length block) (word block) w₀ w
+Inv-loop block w₀ i₀ w i = (i ≤ length block) × Ends (pos 0) 0 i 0 (length block) (word block) w₀ w
 
 abbrev μ-loop : tie.MeasureT-loop
 μ-loop block w₀ i₀ w i = length block - i

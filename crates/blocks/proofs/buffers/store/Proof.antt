@@ -1,14 +1,16 @@
 -- `blocks::buffers::store` meets its contract: after k turns k words are stored. Assumes nothing.
 use Prim.Native.Nat.{_-_, _≤_}
 use native.Mathlib.Omega.{arith}
+use lib.IntN.{pos}
 use borrow.Author.Needs.{needs}
 use Rattle.words.specs.Words.{word}
-use Rattle.blocks.proofs.Writing.{narrows, narrowed, Ends, ends-none, ends-front, ends-all}
+use Rattle.words.proofs.Writing.{Ends, ends-none, ends-front, ends-all}
+use Rattle.blocks.proofs.Writing.{narrows, narrowed}
 use Rattle.blocks.proofs.buffers.store.Statement.{statement}
 use Rattle.blocks.proofs.buffers.store.Tie as tie
 
 abbrev Inv-loop : tie.InvT-loop
-Inv-loop w out₀ m k₀ out k = (k ≤ m) × Ends k 0 m (word w) out₀ out
+Inv-loop w out₀ m k₀ out k = (k ≤ m) × Ends (pos 0) 0 k 0 m (word w) out₀ out
 
 abbrev μ-loop : tie.MeasureT-loop
 μ-loop w out₀ m k₀ out k = m - k

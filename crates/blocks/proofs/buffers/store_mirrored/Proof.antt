@@ -2,16 +2,18 @@
 use mathlib.Core.Path.{_≡_, _∙_, sym}
 use Prim.Native.Nat.{_-_, _/_, _≤_}
 use native.Mathlib.Omega.{arith}
+use lib.IntN.{pos}
 use borrow.Author.Needs.{needs}
 use Rattle.ffct.specs.Transforms.{cosineBeyond}
 use Rattle.ffct.proofs.Steps.{cosine-low, cosine-high}
 use Rattle.words.specs.Words.{word}
-use Rattle.blocks.proofs.Writing.{narrows, narrowed, Ends, ends-none, ends-join, ends-back, ends-all}
+use Rattle.words.proofs.Writing.{Ends, ends-none, ends-join, ends-back, ends-all}
+use Rattle.blocks.proofs.Writing.{narrows, narrowed}
 use Rattle.blocks.proofs.buffers.store_mirrored.Statement.{statement}
 use Rattle.blocks.proofs.buffers.store_mirrored.Tie as tie
 
 abbrev Inv-loop : tie.InvT-loop
-Inv-loop w out₀ n k₀ out k = (1 ≤ k) × (k ≤ n - n / 2) × Ends 0 (k - 1) n (cosineBeyond n (word w)) out₀ out
+Inv-loop w out₀ n k₀ out k = (1 ≤ k) × (k ≤ n - n / 2) × Ends (pos 0) 0 0 (k - 1) n (cosineBeyond n (word w)) out₀ out
 
 abbrev μ-loop : tie.MeasureT-loop
 μ-loop w out₀ n k₀ out k = n - n / 2 - k
@@ -34,7 +36,7 @@ loop-again c =
     let k = l .loop .k in
     let back : n - (n - k) ≡ k = omega arith in
     let is : cosineBeyond n w (n - k) ≡ w k = rw (cosine-high n w (n - k) (omega arith), back) in
-    (omega arith, omega arith, ends-back (l .loop .inv .2) (omega arith) (narrowed (w k) (s .pre .1 k (omega arith)) .is ∙ sym is))
+    (omega arith, omega arith, ends-back (l .loop .inv .2) (n - k) (omega arith) (narrowed (w k) (s .pre .1 k (omega arith)) .is ∙ sym is))
 
 returns : tie.Need-returns Inv-loop μ-loop
 returns c =
