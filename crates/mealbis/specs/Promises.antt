@@ -6,8 +6,9 @@ use mathlib.Core.Path.{_≡_}
 use Prim.Native.Nat.{ℕ}
 use lib.IntN.{ℤ}
 use Rattle.ffct.specs.Block.{isLength, level}
+use Rattle.counts.specs.Counts.{SixCounts, SixPublished}
+use Rattle.counts.specs.declared.Counts.{Counts}
 use Rattle.refusals.specs.Refusals.{number as numberOf}
-use Rattle.refusals.specs.Counts.{SixCounts, SixPublished}
 use Rattle.spectra.specs.declared.Answer.{Answer}
 use Rattle.spectra.specs.Answers.{verdictOf, products as productsOf, sums as sumsOf, place as placeOf}
 use Rattle.spectra.specs.Promises.{SpectrumPromise, CosinePromise, PairPromise}
@@ -50,10 +51,17 @@ pub record NothingTold (dctP dctS spectrumP spectrumS pairP pairS number : ℕ) 
   pub spectrum-is : (spectrumP ≡ 0) × (spectrumS ≡ 0)
   pub pair-is : (pairP ≡ 0) × (pairS ≡ 0)
 
+abbrev counts : (dctP dctS spectrumP spectrumS pairP pairS : ℕ) → Counts
+counts dctP dctS spectrumP spectrumS pairP pairS = record {
+  dct = record { products = dctP; sums = dctS };
+  spectrum = record { products = spectrumP; sums = spectrumS };
+  pair = record { products = pairP; sums = pairS };
+}
+
 pub record SixTold (N dctP dctS spectrumP spectrumS pairP pairS number : ℕ) : Type 0 where
   pub number-is : number ≡ 0
-  pub six : SixCounts (level N) dctP dctS spectrumP spectrumS pairP pairS
-  pub published : SixPublished N dctP dctS spectrumP spectrumS pairP pairS
+  pub six : SixCounts (level N) (counts dctP dctS spectrumP spectrumS pairP pairS)
+  pub published : SixPublished N (counts dctP dctS spectrumP spectrumS pairP pairS)
 
 pub record CountsTold (N dctP′ dctS′ spectrumP′ spectrumS′ pairP′ pairS′ number : ℕ) : Type 0 where
   pub refused : isLength N ≡ false → NothingTold dctP′ dctS′ spectrumP′ spectrumS′ pairP′ pairS′ number

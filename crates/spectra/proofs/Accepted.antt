@@ -16,16 +16,17 @@ use Rattle.ffct.specs.Exact.{exactCosine, exactSine, exactDct, exactReal, exact
 use Rattle.ffct.proofs.Lengths.{pow-len}
 use Rattle.ffct.proofs.Blocks.{Same, dct-same, spectrum-same, pair-same}
 use Rattle.ffct.proofs.Limits.{limits, pair-limits}
+use Rattle.counts.specs.Counts.{SixCounts}
+use Rattle.counts.specs.declared.Counts.{Counts}
+use Rattle.counts.proofs.Costs.{six-published}
 use Rattle.refusals.specs.Refusals.{scratchWords, block, firstOut, accepted}
 use Rattle.spectra.specs.Calls.{Call, verdict}
-use Rattle.refusals.specs.Counts.{SixCounts}
 use Rattle.spectra.specs.declared.Answer.{Answer}
 use Rattle.spectra.specs.Answers.{verdictOf, products, sums}
 use Rattle.blocks.specs.Blocks.{Workable, CosineMade, SpectrumMade, PairMade}
 use Rattle.spectra.specs.Promises.{CosineDone, CosinePromise, cosineCall, SpectrumDone, SpectrumPromise, spectrumCall, PairDone, PairPromise, pairCall}
 use Rattle.ffct.proofs.ElevenLengths.{is-power, level-le}
 use Rattle.refusals.proofs.Ranges.{all-in}
-use Rattle.refusals.proofs.Costs.{six-published}
 use Rattle.spectra.proofs.Verdicts.{lent, lent-word, lent-length, Passed6, is-accepted}
 
 -- ---- a recording in which a block of N samples is accepted
@@ -106,8 +107,8 @@ module _ (N : ℕ) (h : isLength N ≡ true) (x : Samples) (a : AcceptedBlock (l
     imaginary-near = rw (sym (is-power N h)) at (pair-limits (level N) x y a b .imaginary)
 
 -- ---- what an accepted call promises. m words of scratch were lent, and came back as w′; the counts are those of the length
-module _ {N m allowance dctP dctS spectrumP spectrumS pairP pairS : ℕ} {scratch w′ : List ℤ} (c : SixCounts (level N) dctP dctS spectrumP spectrumS pairP pairS)
-    (is : m ≡ scratchWords N) {recording : List ℤ} {start : ℕ} where
+module _ {N m allowance : ℕ} {counts : Counts} {scratch w′ : List ℤ} (c : SixCounts (level N) counts) (is : m ≡ scratchWords N)
+    {recording : List ℤ} {start : ℕ} where
   cosine-done : {coefficients coefficients′ : List ℤ} {p a : ℕ} → Passed6 (cosineCall recording start N allowance coefficients scratch) →
       CosineMade (lent recording start N) coefficients (take m scratch) coefficients′ w′ p a →
       CosineDone N (block recording start) allowance coefficients scratch coefficients′ (w′ ++ drop m scratch) p a
@@ -118,7 +119,7 @@ module _ {N m allowance dctP dctS spectrumP spectrumS pairP pairS : ℕ} {scratc
       let written : Written 0 N (dct (level N) x .at) coefficients coefficients′ = rw (fit-length f, same) at (made .words) in
       let products = rw (fit-length f, same) at (made .products) in
       let sums = rw (fit-length f, same) at (made .sums) in
-      let published = six-published N _ _ _ _ _ _ (f .length-ok) c .ofDct in
+      let published = six-published (f .length-ok) c .ofDct in
       record {
         block = fit-block f;
         words = written;
@@ -147,7 +148,7 @@ module _ {N m allowance dctP dctS spectrumP spectrumS pairP pairS : ℕ} {scratc
       let added = rw (fit-length f, same) at (made .sums) in
       let products = spent ∙ sym (c .ofSpectrum x .0) in
       let sums = added ∙ sym (c .ofSpectrum x .1) in
-      let forms = six-published N _ _ _ _ _ _ (f .length-ok) c in
+      let forms = six-published (f .length-ok) c in
       record {
         block = fit-block f;
         cosineWords = cosines;
@@ -180,7 +181,7 @@ module _ {N m allowance dctP dctS spectrumP spectrumS pairP pairS : ℕ} {scratc
       let added = rw (fit-length f, same) at (made .sums) in
       let products = spent ∙ sym (c .ofPair x y .0) in
       let sums = added ∙ sym (c .ofPair x y .1) in
-      let forms = six-published N _ _ _ _ _ _ (f .length-ok) c in
+      let forms = six-published (f .length-ok) c in
       record {
         blockA = fit-block f;
         blockB = fit-block g;

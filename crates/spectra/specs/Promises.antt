@@ -13,9 +13,9 @@ use Rattle.ffct.specs.Counts.{dctProducts, dctSums, spectrumProducts, spectrumS
 use Rattle.spectra.specs.declared.Answer.{Answer}
 use Rattle.spectra.specs.declared.CountsAnswer.{CountsAnswer}
 use Rattle.spectra.specs.declared.CountsAnswer.the-variants.{BadLength, Counted}
+use Rattle.counts.specs.Counts.{SixCounts, SixPublished}
 use Rattle.refusals.specs.Refusals.{scratchWords, block, accepted}
 use Rattle.spectra.specs.Calls.{Call, verdict}
-use Rattle.refusals.specs.Counts.{SixCounts, SixPublished}
 use Rattle.spectra.specs.Answers.{verdictOf, products, sums}
 
 -- ---- Spectrum
@@ -116,9 +116,7 @@ pub record PairPromise (a b : List ℤ) (start N allowance : ℕ) (real imaginar
 -- ---- the count query: it tests 1 alone, and gives all six counts, by the definitions and by the closed forms
 abbrev pub Counts : ℕ → CountsAnswer → Type 0
 Counts N BadLength = ⊥
-Counts N (Counted c) =
-    SixCounts (level N) (c .dct .products) (c .dct .sums) (c .spectrum .products) (c .spectrum .sums) (c .pair .products) (c .pair .sums)
-    × SixPublished N (c .dct .products) (c .dct .sums) (c .spectrum .products) (c .spectrum .sums) (c .pair .products) (c .pair .sums)
+Counts N (Counted counts) = SixCounts (level N) counts × SixPublished N counts
 
 pub record CountsPromise (N : ℕ) (answer : CountsAnswer) : Type 0 where
   pub refused : isLength N ≡ false → answer ≡ BadLength

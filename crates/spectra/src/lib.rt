@@ -3,13 +3,13 @@
 use blocks::cosine_of;
 use blocks::pair_of;
 use blocks::spectrum_of;
-use refusals::counts::Counts;
-use refusals::counts::counts_of;
+use counts::Counts;
+use counts::counts_of;
+use counts::tally::Tally;
 use refusals::length::is_length;
 use refusals::length::reaches_beyond;
 use refusals::length::scratch_words;
 use refusals::range::first_out;
-use steps::tally::Tally;
 ghost use mathlib.Core.Path.{_≡_};
 ghost use Rattle.refusals.specs.Refusals.{number};
 ghost use Rattle.spectra.specs.Answers.{verdictOf, products, sums, place};

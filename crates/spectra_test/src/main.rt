@@ -1,5 +1,6 @@
 // Runs the four calls, and writes what each answers and what then stands in its buffers. The file stdout beside src/ was made by tests/spectra.py, which shares
 // nothing with the product.
+use counts::tally::Tally;
 use libc::STDOUT_FILENO;
 use spectra::Answer;
 use spectra::CountsAnswer;
@@ -7,7 +8,6 @@ use spectra::cosine;
 use spectra::count_query;
 use spectra::pair;
 use spectra::spectrum;
-use steps::tally::Tally;
 ghost use mathlib.Core.Path.{_≡_};
 ghost use Prim.Native.Nat.{_^_, _≤_, _<_};
 ghost use lib.ListN.{length};

@@ -3,7 +3,7 @@ use mathlib.Core.Path.{_≡_, refl, subst}
 use native.Mathlib.Omega.{arith}
 use borrow.Author.Needs.{needs}
 use Prim.Native.Nat.{ℕ}
-use Rattle.refusals.specs.declared.counts.Counts.{Counts}
+use Rattle.counts.specs.declared.Counts.{Counts}
 use Rattle.spectra.specs.Promises.{Counts as CountsOf, CountsPromise}
 use Rattle.spectra.specs.declared.CountsAnswer.{CountsAnswer}
 use Rattle.spectra.specs.declared.CountsAnswer.the-variants.{BadLength, Counted}

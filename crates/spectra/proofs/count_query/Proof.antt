@@ -4,7 +4,7 @@ use mathlib.Core.Bool.{true, false≢true}
 use borrow.Author.Needs.{needs}
 use borrow.Author.Tests.{not-true, not-false}
 use Rattle.ffct.specs.Block.{isLength}
-use Rattle.refusals.proofs.Costs.{six-published}
+use Rattle.counts.proofs.Costs.{six-published}
 use Rattle.spectra.proofs.count_query.Statement.{statement}
 use Rattle.spectra.proofs.count_query.Tie as tie
 
@@ -20,7 +20,7 @@ returns-2 : tie.Need-returns-2
 returns-2 c =
     let yes = accepted (c .before) in
     let six = c .counts-of .ensures in
-    record { refused = λ no. absurd (false≢true (sym no ∙ yes)); counted = λ _. (six, six-published _ _ _ _ _ _ _ yes six) }
+    record { refused = λ no. absurd (false≢true (sym no ∙ yes)); counted = λ _. (six, six-published yes six) }
 
 pub count-query-spec : {M : Type 1} → statement M
 count-query-spec = tie.close (tie.spec (λ c κs. search needs) returns (λ c κs. accepted c) returns-2)

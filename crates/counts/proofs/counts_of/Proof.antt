@@ -1,10 +1,10 @@
--- `refusals::counts::counts_of` meets its contract: at one sample the definitions compute. Assumes nothing.
+-- `counts::counts_of` meets its contract: at one sample the definitions compute. Assumes nothing.
 use mathlib.Core.Path.{refl, sym}
 use borrow.Author.Needs.{needs}
 use Rattle.ffct.specs.Transforms.{dctBy, cosineDft, sineDft, dct, spectrum, pair}
 use Rattle.ffct.proofs.ElevenLengths.{one-level, from-two, trailing, some-level, level-le, is-power}
-use Rattle.refusals.proofs.counts.counts_of.Statement.{statement}
-use Rattle.refusals.proofs.counts.counts_of.Tie as tie
+use Rattle.counts.proofs.counts_of.Statement.{statement}
+use Rattle.counts.proofs.counts_of.Tie as tie
 
 returns : tie.Need-returns
 unfolding dctBy cosineDft sineDft dct spectrum pair
@@ -22,7 +22,8 @@ six-counts-requires : tie.Need-six-counts-requires
 six-counts-requires c κs =
     let h = c .before .before .pre in
     let n = c .before .before .args .n in
-    (rw (trailing n h, sym (is-power n h)) at (c .level-counts .ensures), from-two n h (c .before .if1 .left))
+    let (length, two, most) = from-two n h (c .before .if1 .left) in
+    (rw (trailing n h, sym (is-power n h)) at (c .level-counts .ensures), length, two, most)
 
 pub counts-of-spec : {M : Type 1} → statement M
 counts-of-spec = tie.close (tie.spec returns level-counts-requires six-counts-requires (λ c. search needs))

@@ -11,22 +11,34 @@ use Rattle.ffct.specs.Transforms.{evens, foldedSums, foldedDifferences, rearran
 use Rattle.ffct.proofs.Lengths.{len, pow-len, len-injective}
 use Rattle.ffct.proofs.Steps.{cosine-products, cosine-sums, sine-products, sine-sums, dct-products, dct-sums}
 use Rattle.ffct.proofs.Counts.{few-operations, published, nothing-at-one}
-use Rattle.refusals.specs.Counts.{Costs, LevelCosts, SixCounts, SixPublished}
 use Rattle.ffct.proofs.ElevenLengths.{is-power, one-level, some-level, exponent-lt}
+use Rattle.counts.specs.Counts.{Costs, LevelCosts, SixCounts, SixPublished}
+use Rattle.counts.specs.declared.tally.Tally.{Tally}
+use Rattle.counts.specs.declared.Level.{Level}
+use Rattle.counts.specs.declared.Counts.{Counts}
 
 -- any block will do
 zeros : Samples
 zeros n = pos 0
 
-module _ {n cosineP cosineS sineP sineS dctP dctS : ℕ} (l : LevelCosts n cosineP cosineS sineP sineS dctP dctS) where
+module _ {n : ℕ} {costs : Level} (l : LevelCosts n costs) where
   is-len : n ≡ 2 * len (l .below)
   is-len = l .is ∙ pow-len (suc (l .below))
 
+  abbrev C : Tally
+  C = costs .cosine
+
+  abbrev S : Tally
+  S = costs .sine
+
+  abbrev D : Tally
+  D = costs .dct
+
   -- the counts at one block
   record At (x : Samples) : Type 0 where
-    cosineOf : (cosineP ≡ cosineDft (suc (l .below)) x .products) × (cosineS ≡ cosineDft (suc (l .below)) x .sums)
-    sineOf : (sineP ≡ sineDft (suc (l .below)) x .products) × (sineS ≡ sineDft (suc (l .below)) x .sums)
-    dctOf : (dctP ≡ dct (l .below) x .products) × (dctS ≡ dct (l .below) x .sums)
+    cosineOf : (C .products ≡ cosineDft (suc (l .below)) x .products) × (C .sums ≡ cosineDft (suc (l .below)) x .sums)
+    sineOf : (S .products ≡ sineDft (suc (l .below)) x .products) × (S .sums ≡ sineDft (suc (l .below)) x .sums)
+    dctOf : (D .products ≡ dct (l .below) x .products) × (D .sums ≡ dct (l .below) x .sums)
 
   at : (x : Samples) → At x
   at x = record {
@@ -36,36 +48,40 @@ module _ {n cosineP cosineS sineP sineS dctP dctS : ℕ} (l : LevelCosts n cosin
   }
 
   -- no count overflows a word
-  pub few-counts : n ≤ 1024 → (cosineP + cosineS ≤ 2 ^ 16) × (sineP + sineS ≤ 2 ^ 16) × (dctP + dctS ≤ 2 ^ 16)
+  pub few-counts : n ≤ 1024 → (C .products + C .sums ≤ 2 ^ 16) × (S .products + S .sums ≤ 2 ^ 16) × (D .products + D .sums ≤ 2 ^ 16)
   few-counts h =
       let top : suc (l .below) < suc topLevel = exponent-lt _ _ (omega (arith, l .is)) in
       omega (arith, at zeros, few-operations (suc (l .below)) zeros (omega arith), few-operations (l .below) zeros (omega arith))
 
   -- ---- the level above, by (24), (25) and (23)
-  module _ {p a : ℕ} where
-    pub cosine-next : p ≡ cosineP + dctP → a ≡ cosineS + dctS + (n / 2 + n) → Costs cosineDft (suc (suc (l .below))) p a
-    cosine-next e f = record {
+  module _ {t : Tally} where
+    pub cosine-next : (t .products ≡ C .products + D .products) × (t .sums ≡ C .sums + D .sums + (n / 2 + n)) → Costs cosineDft (suc (suc (l .below))) t
+    cosine-next e = record {
       products = λ x. omega (arith, cosine-products (l .below) x, at (evens x), at (foldedSums (4 * len (l .below)) x));
       sums = λ x. omega (arith, is-len, cosine-sums (l .below) x, at (evens x), at (foldedSums (4 * len (l .below)) x));
     }
 
-    pub sine-next : p ≡ sineP + dctP → a ≡ sineS + dctS + (n / 2 + (n - 2)) → Costs sineDft (suc (suc (l .below))) p a
-    sine-next e f = record {
+    pub sine-next : (t .products ≡ S .products + D .products) × (t .sums ≡ S .sums + D .sums + (n / 2 + (n - 2)))
+        → Costs sineDft (suc (suc (l .below))) t
+    sine-next e = record {
       products = λ x. omega (arith, sine-products (l .below) x, at (evens x), at (foldedDifferences (4 * len (l .below)) x));
       sums = λ x. omega (arith, is-len, sine-sums (l .below) x, at (evens x), at (foldedDifferences (4 * len (l .below)) x));
     }
 
-    pub dct-next : p ≡ cosineP + sineP + (3 * (n / 2 - 1) + 1) → a ≡ cosineS + sineS + 3 * (n / 2 - 1) → Costs dct (suc (l .below)) p a
-    dct-next e f = record {
+    pub dct-next : (t .products ≡ C .products + S .products + (3 * (n / 2 - 1) + 1)) × (t .sums ≡ C .sums + S .sums + 3 * (n / 2 - 1))
+        → Costs dct (suc (l .below)) t
+    dct-next e = record {
       products = λ x. omega (arith, is-len, dct-products (l .below) x, at (rearranged (2 * len (l .below)) x));
       sums = λ x. omega (arith, is-len, dct-sums (l .below) x, at (rearranged (2 * len (l .below)) x));
     }
 
   -- ---- Spectrum and Pair, by (21) and (22)
-  pub six-counts : {dP dS sP sS pP pS : ℕ} → isLength n ≡ true → Costs dct (suc (l .below)) dP dS → sP ≡ cosineP + sineP → sS ≡ cosineS + sineS →
-      pP ≡ 2 * sP → pS ≡ 2 * sS + 2 * (n - 2) → SixCounts (level n) dP dS sP sS pP pS
+  pub six-counts : {counts : Counts} → isLength n ≡ true → Costs dct (suc (l .below)) (counts .dct)
+      → (counts .spectrum .products ≡ C .products + S .products) × (counts .spectrum .sums ≡ C .sums + S .sums)
+      → (counts .pair .products ≡ 2 * counts .spectrum .products) × (counts .pair .sums ≡ 2 * counts .spectrum .sums + 2 * (n - 2))
+      → SixCounts (level n) counts
   unfolding spectrum pair
-  six-counts h d e f g k =
+  six-counts h d e f =
       let same : level n ≡ suc (l .below) = len-injective _ _ (omega (arith, is-len, is-power n h, pow-len (level n))) in
       rw same
       (record {
@@ -75,9 +91,8 @@ module _ {n cosineP cosineS sineP sineS dctP dctS : ℕ} (l : LevelCosts n cosin
       })
 
 -- the closed forms
-pub six-published : (N dctP dctS spectrumP spectrumS pairP pairS : ℕ) → isLength N ≡ true →
-    SixCounts (level N) dctP dctS spectrumP spectrumS pairP pairS → SixPublished N dctP dctS spectrumP spectrumS pairP pairS
-six-published N dctP dctS spectrumP spectrumS pairP pairS h c =
+pub six-published : {N : ℕ} {counts : Counts} → isLength N ≡ true → SixCounts (level N) counts → SixPublished N counts
+six-published {N} h c =
     let forms = published (level N) in
     record {
       ofDct = (ap pos (c .ofDct .products zeros) ∙ forms .dctP zeros, ap pos (c .ofDct .sums zeros) ∙ forms .dctS zeros);
@@ -89,6 +104,10 @@ six-published N dctP dctS spectrumP spectrumS pairP pairS h c =
           (ap pos (c .ofPair zeros zeros .0) ∙ forms .pairP zeros zeros some, ap pos (c .ofPair zeros zeros .1) ∙ forms .pairS zeros zeros some);
       nothingAtOne = λ e.
           let c′ = rw (one-level N e) at c in
-          let none = nothing-at-one zeros zeros in
-          (c′ .ofSpectrum zeros .0 ∙ none .0, c′ .ofSpectrum zeros .1 ∙ none .1, c′ .ofPair zeros zeros .0 ∙ none .2, c′ .ofPair zeros zeros .1 ∙ none .3);
+          let none = nothing-at-one zeros zeros in (
+            c′ .ofSpectrum zeros .0 ∙ none .0,
+            c′ .ofSpectrum zeros .1 ∙ none .1,
+            c′ .ofPair zeros zeros .0 ∙ none .2,
+            c′ .ofPair zeros zeros .1 ∙ none .3,
+          );
     }

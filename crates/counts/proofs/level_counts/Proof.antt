@@ -1,4 +1,4 @@
--- `refusals::counts::level_counts` meets its contract: each turn goes from the level of n samples to that of 2 n. Assumes nothing.
+-- `counts::level_counts` meets its contract: each turn goes from the level of n samples to that of 2 n. Assumes nothing.
 use mathlib.Core.Path.{_≡_}
 use Prim.Native.Nat.{_-_, _^_, _≤_}
 use native.Mathlib.Nat.{pow-succ'}
@@ -6,14 +6,13 @@ use native.Mathlib.Numerals.{add-one}
 use native.Mathlib.Omega.{arith}
 use lib.Pow.{pow-mono}
 use borrow.Author.Needs.{needs}
-use Rattle.refusals.specs.Counts.{LevelCosts}
-use Rattle.refusals.proofs.counts.level_counts.Statement.{statement}
-use Rattle.refusals.proofs.counts.level_counts.Tie as tie
+use Rattle.counts.specs.Counts.{LevelCosts}
+use Rattle.counts.proofs.level_counts.Statement.{statement}
+use Rattle.counts.proofs.level_counts.Tie as tie
 
 abbrev Inv-loop : tie.InvT-loop
 Inv-loop top level₀ n₀ l₀ level n l =
-    (1 ≤ l) × (l ≤ top) × (n ≡ 2 ^ l)
-    × LevelCosts n (level .cosine .products) (level .cosine .sums) (level .sine .products) (level .sine .sums) (level .dct .products) (level .dct .sums)
+    (1 ≤ l) × (l ≤ top) × (n ≡ 2 ^ l) × LevelCosts n level
 
 abbrev μ-loop : tie.MeasureT-loop
 μ-loop top level₀ n₀ l₀ level n l = top - l

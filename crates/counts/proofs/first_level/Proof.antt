@@ -1,8 +1,8 @@
--- `refusals::counts::first_level` meets its contract: the definitions compute. Assumes nothing.
+-- `counts::first_level` meets its contract: the definitions compute. Assumes nothing.
 use mathlib.Core.Path.{refl}
 use Rattle.ffct.specs.Transforms.{dctBy, cosineDft, sineDft, dct}
-use Rattle.refusals.proofs.counts.first_level.Statement.{statement}
-use Rattle.refusals.proofs.counts.first_level.Tie as tie
+use Rattle.counts.proofs.first_level.Statement.{statement}
+use Rattle.counts.proofs.first_level.Tie as tie
 
 returns : tie.Need-returns
 unfolding dctBy cosineDft sineDft dct

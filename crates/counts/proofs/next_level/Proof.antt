@@ -1,0 +1,54 @@
+-- `counts::next_level` meets its contract, by (23) to (25). Assumes nothing.
+use Prim.Native.Nat.{suc, _+_, _^_, _≤_}
+use native.Mathlib.Nat.{pow-succ'}
+use native.Mathlib.Omega.{arith}
+use borrow.Author.Needs.{needs}
+use Rattle.counts.proofs.Costs.{few-counts, cosine-next, sine-next, dct-next}
+use Rattle.counts.proofs.next_level.Statement.{statement}
+use Rattle.counts.proofs.next_level.Tie as tie
+
+-- no count overflows a word
+few : (c : tie.Start) →
+    let l = c .args .level in
+    (l .cosine .products + l .cosine .sums ≤ 2 ^ 16) × (l .sine .products + l .sine .sums ≤ 2 ^ 16) × (l .dct .products + l .dct .sums ≤ 2 ^ 16)
+few c = few-counts (c .pre .0) (omega arith)
+
+plus-requires : tie.Need-plus-requires
+plus-requires c κs = omega (arith, few c)
+
+plus-requires-2 : tie.Need-plus-requires-2
+plus-requires-2 c κs = omega (arith, few (c .before))
+
+plus-requires-3 : tie.Need-plus-requires-3
+plus-requires-3 c κs = omega (arith, few (c .before .before))
+
+plus-requires-4 : tie.Need-plus-requires-4
+plus-requires-4 c κs = omega (arith, few (c .before .before .before))
+
+dct-counts-requires : tie.Need-dct-counts-requires
+dct-counts-requires c κs = omega (arith, few (c .before .before .before .before))
+
+returns : tie.Need-returns
+returns c =
+    let l = c .before .before .before .before .before .pre .0 in
+    record {
+      below = suc (l .below);
+      is = omega (arith, l .is, pow-succ' 2 (suc (l .below)));
+      ofCosine = cosine-next l (omega arith);
+      ofSine = sine-next l (omega arith);
+      ofDct = dct-next l (omega arith);
+    }
+
+pub next-level-spec : {M : Type 1} → statement M
+next-level-spec =
+    tie.close
+    (tie.spec
+    (λ c. search needs)  -- add-t6
+    (λ c. search needs)  -- sub-t6
+    (λ c. search needs)  -- add-t7
+    plus-requires
+    plus-requires-2
+    plus-requires-3
+    plus-requires-4
+    dct-counts-requires
+    returns)
