@@ -45,7 +45,8 @@ fn first_level() -> Level
 // (23): the DCT of n samples, n at least 2.
 fn dct_counts(cosine: Tally, sine: Tally, n: u64) -> Tally
     requires { ⌜ (2 ≤ n) × (n ≤ 1024) × (cosine .products + cosine .sums ≤ 2 ^ 16) × (sine .products + sine .sums ≤ 2 ^ 16) ⌝ }
-    ensures { λ r. ⌜ (r .products ≡ cosine .products + sine .products + (3 * (n / 2 - 1) + 1)) × (r .sums ≡ cosine .sums + sine .sums + 3 * (n / 2 - 1)) ⌝ }
+    ensures { λ r. ⌜ (r .products ≡ cosine .products + sine .products + (3 * (n / 2 - 1) + 1))
+        × (r .sums ≡ cosine .sums + sine .sums + 3 * (n / 2 - 1)) ⌝ }
 {
     let pairs = n / 2 - 1;
     let rotation = Tally {

@@ -10,7 +10,7 @@ use Rattle.counts.specs.Counts.{SixCounts, SixPublished}
 use Rattle.counts.specs.declared.Counts.{Counts}
 use Rattle.refusals.specs.Refusals.{number as numberOf}
 use Rattle.spectra.specs.declared.Answer.{Answer}
-use Rattle.spectra.specs.Answers.{verdictOf, products as productsOf, sums as sumsOf, place as placeOf}
+use Rattle.spectra.specs.Answers.{verdictOf, spent, place as placeOf}
 use Rattle.spectra.specs.Promises.{SpectrumPromise, CosinePromise, PairPromise}
 use Rattle.pairfile.specs.declared.FileAnswer.{FileAnswer}
 use Rattle.pairfile.specs.Answers as file
@@ -21,8 +21,8 @@ use Rattle.pairfile.specs.Promises.{ReadPromise}
 -- The answer of a call in four plain numbers. By their definitions the counts are 0 in every refusal, and the place is 0 in every answer but refusal 6.
 pub record Told (answer : Answer) (products sums place number : ℕ) : Type 0 where
   pub number-is : number ≡ numberOf (verdictOf answer)
-  pub products-is : products ≡ productsOf answer
-  pub sums-is : sums ≡ sumsOf answer
+  pub products-is : products ≡ spent answer .products
+  pub sums-is : sums ≡ spent answer .sums
   pub place-is : place ≡ placeOf answer
 
 -- There is an answer of which the promise of Spectrum holds, with these buffers before and after, and it is the answer told.

@@ -17,7 +17,7 @@ use Rattle.ffct.proofs.ElevenLengths.{is-power}
 use Rattle.refusals.specs.Refusals.{block}
 use Rattle.refusals.proofs.Ranges.{none-out}
 use Rattle.spectra.specs.declared.Answer.{Answer}
-use Rattle.spectra.specs.Answers.{products, sums}
+use Rattle.spectra.specs.Answers.{spent}
 use Rattle.spectra.specs.Promises.{PairDone, PairPromise}
 use Rattle.spectra.proofs.Verdicts.{is-accepted}
 use Rattle.text.specs.Lines.{line, lines}
@@ -30,7 +30,7 @@ use Rattle.report.specs.Puts.{Printable, PutFrom}
 module _ (i : ℕ) {N allowance : ℕ} {a b real imaginary scratch real′ imaginary′ scratch′ : List ℤ} {answer : Answer} where
   pub pair-done : Printable (i * N + N) N a b real imaginary scratch → ((x y : Samples) → allowance ≡ pairOf (level N) x y .products)
       → PairPromise a b (i * N) N allowance real imaginary scratch real′ imaginary′ scratch′ answer
-      → PairDone N (block a (i * N)) (block b (i * N)) allowance real imaginary scratch real′ imaginary′ scratch′ (products answer) (sums answer)
+      → PairDone N (block a (i * N)) (block b (i * N)) allowance real imaginary scratch real′ imaginary′ scratch′ (spent answer)
   pair-done p e promise = promise .done (promise .verdict ∙ is-accepted (record {
     past = record {
       past = record {

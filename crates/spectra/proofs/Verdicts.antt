@@ -1,5 +1,6 @@
--- The verdict on a call, condition by condition: what is known of a call that has passed the first tests, what each refusal follows from, and that a refusal is the whole
--- promise of a call that leaves its buffers as they are. First, the search of a block that is lent as a slice of its recording.
+-- The verdict on a call, condition by condition: what is known of a call that has passed the first tests, what each refusal follows from,
+-- and the whole promise of a call that leaves its buffers as they are, and of one that passes. First, the search of a block that is lent
+-- as a slice of its recording.
 -- Assumes nothing.
 use mathlib.Core.Path.{_≡_, refl, sym, ap, _∙_}
 use mathlib.Core.Bool.{true, false, false≢true}
@@ -13,9 +14,10 @@ use borrow.Author.Tests.{lt-ltb, le-ltb}
 use Rattle.words.specs.Words.{word}
 use Rattle.ffct.specs.Block.{isLength}
 use Rattle.spectra.specs.declared.Answer.{Answer}
-use Rattle.spectra.specs.declared.Answer.the-variants.{BadLength, BeyondRecording, ResultTooShort, ScratchTooShort, AllowanceTooSmall, OutOfRange}
+use Rattle.spectra.specs.declared.Answer.the-variants.{BadLength, BeyondRecording, ResultTooShort, ScratchTooShort}
+use Rattle.spectra.specs.declared.Answer.the-variants.{AllowanceTooSmall, OutOfRange}
 use Rattle.spectra.specs.Answers.{verdictOf}
-use Rattle.spectra.specs.Promises.{SpectrumPromise, CosinePromise, PairPromise, spectrumCall, cosineCall, pairCall}
+use Rattle.spectra.specs.Promises.{Promise, SpectrumPromise, CosinePromise, PairPromise, spectrumCall, cosineCall, pairCall}
 use Rattle.refusals.specs.Refusals.{someBelow, scratchWords, firstOut, firstOutIn, accepted}
 use Rattle.spectra.specs.Calls.{lengthsOf, samplesOf, Call, verdict}
 use Rattle.refusals.proofs.Ranges.{first-to, first-shift, first-same}
@@ -35,8 +37,8 @@ module _ (r : List ℤ) (s N : ℕ) where
 
     pub lent-out : {out : ℕ} → out ≡ firstOut (word (lent r s N)) 0 (length (lent r s N)) → s + out ≡ firstOut (word r) s N
     lent-out e =
-        ap (λ n. s + n) (e ∙ ap (firstOut _ 0) lent-length ∙ first-same _ (λ n. word r (s + n)) 0 N (λ n _ l. lent-word n (omega (arith, l))))
-        ∙ first-shift (word r) s N
+        let same = first-same _ (λ n. word r (s + n)) 0 N (λ n _ l. lent-word n (omega (arith, l))) in
+        ap (λ n. s + n) (e ∙ ap (firstOut _ 0) lent-length ∙ same) ∙ first-shift (word r) s N
 
     pub lent-in : {out : ℕ} → out ≡ firstOut (word (lent r s N)) 0 (length (lent r s N)) → N ≤ out → firstOut (word r) s N ≡ s + N
     lent-in e l = omega (arith, l, lent-out e, first-to (word r) s N)
@@ -98,7 +100,9 @@ module _ {call : Call} where
 
   pub refused-5 : Passed4 call → call .allowance < call .products → TurnedDown call AllowanceTooSmall
   unfolding verdict
-  refused-5 p h = down refl (rw (p .past .past .past .length, none-2 (p .past .past), none-3 (p .past), le-ltb _ _ (p .scratch), lt-ltb _ _ h))
+  refused-5 p h =
+      let q = p .past in
+      down refl (rw (q .past .past .length, none-2 (q .past), none-3 q, le-ltb _ _ (p .scratch), lt-ltb _ _ h))
 
   past-5 : Passed5 call → verdict call ≡ firstOutIn (samplesOf (call .recordings)) (call .start) (call .N)
   unfolding verdict
@@ -106,22 +110,30 @@ module _ {call : Call} where
       let q = p .past in
       rw (q .past .past .past .length, none-2 (q .past .past), none-3 (q .past), le-ltb _ _ (q .scratch), le-ltb _ _ (p .allowance))
 
-  pub refused-6 : {place : ℕ} → Passed5 call → OutAt (samplesOf (call .recordings)) (call .start) (call .N) place → TurnedDown call (OutOfRange place)
+  pub refused-6 : {place : ℕ} → Passed5 call → OutAt (samplesOf (call .recordings)) (call .start) (call .N) place
+      → TurnedDown call (OutOfRange place)
   refused-6 p h = down refl (past-5 p ∙ out-verdict (samplesOf (call .recordings)) (call .start) (call .N) _ h)
 
   pub is-accepted : Passed6 call → verdict call ≡ accepted
   is-accepted p = past-5 (p .past) ∙ in-verdict (samplesOf (call .recordings)) (call .start) (call .N) (p .range)
 
--- ---- the promises of calls that are turned down
+-- ---- the promise of a call that is carried out, and of one that is turned down
+module _ {call : Call} {answer : Answer} {Unchanged Done : Type 0} where
+  pub carried-out : Passed6 call → verdictOf answer ≡ accepted → Done → Promise call answer Unchanged Done
+  carried-out p ok d = record { verdict = ok ∙ sym (is-accepted p); unchanged = λ no. absurd (no ok); done = λ _. d }
+
+  turned-down : Unchanged → TurnedDown call answer → Promise call answer Unchanged Done
+  turned-down u t = record { verdict = t .verdict; unchanged = λ _. u; done = λ d. absurd (t .never d) }
+
 module _ {start N allowance : ℕ} {scratch : List ℤ} {answer : Answer} where
-  pub spectrum-refused : {recording cosine sine : List ℤ} → TurnedDown (spectrumCall recording start N allowance cosine sine scratch) answer →
-      SpectrumPromise recording start N allowance cosine sine scratch cosine sine scratch answer
-  spectrum-refused t = record { verdict = t .verdict; unchanged = λ _. (refl, refl, refl); done = λ d. absurd (t .never d) }
+  pub spectrum-refused : {recording cosine sine : List ℤ} → TurnedDown (spectrumCall recording start N allowance cosine sine scratch) answer
+      → SpectrumPromise recording start N allowance cosine sine scratch cosine sine scratch answer
+  spectrum-refused = turned-down (refl, refl, refl)
 
-  pub cosine-refused : {recording coefficients : List ℤ} → TurnedDown (cosineCall recording start N allowance coefficients scratch) answer →
-      CosinePromise recording start N allowance coefficients scratch coefficients scratch answer
-  cosine-refused t = record { verdict = t .verdict; unchanged = λ _. (refl, refl); done = λ d. absurd (t .never d) }
+  pub cosine-refused : {recording coefficients : List ℤ} → TurnedDown (cosineCall recording start N allowance coefficients scratch) answer
+      → CosinePromise recording start N allowance coefficients scratch coefficients scratch answer
+  cosine-refused = turned-down (refl, refl)
 
-  pub pair-refused : {a b real imaginary : List ℤ} → TurnedDown (pairCall a b start N allowance real imaginary scratch) answer →
-      PairPromise a b start N allowance real imaginary scratch real imaginary scratch answer
-  pair-refused t = record { verdict = t .verdict; unchanged = λ _. (refl, refl, refl); done = λ d. absurd (t .never d) }
+  pub pair-refused : {a b real imaginary : List ℤ} → TurnedDown (pairCall a b start N allowance real imaginary scratch) answer
+      → PairPromise a b start N allowance real imaginary scratch real imaginary scratch answer
+  pair-refused = turned-down (refl, refl, refl)

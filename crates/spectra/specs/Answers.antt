@@ -1,7 +1,9 @@
 -- The answers of the calls, by document 01's numbers and values.
 use Prim.Native.Nat.{ℕ}
+use Rattle.counts.specs.declared.tally.Tally.{Tally}
 use Rattle.spectra.specs.declared.Answer.{Answer}
-use Rattle.spectra.specs.declared.Answer.the-variants.{BadLength, BeyondRecording, ResultTooShort, ScratchTooShort, AllowanceTooSmall, OutOfRange, Done}
+use Rattle.spectra.specs.declared.Answer.the-variants.{BadLength, BeyondRecording, ResultTooShort, ScratchTooShort}
+use Rattle.spectra.specs.declared.Answer.the-variants.{AllowanceTooSmall, OutOfRange, Done}
 use Rattle.refusals.specs.Refusals.{Verdict, refused, refusedAt, accepted}
 
 abbrev pub verdictOf : Answer → Verdict
@@ -13,24 +15,18 @@ verdictOf AllowanceTooSmall = refused 5
 verdictOf (OutOfRange place) = refusedAt 6 place
 verdictOf (Done tally) = accepted
 
--- the counts of an accepted call
-abbrev pub products : Answer → ℕ
-products BadLength = 0
-products BeyondRecording = 0
-products ResultTooShort = 0
-products ScratchTooShort = 0
-products AllowanceTooSmall = 0
-products (OutOfRange place) = 0
-products (Done tally) = tally .products
+-- the counts that an accepted call spent; else none
+abbrev none : Tally
+none = record { products = 0; sums = 0 }
 
-abbrev pub sums : Answer → ℕ
-sums BadLength = 0
-sums BeyondRecording = 0
-sums ResultTooShort = 0
-sums ScratchTooShort = 0
-sums AllowanceTooSmall = 0
-sums (OutOfRange place) = 0
-sums (Done tally) = tally .sums
+abbrev pub spent : Answer → Tally
+spent BadLength = none
+spent BeyondRecording = none
+spent ResultTooShort = none
+spent ScratchTooShort = none
+spent AllowanceTooSmall = none
+spent (OutOfRange place) = none
+spent (Done tally) = tally
 
 -- the place of refusal 6, in the recording; 0 in every other answer
 abbrev pub place : Answer → ℕ

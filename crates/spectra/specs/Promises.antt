@@ -1,5 +1,5 @@
--- What the calls promise, for every input: the verdict, what stays after a refusal, and all that an accepted call leaves behind. N is the length, L its level, x the samples of the
--- block, x(0) being the sample at the start.
+-- What the calls promise, for every input: the verdict, what stays after a refusal, and all that an accepted call leaves behind.
+-- N is the length, x the samples of the block, x(0) being the sample at the start. A buffer after the call is marked ′.
 use mathlib.Core.Bool.{true, false}
 use mathlib.Core.List.{List, [], _∷_}
 use mathlib.Core.Path.{_≡_}
@@ -10,13 +10,20 @@ use Rattle.ffct.specs.Block.{AcceptedBlock, isLength, level}
 use Rattle.ffct.specs.Exact.{exactCosine, exactSine, exactDct, exactReal, exactImaginary, eighth, quarterOfNext, quarter, Within}
 use Rattle.ffct.specs.Transforms.{dct as dctOf, spectrum as spectrumOf, pair as pairOf}
 use Rattle.ffct.specs.Counts.{dctProducts, dctSums, spectrumProducts, spectrumSums, pairProducts, pairSums}
+use Rattle.counts.specs.declared.tally.Tally.{Tally}
+use Rattle.counts.specs.Counts.{SixCounts, SixPublished}
+use Rattle.refusals.specs.Refusals.{scratchWords, block, accepted}
 use Rattle.spectra.specs.declared.Answer.{Answer}
 use Rattle.spectra.specs.declared.CountsAnswer.{CountsAnswer}
 use Rattle.spectra.specs.declared.CountsAnswer.the-variants.{BadLength, Counted}
-use Rattle.counts.specs.Counts.{SixCounts, SixPublished}
-use Rattle.refusals.specs.Refusals.{scratchWords, block, accepted}
 use Rattle.spectra.specs.Calls.{Call, verdict}
-use Rattle.spectra.specs.Answers.{verdictOf, products, sums}
+use Rattle.spectra.specs.Answers.{verdictOf, spent}
+
+-- a call that gives an answer: what stays where it is turned down, and what is done where it is accepted
+pub record Promise (call : Call) (answer : Answer) (Unchanged Done : Type 0) : Type 0 where
+  pub verdict : verdictOf answer ≡ verdict call
+  pub unchanged : (verdictOf answer ≡ accepted → ⊥) → Unchanged
+  pub done : verdictOf answer ≡ accepted → Done
 
 -- ---- Spectrum
 abbrev pub spectrumCall : List ℤ → ℕ → ℕ → ℕ → List ℤ → List ℤ → List ℤ → Call
@@ -32,24 +39,25 @@ spectrumCall recording start N allowance cosine sine scratch =
       products = spectrumOf (level N) (block recording start) .products;
     }
 
--- an accepted call that spends p products and a sums; the buffers' words before, and after (marked ′)
-pub record SpectrumDone (N : ℕ) (x : Samples) (allowance : ℕ) (cosine sine scratch cosine′ sine′ scratch′ : List ℤ) (p a : ℕ) : Type 0 where
+-- an accepted call that spends a tally
+pub record SpectrumDone (N : ℕ) (x : Samples) (allowance : ℕ)
+    (cosine sine scratch cosine′ sine′ scratch′ : List ℤ) (spent : Tally) : Type 0 where
   pub block : AcceptedBlock (level N) x
   pub cosineWords : Written 0 (N / 2 + 1) (spectrumOf (level N) x .cosine) cosine cosine′
   pub sineWords : Written 0 (N / 2 + 1) (spectrumOf (level N) x .sine) sine sine′
   pub cosineNear : (k : ℕ) → k ≤ N / 2 → Within (eighth N) (word cosine′ k) (exactCosine N x k)
   pub sineNear : (k : ℕ) → k ≤ N / 2 → Within (eighth N) (word sine′ k) (exactSine N x k)
   pub scratchCleared : Written 0 (scratchWords N) (λ k. pos 0) scratch scratch′
-  pub tallied : (p ≡ spectrumOf (level N) x .products) × (a ≡ spectrumOf (level N) x .sums)
-  pub published : 2 ≤ N → (pos p ≡ spectrumProducts (level N)) × (pos a ≡ spectrumSums (level N))
-  pub nothingAtOne : N ≡ 1 → (p ≡ 0) × (a ≡ 0)
-  pub allowed : p ≤ allowance
+  pub tallied : (spent .products ≡ spectrumOf (level N) x .products) × (spent .sums ≡ spectrumOf (level N) x .sums)
+  pub published : 2 ≤ N → (pos (spent .products) ≡ spectrumProducts (level N)) × (pos (spent .sums) ≡ spectrumSums (level N))
+  pub nothingAtOne : N ≡ 1 → (spent .products ≡ 0) × (spent .sums ≡ 0)
+  pub allowed : spent .products ≤ allowance
 
-pub record SpectrumPromise (recording : List ℤ) (start N allowance : ℕ) (cosine sine scratch cosine′ sine′ scratch′ : List ℤ) (answer : Answer) : Type 0 where
-  pub verdict : verdictOf answer ≡ verdict (spectrumCall recording start N allowance cosine sine scratch)
-  pub unchanged : (verdictOf answer ≡ accepted → ⊥) → (cosine′ ≡ cosine) × (sine′ ≡ sine) × (scratch′ ≡ scratch)
-  pub done : verdictOf answer ≡ accepted →
-      SpectrumDone N (block recording start) allowance cosine sine scratch cosine′ sine′ scratch′ (products answer) (sums answer)
+abbrev pub SpectrumPromise : List ℤ → ℕ → ℕ → ℕ → (cosine sine scratch cosine′ sine′ scratch′ : List ℤ) → Answer → Type 0
+SpectrumPromise recording start N allowance cosine sine scratch cosine′ sine′ scratch′ answer =
+    Promise (spectrumCall recording start N allowance cosine sine scratch) answer
+    ((cosine′ ≡ cosine) × (sine′ ≡ sine) × (scratch′ ≡ scratch))
+    (SpectrumDone N (block recording start) allowance cosine sine scratch cosine′ sine′ scratch′ (spent answer))
 
 -- ---- Cosine
 abbrev pub cosineCall : List ℤ → ℕ → ℕ → ℕ → List ℤ → List ℤ → Call
@@ -65,20 +73,21 @@ cosineCall recording start N allowance coefficients scratch =
       products = dctOf (level N) (block recording start) .products;
     }
 
-pub record CosineDone (N : ℕ) (x : Samples) (allowance : ℕ) (coefficients scratch coefficients′ scratch′ : List ℤ) (p a : ℕ) : Type 0 where
+pub record CosineDone (N : ℕ) (x : Samples) (allowance : ℕ)
+    (coefficients scratch coefficients′ scratch′ : List ℤ) (spent : Tally) : Type 0 where
   pub block : AcceptedBlock (level N) x
   pub words : Written 0 N (dctOf (level N) x .at) coefficients coefficients′
   pub near : (k : ℕ) → k < N → Within (quarterOfNext N) (word coefficients′ k) (exactDct N x k)
   pub scratchCleared : Written 0 (scratchWords N) (λ k. pos 0) scratch scratch′
-  pub tallied : (p ≡ dctOf (level N) x .products) × (a ≡ dctOf (level N) x .sums)
-  pub published : (pos p ≡ dctProducts (level N)) × (pos a ≡ dctSums (level N))
-  pub allowed : p ≤ allowance
+  pub tallied : (spent .products ≡ dctOf (level N) x .products) × (spent .sums ≡ dctOf (level N) x .sums)
+  pub published : (pos (spent .products) ≡ dctProducts (level N)) × (pos (spent .sums) ≡ dctSums (level N))
+  pub allowed : spent .products ≤ allowance
 
-pub record CosinePromise (recording : List ℤ) (start N allowance : ℕ) (coefficients scratch coefficients′ scratch′ : List ℤ) (answer : Answer) : Type 0 where
-  pub verdict : verdictOf answer ≡ verdict (cosineCall recording start N allowance coefficients scratch)
-  pub unchanged : (verdictOf answer ≡ accepted → ⊥) → (coefficients′ ≡ coefficients) × (scratch′ ≡ scratch)
-  pub done : verdictOf answer ≡ accepted →
-      CosineDone N (block recording start) allowance coefficients scratch coefficients′ scratch′ (products answer) (sums answer)
+abbrev pub CosinePromise : List ℤ → ℕ → ℕ → ℕ → (coefficients scratch coefficients′ scratch′ : List ℤ) → Answer → Type 0
+CosinePromise recording start N allowance coefficients scratch coefficients′ scratch′ answer =
+    Promise (cosineCall recording start N allowance coefficients scratch) answer
+    ((coefficients′ ≡ coefficients) × (scratch′ ≡ scratch))
+    (CosineDone N (block recording start) allowance coefficients scratch coefficients′ scratch′ (spent answer))
 
 -- ---- Pair, recordings a and b
 abbrev pub pairCall : List ℤ → List ℤ → ℕ → ℕ → ℕ → List ℤ → List ℤ → List ℤ → Call
@@ -94,7 +103,8 @@ pairCall a b start N allowance real imaginary scratch =
       products = pairOf (level N) (block a start) (block b start) .products;
     }
 
-pub record PairDone (N : ℕ) (x y : Samples) (allowance : ℕ) (real imaginary scratch real′ imaginary′ scratch′ : List ℤ) (p a : ℕ) : Type 0 where
+pub record PairDone (N : ℕ) (x y : Samples) (allowance : ℕ)
+    (real imaginary scratch real′ imaginary′ scratch′ : List ℤ) (spent : Tally) : Type 0 where
   pub blockA : AcceptedBlock (level N) x
   pub blockB : AcceptedBlock (level N) y
   pub realWords : Written 0 N (pairOf (level N) x y .real) real real′
@@ -102,16 +112,16 @@ pub record PairDone (N : ℕ) (x y : Samples) (allowance : ℕ) (real imaginary 
   pub realNear : (k : ℕ) → k < N → Within (quarter N) (word real′ k) (exactReal N x y k)
   pub imaginaryNear : (k : ℕ) → k < N → Within (quarter N) (word imaginary′ k) (exactImaginary N x y k)
   pub scratchCleared : Written 0 (scratchWords N) (λ k. pos 0) scratch scratch′
-  pub tallied : (p ≡ pairOf (level N) x y .products) × (a ≡ pairOf (level N) x y .sums)
-  pub published : 2 ≤ N → (pos p ≡ pairProducts (level N)) × (pos a ≡ pairSums (level N))
-  pub nothingAtOne : N ≡ 1 → (p ≡ 0) × (a ≡ 0)
-  pub allowed : p ≤ allowance
+  pub tallied : (spent .products ≡ pairOf (level N) x y .products) × (spent .sums ≡ pairOf (level N) x y .sums)
+  pub published : 2 ≤ N → (pos (spent .products) ≡ pairProducts (level N)) × (pos (spent .sums) ≡ pairSums (level N))
+  pub nothingAtOne : N ≡ 1 → (spent .products ≡ 0) × (spent .sums ≡ 0)
+  pub allowed : spent .products ≤ allowance
 
-pub record PairPromise (a b : List ℤ) (start N allowance : ℕ) (real imaginary scratch real′ imaginary′ scratch′ : List ℤ) (answer : Answer) : Type 0 where
-  pub verdict : verdictOf answer ≡ verdict (pairCall a b start N allowance real imaginary scratch)
-  pub unchanged : (verdictOf answer ≡ accepted → ⊥) → (real′ ≡ real) × (imaginary′ ≡ imaginary) × (scratch′ ≡ scratch)
-  pub done : verdictOf answer ≡ accepted →
-      PairDone N (block a start) (block b start) allowance real imaginary scratch real′ imaginary′ scratch′ (products answer) (sums answer)
+abbrev pub PairPromise : List ℤ → List ℤ → ℕ → ℕ → ℕ → (real imaginary scratch real′ imaginary′ scratch′ : List ℤ) → Answer → Type 0
+PairPromise a b start N allowance real imaginary scratch real′ imaginary′ scratch′ answer =
+    Promise (pairCall a b start N allowance real imaginary scratch) answer
+    ((real′ ≡ real) × (imaginary′ ≡ imaginary) × (scratch′ ≡ scratch))
+    (PairDone N (block a start) (block b start) allowance real imaginary scratch real′ imaginary′ scratch′ (spent answer))
 
 -- ---- the count query: it tests 1 alone, and gives all six counts, by the definitions and by the closed forms
 abbrev pub Counts : ℕ → CountsAnswer → Type 0

@@ -1,5 +1,5 @@
-// Spectrum, Cosine, Pair and the count query, as a buyer calls them. No call asks anything of its input: each tests document 01's refusals in their order, before
-// anything is written, and promises its whole outcome (specs/Promises.antt).
+// Spectrum, Cosine, Pair and the count query, as a buyer calls them. No call asks anything of its input: each tests document 01's refusals
+// in their order, before anything is written, and promises its whole outcome (specs/Promises.antt).
 use blocks::cosine_of;
 use blocks::pair_of;
 use blocks::spectrum_of;
@@ -12,7 +12,7 @@ use refusals::length::scratch_words;
 use refusals::range::first_out;
 ghost use mathlib.Core.Path.{_≡_};
 ghost use Rattle.refusals.specs.Refusals.{number};
-ghost use Rattle.spectra.specs.Answers.{verdictOf, products, sums, place};
+ghost use Rattle.spectra.specs.Answers.{verdictOf, spent, place};
 ghost use Rattle.spectra.specs.Promises.{SpectrumPromise, CosinePromise, PairPromise, CountsPromise};
 
 // The answer of a call on recordings: a case for each refusal of document 01, or the counts that were spent.
@@ -43,7 +43,9 @@ pub fn spectrum(
     sine: &mut [i32],
     scratch: &mut [i64],
 ) -> Answer
-    ensures { λ r. ⌜ SpectrumPromise (now (recording .entry)) start length allowance (now (cosine .entry)) (now (sine .entry)) (now (scratch .entry)) (now (cosine .exit)) (now (sine .exit)) (now (scratch .exit)) r ⌝ }
+    ensures { λ r. ⌜ SpectrumPromise (now (recording .entry)) start length allowance
+        (now (cosine .entry)) (now (sine .entry)) (now (scratch .entry))
+        (now (cosine .exit)) (now (sine .exit)) (now (scratch .exit)) r ⌝ }
 {
     if !is_length(length) {
         return Answer::BadLength;
@@ -82,7 +84,9 @@ pub fn cosine(
     coefficients: &mut [i32],
     scratch: &mut [i64],
 ) -> Answer
-    ensures { λ r. ⌜ CosinePromise (now (recording .entry)) start length allowance (now (coefficients .entry)) (now (scratch .entry)) (now (coefficients .exit)) (now (scratch .exit)) r ⌝ }
+    ensures { λ r. ⌜ CosinePromise (now (recording .entry)) start length allowance
+        (now (coefficients .entry)) (now (scratch .entry))
+        (now (coefficients .exit)) (now (scratch .exit)) r ⌝ }
 {
     if !is_length(length) {
         return Answer::BadLength;
@@ -120,7 +124,9 @@ pub fn pair(
     imaginary: &mut [i32],
     scratch: &mut [i64],
 ) -> Answer
-    ensures { λ r. ⌜ PairPromise (now (a .entry)) (now (b .entry)) start length allowance (now (real .entry)) (now (imaginary .entry)) (now (scratch .entry)) (now (real .exit)) (now (imaginary .exit)) (now (scratch .exit)) r ⌝ }
+    ensures { λ r. ⌜ PairPromise (now (a .entry)) (now (b .entry)) start length allowance
+        (now (real .entry)) (now (imaginary .entry)) (now (scratch .entry))
+        (now (real .exit)) (now (imaginary .exit)) (now (scratch .exit)) r ⌝ }
 {
     if !is_length(length) {
         return Answer::BadLength;
@@ -193,7 +199,7 @@ pub fn number_of(answer: Answer) -> u64
 
 // The counts that an accepted call spent; else 0 and 0.
 pub fn spent_of(answer: Answer) -> Tally
-    ensures { λ r. ⌜ (r .products ≡ products answer) × (r .sums ≡ sums answer) ⌝ }
+    ensures { λ r. ⌜ (r .products ≡ spent answer .products) × (r .sums ≡ spent answer .sums) ⌝ }
 {
     let none = Tally {
         products: 0,
