@@ -21,6 +21,12 @@ use Rattle.counts.specs.declared.Counts.{Counts}
 zeros : Samples
 zeros n = pos 0
 
+abbrev pub FewCounts : Level → Type 0
+FewCounts l =
+    (l .cosine .products + l .cosine .sums ≤ 2 ^ 16)
+    × (l .sine .products + l .sine .sums ≤ 2 ^ 16)
+    × (l .dct .products + l .dct .sums ≤ 2 ^ 16)
+
 module _ {n : ℕ} {costs : Level} (l : LevelCosts n costs) where
   is-len : n ≡ 2 * len (l .below)
   is-len = l .is ∙ pow-len (suc (l .below))
@@ -48,14 +54,15 @@ module _ {n : ℕ} {costs : Level} (l : LevelCosts n costs) where
   }
 
   -- no count overflows a word
-  pub few-counts : n ≤ 1024 → (C .products + C .sums ≤ 2 ^ 16) × (S .products + S .sums ≤ 2 ^ 16) × (D .products + D .sums ≤ 2 ^ 16)
+  pub few-counts : n ≤ 1024 → FewCounts costs
   few-counts h =
       let top : suc (l .below) < suc topLevel = exponent-lt _ _ (omega (arith, l .is)) in
       omega (arith, at zeros, few-operations (suc (l .below)) zeros (omega arith), few-operations (l .below) zeros (omega arith))
 
   -- ---- the level above, by (24), (25) and (23)
   module _ {t : Tally} where
-    pub cosine-next : (t .products ≡ C .products + D .products) × (t .sums ≡ C .sums + D .sums + (n / 2 + n)) → Costs cosineDft (suc (suc (l .below))) t
+    pub cosine-next : (t .products ≡ C .products + D .products) × (t .sums ≡ C .sums + D .sums + (n / 2 + n))
+        → Costs cosineDft (suc (suc (l .below))) t
     cosine-next e = record {
       products = λ x. omega (arith, cosine-products (l .below) x, at (evens x), at (foldedSums (4 * len (l .below)) x));
       sums = λ x. omega (arith, is-len, cosine-sums (l .below) x, at (evens x), at (foldedSums (4 * len (l .below)) x));
@@ -98,10 +105,12 @@ six-published {N} h c =
       ofDct = (ap pos (c .ofDct .products zeros) ∙ forms .dctP zeros, ap pos (c .ofDct .sums zeros) ∙ forms .dctS zeros);
       ofSpectrum = λ l.
           let some = some-level N h l in
-          (ap pos (c .ofSpectrum zeros .0) ∙ forms .spectrumP zeros some, ap pos (c .ofSpectrum zeros .1) ∙ forms .spectrumS zeros some);
+          let (products, sums) = c .ofSpectrum zeros in
+          (ap pos products ∙ forms .spectrumP zeros some, ap pos sums ∙ forms .spectrumS zeros some);
       ofPair = λ l.
           let some = some-level N h l in
-          (ap pos (c .ofPair zeros zeros .0) ∙ forms .pairP zeros zeros some, ap pos (c .ofPair zeros zeros .1) ∙ forms .pairS zeros zeros some);
+          let (products, sums) = c .ofPair zeros zeros in
+          (ap pos products ∙ forms .pairP zeros zeros some, ap pos sums ∙ forms .pairS zeros zeros some);
       nothingAtOne = λ e.
           let c′ = rw (one-level N e) at c in
           let none = nothing-at-one zeros zeros in (

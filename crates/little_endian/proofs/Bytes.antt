@@ -21,7 +21,12 @@ record Four (file : List ℕ) (at : ℕ) : Type 0 where
   b₃ : byte file (at + 3) < 256
 
 four : (file : List ℕ) (at : ℕ) → AreBytes file → at + 4 ≤ length file → Four file at
-four file at h l = record { b₀ = h at (omega arith); b₁ = h (at + 1) (omega arith); b₂ = h (at + 2) (omega arith); b₃ = h (at + 3) (omega arith) }
+four file at h l = record {
+  b₀ = h at (omega arith);
+  b₁ = h (at + 1) (omega arith);
+  b₂ = h (at + 2) (omega arith);
+  b₃ = h (at + 3) (omega arith);
+}
 
 pub unsigned-fits : (file : List ℕ) (at : ℕ) → AreBytes file → at + 4 ≤ length file → unsigned file at < 2 ^ 32
 unsigned-fits file at h l = let b = four file at h l in omega arith
@@ -44,4 +49,5 @@ module _ (f g : List ℕ) (at : ℕ) (hf : AreBytes f) (hg : AreBytes g) (lf : a
       let (e₀, up) = lowest (upperThree f at) (upperThree g at) (b .b₀) (c .b₀) (omega arith) in
       let (e₁, two) = lowest (upperTwo f at) (upperTwo g at) (b .b₁) (c .b₁) up in
       let (e₂, e₃) = lowest (byte f (at + 3)) (byte g (at + 3)) (b .b₂) (c .b₂) two in
-      below-more (λ k. byte f (at + k) ≡ byte g (at + k)) 3 (below-more _ 2 (below-more _ 1 (below-more _ 0 (below-none _) (rw add-zero e₀)) e₁) e₂) e₃
+      let more = below-more (λ k. byte f (at + k) ≡ byte g (at + k)) in
+      more 3 (more 2 (more 1 (more 0 (below-none _) (rw add-zero e₀)) e₁) e₂) e₃

@@ -1,4 +1,5 @@
--- `signed`: what a number of 32 bits reads as below and from 2 ^ 31 on; that a word of the machine with these bits reads so; and that no two numbers read alike.
+-- `signed`: what a number of 32 bits reads as below and from 2 ^ 31 on; that a word of the machine with these bits reads so; and that no
+-- two numbers read alike.
 -- Assumes nothing.
 use mathlib.Core.Path.{_≡_, sym, ap, _∙_}
 use Prim.Native.Nat.{ℕ, suc, _-_, _^_, _≤_, _<_}

@@ -3,10 +3,12 @@ use Prim.Native.Nat.{_≤_}
 use native.Mathlib.Omega.{arith}
 use Rattle.refusals.specs.Refusals.{number}
 use Rattle.spectra.specs.declared.Answer.{Answer}
-use Rattle.spectra.specs.declared.Answer.the-variants.{BadLength, BeyondRecording, ResultTooShort, ScratchTooShort, AllowanceTooSmall, OutOfRange, Done}
+use Rattle.spectra.specs.declared.Answer.the-variants.{BadLength, BeyondRecording, ResultTooShort, ScratchTooShort}
+use Rattle.spectra.specs.declared.Answer.the-variants.{AllowanceTooSmall, OutOfRange, Done}
 use Rattle.spectra.specs.Answers.{verdictOf}
 use Rattle.pairfile.specs.declared.FileAnswer.{FileAnswer}
-use Rattle.pairfile.specs.declared.FileAnswer.the-variants.{BelowHeader, BadCount, BadFileLength, BadLength as BadBlockLength, RecordingTooShort, OutOfRange as FileOutOfRange, Read}
+use Rattle.pairfile.specs.declared.FileAnswer.the-variants.{BelowHeader, BadCount, BadFileLength, BadLength as BadBlockLength}
+use Rattle.pairfile.specs.declared.FileAnswer.the-variants.{RecordingTooShort, OutOfRange as FileOutOfRange, Read}
 use Rattle.pairfile.specs.Answers as file
 
 pub number-small : (answer : Answer) → number (verdictOf answer) ≤ 9

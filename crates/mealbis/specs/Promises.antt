@@ -1,5 +1,6 @@
--- What the exported functions promise, for every input: the record of the call that they make, and what the words hold through which C is told its answer. `number` is the
--- number returned: document 01's number of the refusal, and 0 where the call is accepted. A word marked ′ is one after the call.
+-- What the exported functions promise, for every input: the record of the call that they make, and what the words hold through which C is
+-- told its answer. `number` is the number returned: document 01's number of the refusal, and 0 where the call is accepted. A word marked ′
+-- is one after the call.
 use mathlib.Core.Bool.{true, false}
 use mathlib.Core.List.{List}
 use mathlib.Core.Path.{_≡_}
@@ -18,7 +19,8 @@ use Rattle.pairfile.specs.Promises.{ReadPromise}
 
 -- ---- the calls on recordings
 
--- The answer of a call in four plain numbers. By their definitions the counts are 0 in every refusal, and the place is 0 in every answer but refusal 6.
+-- The answer of a call in four plain numbers. By their definitions the counts are 0 in every refusal, and the place is 0 in every answer
+-- but refusal 6.
 pub record Told (answer : Answer) (products sums place number : ℕ) : Type 0 where
   pub number-is : number ≡ numberOf (verdictOf answer)
   pub products-is : products ≡ spent answer .products
@@ -26,25 +28,28 @@ pub record Told (answer : Answer) (products sums place number : ℕ) : Type 0 wh
   pub place-is : place ≡ placeOf answer
 
 -- There is an answer of which the promise of Spectrum holds, with these buffers before and after, and it is the answer told.
-pub record SpectrumTold (recording : List ℤ) (start N allowance : ℕ) (cosine sine scratch cosine′ sine′ scratch′ : List ℤ) (products′ sums′ place′ number : ℕ) : Type 0 where
+pub record SpectrumTold (recording : List ℤ) (start N allowance : ℕ)
+    (cosine sine scratch cosine′ sine′ scratch′ : List ℤ) (products′ sums′ place′ number : ℕ) : Type 0 where
   pub answer : Answer
   pub promise : SpectrumPromise recording start N allowance cosine sine scratch cosine′ sine′ scratch′ answer
   pub told : Told answer products′ sums′ place′ number
 
 -- The same of Cosine.
-pub record CosineTold (recording : List ℤ) (start N allowance : ℕ) (coefficients scratch coefficients′ scratch′ : List ℤ) (products′ sums′ place′ number : ℕ) : Type 0 where
+pub record CosineTold (recording : List ℤ) (start N allowance : ℕ)
+    (coefficients scratch coefficients′ scratch′ : List ℤ) (products′ sums′ place′ number : ℕ) : Type 0 where
   pub answer : Answer
   pub promise : CosinePromise recording start N allowance coefficients scratch coefficients′ scratch′ answer
   pub told : Told answer products′ sums′ place′ number
 
 -- The same of Pair.
-pub record PairTold (a b : List ℤ) (start N allowance : ℕ) (real imaginary scratch real′ imaginary′ scratch′ : List ℤ) (products′ sums′ place′ number : ℕ) : Type 0 where
+pub record PairTold (a b : List ℤ) (start N allowance : ℕ)
+    (real imaginary scratch real′ imaginary′ scratch′ : List ℤ) (products′ sums′ place′ number : ℕ) : Type 0 where
   pub answer : Answer
   pub promise : PairPromise a b start N allowance real imaginary scratch real′ imaginary′ scratch′ answer
   pub told : Told answer products′ sums′ place′ number
 
--- ---- the count query, which tests 1 alone: what its record says of an answer, said of the six words. Refusal 1 and six zeros where N is not one of the eleven lengths; else 0 and
--- the six counts of N, by the definitions and by the closed forms
+-- ---- the count query, which tests 1 alone: what its record says of an answer, said of the six words. Refusal 1 and six zeros where N is
+-- not one of the eleven lengths; else 0 and the six counts of N, by the definitions and by the closed forms
 pub record NothingTold (dctP dctS spectrumP spectrumS pairP pairS number : ℕ) : Type 0 where
   pub number-is : number ≡ 1
   pub dct-is : (dctP ≡ 0) × (dctS ≡ 0)

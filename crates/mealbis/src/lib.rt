@@ -1,6 +1,7 @@
-// The calls for programs in C and in Rust: plain numbers, slices as pointer and length, and the answer as document 01's number, 0 where the call is accepted. Counts,
-// sizes and place come back through lent words, which are written in every answer. No function asks anything of its input, and each promises the record of the
-// call that it makes (specs/Promises.antt). include/mealbis.h is written for who calls them.
+// The calls for programs in C and in Rust: plain numbers, slices as pointer and length, and the answer as document 01's number, 0 where
+// the call is accepted. Counts, sizes and place come back through lent words, which are written in every answer. No function asks anything
+// of its input, and each promises the record of the call that it makes (specs/Promises.antt). include/mealbis.h is written for who calls
+// them.
 use pairfile::FileAnswer;
 use spectra::Answer;
 use spectra::CountsAnswer;
@@ -45,7 +46,10 @@ pub extern "C" fn mealbis_spectrum(
     sums: &mut u64,
     place: &mut usize,
 ) -> u32
-    ensures { λ r. ⌜ SpectrumTold (now (recording .entry)) start length allowance (now (cosine .entry)) (now (sine .entry)) (now (scratch .entry)) (now (cosine .exit)) (now (sine .exit)) (now (scratch .exit)) (now (products .exit)) (now (sums .exit)) (now (place .exit)) r ⌝ }
+    ensures { λ r. ⌜ SpectrumTold (now (recording .entry)) start length allowance
+        (now (cosine .entry)) (now (sine .entry)) (now (scratch .entry))
+        (now (cosine .exit)) (now (sine .exit)) (now (scratch .exit))
+        (now (products .exit)) (now (sums .exit)) (now (place .exit)) r ⌝ }
 {
     let answer = spectra::spectrum(recording, start, length, allowance, cosine, sine, scratch);
     tell(answer, products, sums, place)
@@ -63,7 +67,10 @@ pub extern "C" fn mealbis_cosine(
     sums: &mut u64,
     place: &mut usize,
 ) -> u32
-    ensures { λ r. ⌜ CosineTold (now (recording .entry)) start length allowance (now (coefficients .entry)) (now (scratch .entry)) (now (coefficients .exit)) (now (scratch .exit)) (now (products .exit)) (now (sums .exit)) (now (place .exit)) r ⌝ }
+    ensures { λ r. ⌜ CosineTold (now (recording .entry)) start length allowance
+        (now (coefficients .entry)) (now (scratch .entry))
+        (now (coefficients .exit)) (now (scratch .exit))
+        (now (products .exit)) (now (sums .exit)) (now (place .exit)) r ⌝ }
 {
     let answer = spectra::cosine(recording, start, length, allowance, coefficients, scratch);
     tell(answer, products, sums, place)
@@ -83,7 +90,10 @@ pub extern "C" fn mealbis_pair(
     sums: &mut u64,
     place: &mut usize,
 ) -> u32
-    ensures { λ r. ⌜ PairTold (now (a .entry)) (now (b .entry)) start length allowance (now (real .entry)) (now (imaginary .entry)) (now (scratch .entry)) (now (real .exit)) (now (imaginary .exit)) (now (scratch .exit)) (now (products .exit)) (now (sums .exit)) (now (place .exit)) r ⌝ }
+    ensures { λ r. ⌜ PairTold (now (a .entry)) (now (b .entry)) start length allowance
+        (now (real .entry)) (now (imaginary .entry)) (now (scratch .entry))
+        (now (real .exit)) (now (imaginary .exit)) (now (scratch .exit))
+        (now (products .exit)) (now (sums .exit)) (now (place .exit)) r ⌝ }
 {
     let answer = spectra::pair(a, b, start, length, allowance, real, imaginary, scratch);
     tell(answer, products, sums, place)
@@ -100,7 +110,10 @@ pub extern "C" fn mealbis_counts(
     pair_products: &mut u64,
     pair_sums: &mut u64,
 ) -> u32
-    ensures { λ r. ⌜ CountsTold length (now («dct_products» .exit)) (now («dct_sums» .exit)) (now («spectrum_products» .exit)) (now («spectrum_sums» .exit)) (now («pair_products» .exit)) (now («pair_sums» .exit)) r ⌝ }
+    ensures { λ r. ⌜ CountsTold length
+        (now («dct_products» .exit)) (now («dct_sums» .exit))
+        (now («spectrum_products» .exit)) (now («spectrum_sums» .exit))
+        (now («pair_products» .exit)) (now («pair_sums» .exit)) r ⌝ }
 {
     match spectra::count_query(length) {
         CountsAnswer::Counted(counts) => {
@@ -134,7 +147,8 @@ pub extern "C" fn mealbis_read(
     length: &mut usize,
     place: &mut usize,
 ) -> u32
-    ensures { λ r. ⌜ ReadTold (now (file .entry)) (now (a .entry)) (now (b .entry)) (now (a .exit)) (now (b .exit)) (now (samples .exit)) (now (length .exit)) (now (place .exit)) r ⌝ }
+    ensures { λ r. ⌜ ReadTold (now (file .entry)) (now (a .entry)) (now (b .entry)) (now (a .exit)) (now (b .exit))
+        (now (samples .exit)) (now (length .exit)) (now (place .exit)) r ⌝ }
 {
     let answer = pairfile::read(file, a, b);
     tell_file(answer, samples, length, place)

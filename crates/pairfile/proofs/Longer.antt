@@ -1,4 +1,5 @@
--- A longer file answers as its first 32,777 bytes do: one byte more than the longest file that is accepted. So a program need not take in more than these.
+-- A longer file answers as its first 32,777 bytes do: one byte more than the longest file that is accepted. So a program need not take in
+-- more than these.
 -- Assumes nothing.
 use mathlib.Core.List.{List}
 use mathlib.Core.Path.{_≡_, refl, sym, ap, _∙_}
@@ -9,9 +10,10 @@ use lib.ListN.{length, take}
 use lib.Seq.{take-all, length-take-le, getD-take}
 use Rattle.whole.proofs.Cases.{le-or-lt}
 use Rattle.refusals.specs.Refusals.{accepted}
+use Rattle.little_endian.specs.Numbers.{byte}
 use Rattle.pairfile.specs.File.{sampleCount, mostSamples, fileBytes, fileVerdict}
 use Rattle.pairfile.specs.declared.FileAnswer.{FileAnswer}
-use Rattle.pairfile.proofs.Verdicts.{Passed7, TurnedDown, refused-8, refused-9, accepted-9}
+use Rattle.pairfile.proofs.Verdicts.{Passed7, Passed8, TurnedDown, refused-8, refused-9, accepted-9}
 
 -- the first n bytes have the file's verdict, and where it is acceptance they are the whole file
 pub record AnswersAsItsFirst (n : ℕ) (file lent : List ℕ) : Type 0 where
@@ -24,10 +26,14 @@ module _ (n : ℕ) (enough : fileBytes mostSamples < n) (file lent : List ℕ) w
     cut : length (take n file) ≡ n
     cut = length-take-le n file (omega arith)
 
-    same-count : sampleCount (take n file) ≡ sampleCount file
-    same-count = omega (arith, getD-take n file 0 0 (omega arith), getD-take n file 1 0 (omega arith), getD-take n file 2 0 (omega arith), getD-take n file 3 0 (omega arith))
+    same-byte : (k : ℕ) → k < n → byte (take n file) k ≡ byte file k
+    same-byte k l = getD-take n file k 0 l
 
-    alike : {answer : FileAnswer} → TurnedDown (take n file) lent answer → TurnedDown file lent answer → fileVerdict (take n file) lent ≡ fileVerdict file lent
+    same-count : sampleCount (take n file) ≡ sampleCount file
+    same-count = omega (arith, same-byte 0 (omega arith), same-byte 1 (omega arith), same-byte 2 (omega arith), same-byte 3 (omega arith))
+
+    alike : {answer : FileAnswer} → TurnedDown (take n file) lent answer → TurnedDown file lent answer
+        → fileVerdict (take n file) lent ≡ fileVerdict file lent
     alike t u = sym (t .verdict) ∙ u .verdict
 
     past : Passed7 file
@@ -41,9 +47,9 @@ module _ (n : ℕ) (enough : fileBytes mostSamples < n) (file lent : List ℕ) w
 
     too-long : 1 ≤ sampleCount file → sampleCount file ≤ mostSamples → fileVerdict (take n file) lent ≡ fileVerdict file lent
     too-long s m =
-        alike
-        (refused-9 (record { past = past-cut; some = omega (arith, same-count); most = omega (arith, same-count) }) (λ e. omega (arith, cut, same-count)))
-        (refused-9 (record { past = past; some = s; most = m }) (λ e. omega arith))
+        let p : Passed8 (take n file) = record { past = past-cut; some = omega (arith, same-count); most = omega (arith, same-count) } in
+        let q : Passed8 file = record { past = past; some = s; most = m } in
+        alike (refused-9 p (λ e. omega (arith, cut, same-count))) (refused-9 q (λ e. omega arith))
 
     both-refused : fileVerdict (take n file) lent ≡ fileVerdict file lent
     both-refused = ⊎-elim

@@ -1,4 +1,5 @@
--- "Two different accepted files never read as the same m, N and samples": a file is the list of its numbers of four bytes, and each of them is read.
+-- "Two different accepted files never read as the same m, N and samples": a file is the list of its numbers of four bytes, and each of
+-- them is read.
 -- Assumes nothing.
 use mathlib.Core.List.{List}
 use mathlib.Core.Path.{_≡_, subst}
@@ -33,9 +34,13 @@ module _ (f g : List ℕ) (hf : AreBytes f) (hg : AreBytes g) (p : Passed9 f) (q
   as-long = omega (arith, p .bytes, q .bytes, same .samples)
 
   -- equal samples, at the place of number w
-  sample-once : (w i j : ℕ) → w < 2 + 2 * sampleCount f → i ≡ 4 * w → j ≡ 4 * w → signed (unsigned f i) ≡ signed (unsigned g j) → unsigned f (4 * w) ≡ unsigned g (4 * w)
+  sample-once : (w i j : ℕ) → w < 2 + 2 * sampleCount f → i ≡ 4 * w → j ≡ 4 * w
+      → signed (unsigned f i) ≡ signed (unsigned g j) → unsigned f (4 * w) ≡ unsigned g (4 * w)
   sample-once w i j h eᵢ eⱼ e =
-      signed-once (unsigned-fits f (4 * w) hf (omega (arith, p .bytes))) (unsigned-fits g (4 * w) hg (omega (arith, p .bytes, as-long))) (rw (eᵢ, eⱼ) at e)
+      signed-once
+      (unsigned-fits f (4 * w) hf (omega (arith, p .bytes)))
+      (unsigned-fits g (4 * w) hg (omega (arith, p .bytes, as-long)))
+      (rw (eᵢ, eⱼ) at e)
 
   -- number w of the file: m, N, a sample of a or a sample of b
   number : (w : ℕ) → w < 2 + 2 * sampleCount f → unsigned f (4 * w) ≡ unsigned g (4 * w)
@@ -48,8 +53,10 @@ module _ (f g : List ℕ) (hf : AreBytes f) (hg : AreBytes g) (p : Passed9 f) (q
 
   byte-same : (k : ℕ) → k < length f → byte f k ≡ byte g k
   byte-same k h =
-      subst (λ i. byte f i ≡ byte g i) {x = 4 * (k / 4) + k % 4} {y = k} (omega arith)
-      (unsigned-once f g (4 * (k / 4)) hf hg (omega (arith, p .bytes)) (omega (arith, p .bytes, as-long)) (number (k / 4) (omega (arith, p .bytes))) (k % 4) (omega arith))
+      let w = k / 4 in
+      let once = unsigned-once f g (4 * w) hf hg (omega (arith, p .bytes)) (omega (arith, p .bytes, as-long)) in
+      subst (λ i. byte f i ≡ byte g i) {x = 4 * w + k % 4} {y = k} (omega arith)
+      (once (number w (omega (arith, p .bytes))) (k % 4) (omega arith))
 
 pub one-file : OneFile
 one-file f g lent lent′ hf hg af ag same =

@@ -1,5 +1,6 @@
--- The verdict on a file, condition by condition: what is known of a file that has passed the first tests, what each refusal follows from, and that an accepted file has
--- passed. A refusal is the whole promise of a reader that leaves the recordings as they are; the promise of an accepted file follows from what was written.
+-- The verdict on a file, condition by condition: what is known of a file that has passed the first tests, what each refusal follows from,
+-- and that an accepted file has passed. A refusal is the whole promise of a reader that leaves the recordings as they are; the promise of
+-- an accepted file follows from what was written.
 -- Assumes nothing.
 use mathlib.Core.Path.{_≡_, refl, sym, ap, subst, _∙_}
 use mathlib.Core.Logic.{_⊎_, inl, inr, ⊎-elim}
@@ -19,9 +20,11 @@ use Rattle.refusals.specs.Refusals.{someBelow, firstOutIn, refused, accepted}
 use Rattle.refusals.proofs.Ranges.{passed}
 use Rattle.refusals.proofs.Conditions.{AllReach, SomeBelow, all-reach, some-below, AllIn, OutAt, in-verdict, out-verdict, isAccepted}
 use Rattle.pairfile.specs.declared.FileAnswer.{FileAnswer}
-use Rattle.pairfile.specs.declared.FileAnswer.the-variants.{BelowHeader, BadCount, BadFileLength, BadLength, RecordingTooShort, OutOfRange, Read}
+use Rattle.pairfile.specs.declared.FileAnswer.the-variants.{BelowHeader, BadCount, BadFileLength, BadLength}
+use Rattle.pairfile.specs.declared.FileAnswer.the-variants.{RecordingTooShort, OutOfRange, Read}
 use Rattle.pairfile.specs.declared.Sizes.{Sizes}
-use Rattle.pairfile.specs.File.{sampleCount, blockLength, samplesAt, startOfA, startOfB, samplesOfA, samplesOfB, headerBytes, mostSamples, fileBytes, fileVerdict}
+use Rattle.pairfile.specs.File.{sampleCount, blockLength, samplesAt, startOfA, startOfB, samplesOfA, samplesOfB}
+use Rattle.pairfile.specs.File.{headerBytes, mostSamples, fileBytes, fileVerdict}
 use Rattle.pairfile.specs.Answers.{verdictOf}
 use Rattle.pairfile.specs.Promises.{ReadPromise}
 
@@ -58,7 +61,9 @@ module _ {file : List ℕ} where
   count-good : Passed8 file → (eqb (sampleCount file) 0 || ltb mostSamples (sampleCount file)) ≡ false
   count-good p = rw (ne-eqb (sampleCount file) 0 (λ e. omega arith), le-ltb _ _ (p .most))
 
-  past-1 : Passed1 file → (lent : List ℕ) → fileVerdict file lent ≡ cond (someBelow (sampleCount file) lent) (refused 3) (firstOutIn (recordingsOf file) 0 (sampleCount file))
+  past-1 : Passed1 file → (lent : List ℕ) →
+      let m = sampleCount file in
+      fileVerdict file lent ≡ cond (someBelow m lent) (refused 3) (firstOutIn (recordingsOf file) 0 m)
   unfolding fileVerdict
   past-1 p lent = let q = p .past in rw (le-ltb _ _ (q .past .past .header), count-good (q .past), eq-eqb _ _ (q .bytes), p .blocks)
 
@@ -68,7 +73,8 @@ pub record TurnedDown (file lent : List ℕ) (answer : FileAnswer) : Type 0 wher
   pub never : verdictOf answer ≡ accepted → ⊥
 
 module _ {file lent : List ℕ} where
-  down : {answer : FileAnswer} → isAccepted (verdictOf answer) ≡ false → fileVerdict file lent ≡ verdictOf answer → TurnedDown file lent answer
+  down : {answer : FileAnswer} → isAccepted (verdictOf answer) ≡ false → fileVerdict file lent ≡ verdictOf answer
+      → TurnedDown file lent answer
   down f e = record { verdict = sym e; never = λ a. false≢true (sym f ∙ ap isAccepted a) }
 
   pub refused-7 : length file < headerBytes → TurnedDown file lent BelowHeader
@@ -94,7 +100,8 @@ module _ {file lent : List ℕ} where
   past-3 : Passed3 file lent → fileVerdict file lent ≡ firstOutIn (recordingsOf file) 0 (sampleCount file)
   past-3 p = past-1 (p .past) lent ∙ rw (all-reach (sampleCount file) lent (p .recordings))
 
-  pub refused-6 : {place : ℕ} → Passed3 file lent → OutAt (recordingsOf file) 0 (sampleCount file) place → TurnedDown file lent (OutOfRange place)
+  pub refused-6 : {place : ℕ} → Passed3 file lent → OutAt (recordingsOf file) 0 (sampleCount file) place
+      → TurnedDown file lent (OutOfRange place)
   refused-6 p h = down refl (past-3 p ∙ out-verdict (recordingsOf file) 0 (sampleCount file) _ h)
 
   pub is-accepted : Passed6 file lent → fileVerdict file lent ≡ accepted
@@ -127,8 +134,10 @@ module _ {file : List ℕ} {a b : List ℤ} where
   pub read-refused : {answer : FileAnswer} → TurnedDown file (length a ∷ length b ∷ []) answer → ReadPromise file a b a b answer
   read-refused t = record { verdict = t .verdict; unchanged = λ _. (refl, refl); done = λ d. absurd (t .never d) }
 
-  pub read-accepted : {a′ b′ : List ℤ} (sizes : Sizes) → Passed6 file (length a ∷ length b ∷ []) → sizes .samples ≡ sampleCount file → sizes .length ≡ blockLength file
-      → Written 0 (sizes .samples) (samplesAt file startOfA) a a′ → Written 0 (sizes .samples) (samplesAt file (startOfB (sizes .samples))) b b′
+  pub read-accepted : {a′ b′ : List ℤ} (sizes : Sizes) → Passed6 file (length a ∷ length b ∷ [])
+      → sizes .samples ≡ sampleCount file → sizes .length ≡ blockLength file
+      → Written 0 (sizes .samples) (samplesAt file startOfA) a a′
+      → Written 0 (sizes .samples) (samplesAt file (startOfB (sizes .samples))) b b′
       → ReadPromise file a b a′ b′ (Read sizes)
   read-accepted {b′ = b′} sizes p e l v w = let counted = p .past .past .past .past in record {
     verdict = sym (is-accepted p);

@@ -42,7 +42,8 @@ mostSamples = 4096
 abbrev pub fileBytes : ℕ → ℕ
 fileBytes m = 8 + 8 * m
 
--- "A file tests 7, 8, 9, 1, 3, then 6 over all m samples of a and then of b." 3: "for a file, a lent recording is shorter than m"; `lent` are the lengths of the recordings
+-- "A file tests 7, 8, 9, 1, 3, then 6 over all m samples of a and then of b." 3: "for a file, a lent recording is shorter than m";
+-- `lent` are the lengths of the recordings
 unfoldable pub fileVerdict : List ℕ → List ℕ → Verdict
 fileVerdict file lent =
     cond (ltb (length file) headerBytes) (refused 7)

@@ -1,5 +1,5 @@
-// The reader of the pair file. It asks nothing of its input: it tests document 01's refusals in their order, before anything is written, and promises its whole
-// outcome (specs/Promises.antt).
+// The reader of the pair file. It asks nothing of its input: it tests document 01's refusals in their order, before anything is written,
+// and promises its whole outcome (specs/Promises.antt).
 use little_endian::signed_at;
 use little_endian::unsigned_at;
 use refusals::length::is_length;

@@ -1,5 +1,5 @@
-// pairspec: reads a pair file from standard input and prints the spectra of its blocks (document 01, "The pair file"). All that it prints is what the library
-// function `report::put_output` puts into the page: the definition `output` of the bytes that were read.
+// pairspec: reads a pair file from standard input and prints the spectra of its blocks (document 01, "The pair file"). All that it prints
+// is what the library function `report::put_output` puts into the page: the definition `output` of the bytes that were read.
 use libc::STDIN_FILENO;
 use libc::STDOUT_FILENO;
 use report::put_output;

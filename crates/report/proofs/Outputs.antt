@@ -16,7 +16,8 @@ use Rattle.ffct.proofs.Blocks.{pair-same}
 use Rattle.refusals.specs.Refusals.{Verdict, refused, refusedAt, accepted, number}
 use Rattle.text.specs.Lines.{heading, refusal, lines}
 use Rattle.pairfile.specs.declared.FileAnswer.{FileAnswer}
-use Rattle.pairfile.specs.declared.FileAnswer.the-variants.{BelowHeader, BadCount, BadFileLength, BadLength, RecordingTooShort, OutOfRange, Read}
+use Rattle.pairfile.specs.declared.FileAnswer.the-variants.{BelowHeader, BadCount, BadFileLength, BadLength}
+use Rattle.pairfile.specs.declared.FileAnswer.the-variants.{RecordingTooShort, OutOfRange, Read}
 use Rattle.pairfile.specs.File.{sampleCount, blockLength, samplesOfA, samplesOfB, mostSamples, fileVerdict}
 use Rattle.pairfile.specs.Answers.{verdictOf}
 use Rattle.pairfile.specs.Promises.{ReadDone}
@@ -46,7 +47,8 @@ none-accepted (Read sizes) e = refl
 
 -- ---- the output, by the answer of the reader
 module _ (file : List ℕ) where
-  pub refused-output : (answer : FileAnswer) → verdictOf answer ≡ fileVerdict file (mostSamples ∷ mostSamples ∷ []) → (number (verdictOf answer) ≡ 0 → ⊥)
+  pub refused-output : (answer : FileAnswer)
+      → verdictOf answer ≡ fileVerdict file (mostSamples ∷ mostSamples ∷ []) → (number (verdictOf answer) ≡ 0 → ⊥)
       → output file ≡ refusal (number (verdictOf answer))
   unfolding output
   refused-output BelowHeader e n = rw (sym e) refl
@@ -57,13 +59,15 @@ module _ (file : List ℕ) where
   refused-output (OutOfRange place) e n = rw (sym e) refl
   refused-output (Read sizes) e n = absurd (n refl)
 
-  pub read-output : (answer : FileAnswer) → verdictOf answer ≡ fileVerdict file (mostSamples ∷ mostSamples ∷ []) → verdictOf answer ≡ accepted
+  pub read-output : (answer : FileAnswer)
+      → verdictOf answer ≡ fileVerdict file (mostSamples ∷ mostSamples ∷ []) → verdictOf answer ≡ accepted
       → output file ≡ spectra (sampleCount file) (blockLength file) (samplesOfA file) (samplesOfB file)
   unfolding output
   read-output answer e a = rw (sym e ∙ a) refl
 
 -- ---- equal recordings have equal lines
-module _ {m : ℕ} (N : ℕ) (ok : isLength N ≡ true) (a a′ b b′ : Samples) (e : (n : ℕ) → n < m → a n ≡ a′ n) (d : (n : ℕ) → n < m → b n ≡ b′ n) where
+module _ {m : ℕ} (N : ℕ) (ok : isLength N ≡ true) (a a′ b b′ : Samples)
+    (e : (n : ℕ) → n < m → a n ≡ a′ n) (d : (n : ℕ) → n < m → b n ≡ b′ n) where
   same-pair : (i : ℕ) → i * N + N ≤ m → pairAt N a b i ≡ pairAt N a′ b′ i
   same-pair i h = pair-same (level N) _ _ _ _
       (λ n l. e (i * N + n) (omega (arith, pow-len (level N), is-power N ok)))
@@ -80,12 +84,13 @@ module _ {m : ℕ} (N : ℕ) (ok : isLength N ≡ true) (a a′ b b′ : Samples
 module _ {file : List ℕ} {a b a′ b′ : List ℤ} {m N : ℕ} (r : ReadDone file a b a′ b′ m N) where
   pub read-spectra : spectra m N (word a′) (word b′) ≡ spectra (sampleCount file) (blockLength file) (samplesOfA file) (samplesOfB file)
   read-spectra =
-      ap (λ l. heading ++ l)
-      (same-blocks N (r .length-ok) (word a′) (samplesOfA file) (word b′) (samplesOfB file) (front (r .wordsOfA)) (front (r .wordsOfB)) (m / N) (whole-blocks (m / N) m N (r .length-ok) (omega arith)))
+      let ok = r .length-ok in
+      let same = same-blocks N ok (word a′) (samplesOfA file) (word b′) (samplesOfB file) (front (r .wordsOfA)) (front (r .wordsOfB)) in
+      ap (λ l. heading ++ l) (same (m / N) (whole-blocks (m / N) m N ok (omega arith)))
       ∙ ap₂ (λ m N. spectra m N (samplesOfA file) (samplesOfB file)) (r .samples) (r .length)
 
-  pub read-printable : {real imaginary scratch : List ℤ} → mostSamples ≤ length a → mostSamples ≤ length b → 1024 ≤ length real → 1024 ≤ length imaginary
-      → 8256 ≤ length scratch → Printable m N a′ b′ real imaginary scratch
+  pub read-printable : {real imaginary scratch : List ℤ} → mostSamples ≤ length a → mostSamples ≤ length b
+      → 1024 ≤ length real → 1024 ≤ length imaginary → 8256 ≤ length scratch → Printable m N a′ b′ real imaginary scratch
   read-printable f g h i j =
       let short = length-le N (r .length-ok) in
       record {
@@ -109,5 +114,6 @@ same-print accepted f g e = ap (λ f. printed f accepted) (e refl)
 pub longer-output : (file : List ℕ) → output (take firstBytes file) ≡ output file
 unfolding output
 longer-output file =
-    let l = longer file (mostSamples ∷ mostSamples ∷ []) in
-    ap (printed (take firstBytes file)) (l .verdict) ∙ same-print (fileVerdict file (mostSamples ∷ mostSamples ∷ [])) (take firstBytes file) file (l .whole)
+    let lent = mostSamples ∷ mostSamples ∷ [] in
+    let l = longer file lent in
+    ap (printed (take firstBytes file)) (l .verdict) ∙ same-print (fileVerdict file lent) (take firstBytes file) file (l .whole)

@@ -23,7 +23,7 @@ use Rattle.spectra.proofs.Verdicts.{is-accepted}
 use Rattle.text.specs.Lines.{line, lines}
 use Rattle.text.specs.Put.{Put}
 use Rattle.text.proofs.Putting.{put-none, _then_}
-use Rattle.report.specs.Output.{pairAt, blockLines}
+use Rattle.report.specs.Output.{linesAt, blockLines}
 use Rattle.report.specs.Puts.{Printable, PutFrom}
 
 -- ---- Pair accepts a block of recordings that are printable up to its end
@@ -46,11 +46,14 @@ module _ (i : ℕ) {N allowance : ℕ} {a b real imaginary scratch real′ imagi
   }))
 
 -- ---- equal coefficients have equal lines
-pub lines-same : (i : ℕ) (f f′ g g′ : Samples) (n : ℕ) → ((k : ℕ) → k < n → f k ≡ f′ k) → ((k : ℕ) → k < n → g k ≡ g′ k) → lines i f g n ≡ lines i f′ g′ n
+pub lines-same : (i : ℕ) (f f′ g g′ : Samples) (n : ℕ) → ((k : ℕ) → k < n → f k ≡ f′ k) → ((k : ℕ) → k < n → g k ≡ g′ k)
+    → lines i f g n ≡ lines i f′ g′ n
 unfolding lines
 lines-same i f f′ g g′ zero e d = refl
 lines-same i f f′ g g′ (suc n) e d =
-    ap₂ _++_ (lines-same i f f′ g g′ n (λ k h. e k (omega arith)) (λ k h. d k (omega arith))) (ap₂ (line i n) (e n (omega arith)) (d n (omega arith)))
+    ap₂ _++_
+    (lines-same i f f′ g g′ n (λ k h. e k (omega arith)) (λ k h. d k (omega arith)))
+    (ap₂ (line i n) (e n (omega arith)) (d n (omega arith)))
 
 -- ---- the number of a block, and the lines of all blocks up to it, are small
 pub some-samples : (N : ℕ) → isLength N ≡ true → 1 ≤ N
@@ -65,8 +68,10 @@ whole-blocks i m N h l = omega (arith, some-samples N h, mul-le-mul-right N l, d
 pub next-block : (i N : ℕ) → (i + 1) * N ≡ i * N + N
 next-block i N = rw add-one (suc-mul i N)
 
-pub printable-block : {m N : ℕ} (i : ℕ) {a b real imaginary scratch real′ imaginary′ scratch′ : List ℤ} → Printable m N a b real imaginary scratch → i < m / N
-    → length real′ ≡ length real → length imaginary′ ≡ length imaginary → length scratch′ ≡ length scratch → Printable (i * N + N) N a b real′ imaginary′ scratch′
+pub printable-block : {m N : ℕ} (i : ℕ) {a b real imaginary scratch real′ imaginary′ scratch′ : List ℤ}
+    → Printable m N a b real imaginary scratch → i < m / N
+    → length real′ ≡ length real → length imaginary′ ≡ length imaginary → length scratch′ ≡ length scratch
+    → Printable (i * N + N) N a b real′ imaginary′ scratch′
 printable-block {m} {N} i p l r s t =
     let fits : i * N + N ≤ m = omega (arith, whole-blocks (i + 1) m N (p .length-ok) (omega arith), next-block i N) in
     record {
@@ -82,7 +87,8 @@ printable-block {m} {N} i p l r s t =
     }
 
 -- ---- what the loop over the blocks has put when it comes to block i
-pub record Blocks (N : ℕ) (a b : List ℤ) (i at : ℕ) (page : List ℕ) (next : ℕ) (page′ : List ℕ) (real imaginary scratch real′ imaginary′ scratch′ : List ℤ) : Type 0 where
+pub record Blocks (N : ℕ) (a b : List ℤ) (i at : ℕ) (page : List ℕ) (next : ℕ) (page′ : List ℕ)
+    (real imaginary scratch real′ imaginary′ scratch′ : List ℤ) : Type 0 where
   pub put : Put page at (blockLines N (word a) (word b) i) next page′
   pub fits : next ≤ at + 34 * (i * N)
   pub realWords : length real′ ≡ length real
@@ -96,7 +102,7 @@ module _ (N : ℕ) (a b : List ℤ) {at : ℕ} {page : List ℕ} {real imaginary
 
   pub one-more : (i : ℕ) {next next′ : ℕ} {page′ page″ : List ℕ} {real′ imaginary′ scratch′ real″ imaginary″ scratch″ : List ℤ}
       → Blocks N a b i at page next page′ real imaginary scratch real′ imaginary′ scratch′
-      → PutFrom page′ next (lines i (pairAt N (word a) (word b) i .real) (pairAt N (word a) (word b) i .imaginary) N) (34 * N) next′ page″ real′ imaginary′ scratch′ real″ imaginary″ scratch″
+      → PutFrom page′ next (linesAt N (word a) (word b) i) (34 * N) next′ page″ real′ imaginary′ scratch′ real″ imaginary″ scratch″
       → Blocks N a b (i + 1) at page next′ page″ real imaginary scratch real″ imaginary″ scratch″
   unfolding blockLines
   one-more i p q = record {

@@ -12,10 +12,13 @@ use Rattle.pairfile.specs.File.{sampleCount, blockLength, samplesOfA, samplesOf
 abbrev pub pairAt : ℕ → Samples → Samples → ℕ → PairSpectrum
 pairAt N a b i = pair (level N) (λ n. a (i * N + n)) (λ n. b (i * N + n))
 
--- "a line for each block and k": the lines of the blocks 0 .. count - 1
+-- "a line for each block and k": the lines of block number i, and those of the blocks 0 .. count - 1
+abbrev pub linesAt : ℕ → Samples → Samples → ℕ → List ℕ
+linesAt N a b i = lines i (pairAt N a b i .real) (pairAt N a b i .imaginary) N
+
 unfoldable pub blockLines : ℕ → Samples → Samples → ℕ → List ℕ
 blockLines N a b zero = []
-blockLines N a b (suc i) = blockLines N a b i ++ lines i (pairAt N a b i .real) (pairAt N a b i .imaginary) N
+blockLines N a b (suc i) = blockLines N a b i ++ linesAt N a b i
 
 -- "A tail shorter than N is left out of the blocks; if m is below N there is no block."
 abbrev pub blockCount : ℕ → ℕ → ℕ

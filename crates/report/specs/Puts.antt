@@ -23,7 +23,8 @@ pub record Printable (m N : ℕ) (a b real imaginary scratch : List ℤ) : Type 
   pub scratchFits : scratchWords N ≤ length scratch
 
 -- a text is put, of at most `most` bytes; the words to work in are the program's choice, and keep their number
-pub record PutFrom (page : List ℕ) (at : ℕ) (text : List ℕ) (most next : ℕ) (page′ : List ℕ) (real imaginary scratch real′ imaginary′ scratch′ : List ℤ) : Type 0 where
+pub record PutFrom (page : List ℕ) (at : ℕ) (text : List ℕ) (most next : ℕ) (page′ : List ℕ)
+    (real imaginary scratch real′ imaginary′ scratch′ : List ℤ) : Type 0 where
   pub put : Put page at text next page′
   pub fits : next ≤ at + most
   pub realWords : length real′ ≡ length real

@@ -15,9 +15,8 @@ ghost use lib.ListN.{length};
 ghost use Rattle.words.specs.Words.{Samples, word};
 ghost use Rattle.ffct.specs.Block.{isLength, level};
 ghost use Rattle.ffct.specs.Transforms.{pair as pairOf};
-ghost use Rattle.text.specs.Lines.{lines};
 ghost use Rattle.text.specs.Put.{Put};
-ghost use Rattle.report.specs.Output.{pairAt, spectra, output};
+ghost use Rattle.report.specs.Output.{linesAt, spectra, output};
 ghost use Rattle.report.specs.Puts.{Printable, PutFrom};
 
 // Just Pair's products, for one block of n samples.
@@ -43,8 +42,12 @@ fn put_block(
     page: &mut [u8],
     at: usize,
 ) -> usize
-    requires { ⌜ Printable (block * n + n) n (now a) (now b) (now real) (now imaginary) (now scratch) × (at + 34 * n ≤ length (now page)) ⌝ }
-    ensures { λ r. ⌜ PutFrom (now (page .entry)) at (lines block (pairAt n (word (now (a .entry))) (word (now (b .entry))) block .real) (pairAt n (word (now (a .entry))) (word (now (b .entry))) block .imaginary) n) (34 * n) r (now (page .exit)) (now (real .entry)) (now (imaginary .entry)) (now (scratch .entry)) (now (real .exit)) (now (imaginary .exit)) (now (scratch .exit)) ⌝ }
+    requires { ⌜ Printable (block * n + n) n (now a) (now b) (now real) (now imaginary) (now scratch)
+        × (at + 34 * n ≤ length (now page)) ⌝ }
+    ensures { λ r. ⌜ PutFrom (now (page .entry)) at
+        (linesAt n (word (now (a .entry))) (word (now (b .entry))) block) (34 * n) r (now (page .exit))
+        (now (real .entry)) (now (imaginary .entry)) (now (scratch .entry))
+        (now (real .exit)) (now (imaginary .exit)) (now (scratch .exit)) ⌝ }
 {
     let allowance = pair_products(n);
     pair(a, b, block * n, n, allowance, real, imaginary, scratch);
@@ -63,7 +66,10 @@ fn put_spectra(
     page: &mut [u8],
 ) -> usize
     requires { ⌜ Printable m n (now a) (now b) (now real) (now imaginary) (now scratch) × (14 + 34 * m ≤ length (now page)) ⌝ }
-    ensures { λ r. ⌜ PutFrom (now (page .entry)) 0 (spectra m n (word (now (a .entry))) (word (now (b .entry)))) (14 + 34 * m) r (now (page .exit)) (now (real .entry)) (now (imaginary .entry)) (now (scratch .entry)) (now (real .exit)) (now (imaginary .exit)) (now (scratch .exit)) ⌝ }
+    ensures { λ r. ⌜ PutFrom (now (page .entry)) 0
+        (spectra m n (word (now (a .entry))) (word (now (b .entry)))) (14 + 34 * m) r (now (page .exit))
+        (now (real .entry)) (now (imaginary .entry)) (now (scratch .entry))
+        (now (real .exit)) (now (imaginary .exit)) (now (scratch .exit)) ⌝ }
 {
     let count = m / n;
     let mut at = put_heading(page, 0);
@@ -75,7 +81,8 @@ fn put_spectra(
     at
 }
 
-// The whole output for a file. The page has room for 4,096 lines of 34 bytes below the heading. What stands in the other lent words afterwards is the program's choice.
+// The whole output for a file. The page has room for 4,096 lines of 34 bytes below the heading. What stands in the other lent words
+// afterwards is the program's choice.
 pub fn put_output(
     file: &[u8],
     a: &mut [i32],
@@ -85,7 +92,9 @@ pub fn put_output(
     scratch: &mut [i64],
     page: &mut [u8],
 ) -> usize
-    requires { ⌜ (length (now a) ≡ 4096) × (length (now b) ≡ 4096) × (1024 ≤ length (now real)) × (1024 ≤ length (now imaginary)) × (8256 ≤ length (now scratch)) × (139278 ≤ length (now page)) ⌝ }
+    requires { ⌜ (length (now a) ≡ 4096) × (length (now b) ≡ 4096)
+        × (1024 ≤ length (now real)) × (1024 ≤ length (now imaginary)) × (8256 ≤ length (now scratch))
+        × (139278 ≤ length (now page)) ⌝ }
     ensures { λ r. ⌜ Put (now (page .entry)) 0 (output (now (file .entry))) r (now (page .exit)) ⌝ }
 {
     let answer = read(file, a, b);

@@ -1,5 +1,5 @@
-// Runs the four calls, and writes what each answers and what then stands in its buffers. The file stdout beside src/ was made by tests/spectra.py, which shares
-// nothing with the product.
+// Runs the four calls, and writes what each answers and what then stands in its buffers. The file stdout beside src/ was made by
+// tests/spectra.py, which shares nothing with the product.
 use counts::tally::Tally;
 use libc::STDOUT_FILENO;
 use spectra::Answer;
@@ -402,7 +402,8 @@ fn put_from(words: &mut [i32], start: usize, value: i32) {
     }
 }
 
-// 1: the length; 2, 3: recording a, b; 4, 5: the first, the second result; 6: scratch; 7: the allowance; 8, 9: a sample of a, of b; 0: none.
+// 1: the length; 2, 3: recording a, b; 4, 5: the first, the second result; 6: scratch; 7: the allowance; 8, 9: a sample of a, of b;
+// 0: none.
 fn run_refusals(i: usize, j: usize) {
     let mut a = [2000000i32; 10];
     let mut b = [-2000000i32; 10];

@@ -1,5 +1,5 @@
--- The digits of a number (`number` and `decimal` of specs/Decimal): those that `io::decimal` writes, the sign, how wide numbers and lines are, and that a number is read back
--- from its digits. Assumes nothing.
+-- The digits of a number (`number` and `decimal` of specs/Decimal): those that `io::decimal` writes, the sign, how wide numbers and lines
+-- are, and that a number is read back from its digits. Assumes nothing.
 use mathlib.Core.Path.{_≡_, refl, ap, ap₂}
 use mathlib.Core.Bool.{true, false, true≢false}
 use mathlib.Core.List.{List, [], _∷_, _++_, List·Memᴰ, List·Memᴰ·append-cases, List·Memᴰ·eq-of-singleton}
@@ -43,7 +43,9 @@ digits-spelled (suc k) (suc f) n h a b =
     let l : 10 ^ k * 10 ≤ n = rw pow-suc at (b (omega arith)) in
     let z : 10 ≤ n = omega (arith, one-le-pow k 10 (omega arith)) in
     rw (spelled-long f n z)
-    (ap₂ _++_ (digits-spelled k f (n / 10) (omega arith) (omega arith) (λ _. omega arith)) (glyph-digit (n % 10) (n % 10) (omega arith) refl))
+    (ap₂ _++_
+    (digits-spelled k f (n / 10) (omega arith) (omega arith) (λ _. omega arith))
+    (glyph-digit (n % 10) (n % 10) (omega arith) refl))
 
 -- a number of 64 bits has at most 20 digits
 at-most-twenty : (k n : ℕ) → n < 2 ^ 64 → (1 < k → 10 ^ (k - 1) ≤ n) → k ≤ 20
@@ -78,8 +80,9 @@ spelled-length : (f d n : ℕ) → n < 10 ^ suc d → length (spelled f n) ≤ s
 spelled-length zero d n h = unfold spelled in omega arith
 spelled-length (suc f) zero n h = rw (spelled-short (suc f) n h) (omega arith)
 spelled-length (suc f) (suc d) n h =
+    let front : length (spelled f (n / 10)) ≤ suc d = spelled-length f d (n / 10) (omega (arith, rw pow-suc at h)) in
     ⊎-elim
-    (λ l. rw (spelled-long f n l) (omega (arith, length-append (spelled f (n / 10)) (digit (n % 10) ∷ []), spelled-length f d (n / 10) (omega (arith, rw pow-suc at h)))))
+    (λ l. rw (spelled-long f n l) (omega (arith, length-append (spelled f (n / 10)) (digit (n % 10) ∷ []))))
     (λ l. rw (spelled-short (suc f) n l) (omega arith))
     (le-or-lt 10 n)
 

@@ -87,8 +87,10 @@ pub fn put_lines(
     page: &mut [u8],
     at: usize,
 ) -> usize
-    requires { ⌜ (block < 10000) × (n ≤ 1024) × (n ≤ length (now real)) × (n ≤ length (now imaginary)) × (at + 34 * n ≤ length (now page)) ⌝ }
-    ensures { λ r. ⌜ Put (now (page .entry)) at (lines block (word (now (real .entry))) (word (now (imaginary .entry))) n) r (now (page .exit)) × (r ≤ at + 34 * n) ⌝ }
+    requires { ⌜ (block < 10000) × (n ≤ 1024)
+        × (n ≤ length (now real)) × (n ≤ length (now imaginary)) × (at + 34 * n ≤ length (now page)) ⌝ }
+    ensures { λ r. ⌜ Put (now (page .entry)) at
+        (lines block (word (now (real .entry))) (word (now (imaginary .entry))) n) r (now (page .exit)) × (r ≤ at + 34 * n) ⌝ }
 {
     let mut next = at;
     let mut k = 0;

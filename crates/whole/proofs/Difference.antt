@@ -74,7 +74,8 @@ minus-neg (pos zero) = refl
 minus-neg (pos (suc n)) = refl
 minus-neg (negsuc n) = refl
 
-pub product-parts : (a b : ℤ) → (plus (a *ℤ b) ≡ plus a * plus b + minus a * minus b) × (minus (a *ℤ b) ≡ plus a * minus b + minus a * plus b)
+pub product-parts : (a b : ℤ) →
+    (plus (a *ℤ b) ≡ plus a * plus b + minus a * minus b) × (minus (a *ℤ b) ≡ plus a * minus b + minus a * plus b)
 unfolding plus minus
 product-parts (pos a) (pos b) = omega arith
 product-parts (pos a) (negsuc b) = (plus-neg (pos (a * suc b)) ∙ omega arith, minus-neg (pos (a * suc b)) ∙ omega arith)

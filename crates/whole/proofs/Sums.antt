@@ -66,7 +66,8 @@ sum-even-odd zero f = refl
 sum-even-odd (suc N) f =
     ap (λ m. sum m f) {x = 2 * suc N} {y = suc (suc (2 * N))} (omega arith)
     ∙ ap₂ (λ z m. z +ℤ f (2 * N) +ℤ f m) {u = suc (2 * N)} {v = 2 * N + 1} (sum-even-odd N f) (omega arith)
-    ∙ rw (parts (sum N (λ n. f (2 * n))), parts (sum N (λ n. f (2 * n + 1))), parts (f (2 * N)), parts (f (2 * N + 1))) (simp diff (omega near))
+    ∙ rw (parts (sum N (λ n. f (2 * n))), parts (sum N (λ n. f (2 * n + 1))), parts (f (2 * N)), parts (f (2 * N + 1)))
+    (simp diff (omega near))
 
 -- N terms of size at most M
 pub sum-within : (N : ℕ) (f : ℕ → ℤ) {M : ℕ} → ((n : ℕ) → n < N → f n within M) → sum N f within N * M

@@ -1,4 +1,5 @@
--- The tail of a slice that is lent and comes back: `part a xs` is what the callee is handed, and `back a xs ys` the whole when the callee has left ys.
+-- The tail of a slice that is lent and comes back: `part a xs` is what the callee is handed, and `back a xs ys` the whole when the callee
+-- has left ys.
 -- Assumes nothing.
 use mathlib.Core.Path.{_≡_, sym, ap, _∙_}
 use mathlib.Core.List.{List, _++_, append-nil}
@@ -36,7 +37,9 @@ module _ (a : ℕ) (xs ys : List ℤ) (h : a ≤ length xs) where
 
   pub back-front : (k : ℕ) → k < a → word (back a xs ys) k ≡ word xs k
   back-front k l =
-      ap (λ m. word m k) (back-is a xs ys) ∙ List·getD-append (take a xs) ys (pos 0) k (omega (arith, length-take-le a xs h)) ∙ getD-take a xs k (pos 0) l
+      ap (λ m. word m k) (back-is a xs ys)
+      ∙ List·getD-append (take a xs) ys (pos 0) k (omega (arith, length-take-le a xs h))
+      ∙ getD-take a xs k (pos 0) l
 
   pub back-at : (k : ℕ) → word (back a xs ys) (a + k) ≡ word ys k
   back-at k =

@@ -1,4 +1,5 @@
--- Loops that write the m elements from place b on, from the front and from the back (`Ends`), up to all of them (`WrittenOf` of specs/Words).
+-- Loops that write the m elements from place b on, from the front and from the back (`Ends`), up to all of them (`WrittenOf` of
+-- specs/Words).
 --     ends-none       before the first store
 --     ends-front      one store more at the front; `ends-back` at the back
 --     ends-turn       one store more at each end
@@ -13,11 +14,10 @@
 --     written-first   the first element, after those behind it
 --     written-same    the same elements by another name
 -- Assumes nothing.
-use mathlib.Core.Path.{_≡_, refl, sym, _∙_, ap, subst}
+use mathlib.Core.Path.{_≡_, refl, sym, _∙_, ap}
 use mathlib.Core.List.{List, [], _∷_}
 use mathlib.Core.Logic.{⊎-elim}
 use Prim.Native.Nat.{ℕ, suc, _+_, _-_, _≤_, _<_}
-use native.Mathlib.Nat.{zero-add}
 use native.Mathlib.Omega.{arith}
 use lib.ListN.{length, getD, set, length-set}
 use lib.Seq.{getD-set-same, getD-set-other}
@@ -46,7 +46,8 @@ ends-none = record {
 
 -- the back after the front, which a call has written
 pub ends-join : {A : Type 0} {d : A} {b a c m : ℕ} {f g : ℕ → A} {before between after : List A}
-    → WrittenOf d b a g before between → a + c ≤ m → ((k : ℕ) → k < a → g k ≡ f k) → Ends d b 0 c m f between after → Ends d b a c m f before after
+    → WrittenOf d b a g before between → a + c ≤ m → ((k : ℕ) → k < a → g k ≡ f k) → Ends d b 0 c m f between after
+    → Ends d b a c m f before after
 ends-join {b = b} w h e p = record {
   front = λ k l. p .between k (omega arith) (omega arith) ∙ w .new k l ∙ e k l;
   back = p .back;
@@ -97,7 +98,8 @@ module _ {A : Type 0} {d : A} {b a c m : ℕ} {f : ℕ → A} {before after : Li
     kept k h = getD-set-other after i k x d h
 
   -- the place of the store is i, where b + a, or b + m less c, is meant
-  pub ends-front : {x : A} {i : ℕ} → (i ≡ b + a) × (a + c < m) × (b + m ≤ length before) → x ≡ f a → Ends d b (a + 1) c m f before (set after i x)
+  pub ends-front : {x : A} {i : ℕ} → (i ≡ b + a) × (a + c < m) × (b + m ≤ length before) → x ≡ f a
+      → Ends d b (a + 1) c m f before (set after i x)
   ends-front {x} {i} h e = record {
     front = below-more _ _
         (λ k l. kept i x (b + k) (λ e. omega arith) ∙ p .front k l)
@@ -135,7 +137,12 @@ written-one h e = ends-all (ends-front ends-none (omega arith) e) (omega arith)
 
 module _ {A : Type 0} {d : A} {b m : ℕ} {f : ℕ → A} {before after : List A} (w : WrittenOf d b m f before after) where
   pub written-same : {n : ℕ} {g : ℕ → A} → n ≡ m → ((k : ℕ) → k < n → f k ≡ g k) → WrittenOf d b n g before after
-  written-same h e = record { new = λ k l. w .new k (omega arith) ∙ e k l; low = w .low; high = λ k l. w .high k (omega arith); len = w .len }
+  written-same h e = record {
+    new = λ k l. w .new k (omega arith) ∙ e k l;
+    low = w .low;
+    high = λ k l. w .high k (omega arith);
+    len = w .len;
+  }
 
   -- one element more behind the run
   pub written-more : {x : A} {i : ℕ} → (i ≡ b + m) × (i < length before) → x ≡ f m → WrittenOf d b (m + 1) f before (set after i x)

@@ -13,7 +13,8 @@ Samples = ℕ → ℤ
 abbrev pub word : List ℤ → ℕ → ℤ
 word words k = getD words k (pos 0)
 
--- the m elements from place b on now hold f 0, f 1, .. f (m - 1); all others are as before, and the length stays. (d is what a place past the end reads as.)
+-- the m elements from place b on now hold f 0, f 1, .. f (m - 1); all others are as before, and the length stays. (d is what a place past
+-- the end reads as.)
 pub record WrittenOf {A : Type 0} (d : A) (b m : ℕ) (f : ℕ → A) (before after : List A) : Type 0 where
   pub new : (k : ℕ) → k < m → getD after (b + k) d ≡ f k
   pub low : (k : ℕ) → k < b → getD after k d ≡ getD before k d

@@ -1,16 +1,14 @@
 -- `counts::next_level` meets its contract, by (23) to (25). Assumes nothing.
-use Prim.Native.Nat.{suc, _+_, _^_, _≤_}
+use Prim.Native.Nat.{suc}
 use native.Mathlib.Nat.{pow-succ'}
 use native.Mathlib.Omega.{arith}
 use borrow.Author.Needs.{needs}
-use Rattle.counts.proofs.Costs.{few-counts, cosine-next, sine-next, dct-next}
+use Rattle.counts.proofs.Costs.{FewCounts, few-counts, cosine-next, sine-next, dct-next}
 use Rattle.counts.proofs.next_level.Statement.{statement}
 use Rattle.counts.proofs.next_level.Tie as tie
 
 -- no count overflows a word
-few : (c : tie.Start) →
-    let l = c .args .level in
-    (l .cosine .products + l .cosine .sums ≤ 2 ^ 16) × (l .sine .products + l .sine .sums ≤ 2 ^ 16) × (l .dct .products + l .dct .sums ≤ 2 ^ 16)
+few : (c : tie.Start) → FewCounts (c .args .level)
 few c = few-counts (c .pre .0) (omega arith)
 
 plus-requires : tie.Need-plus-requires

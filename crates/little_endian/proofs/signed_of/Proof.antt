@@ -1,4 +1,5 @@
--- `little_endian::signed_of` meets its contract: each branch leaves the bits of n, the second by taking the complement twice. Assumes nothing.
+-- `little_endian::signed_of` meets its contract: each branch leaves the bits of n, the second by taking the complement twice.
+-- Assumes nothing.
 use mathlib.Core.Path.{_≡_}
 use Prim.Native.Nat.{_-_}
 use native.Mathlib.Omega.{arith}

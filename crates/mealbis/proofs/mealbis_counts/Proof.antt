@@ -16,7 +16,9 @@ counted : {N : ℕ} {answer : CountsAnswer} {c : Counts} → CountsPromise N ans
 counted {N} p is =
     record {
       refused = λ no. let bad = p .refused no in let z : _≡_ {A = ℕ} 0 1 = cc in absurd (omega arith);
-      counted = λ yes. let (six, published) = subst (CountsOf N) is (p .counted yes) in record { number-is = refl; six = six; published = published };
+      counted = λ yes.
+          let (six, published) = subst (CountsOf N) is (p .counted yes) in
+          record { number-is = refl; six = six; published = published };
     }
 
 refused : {N : ℕ} {answer : CountsAnswer} → CountsPromise N answer → answer ≡ BadLength → CountsTold N 0 0 0 0 0 0 1

@@ -1,25 +1,21 @@
--- `pairfile::first_out` meets its contract: the search from i on, among the samples that are left, finds the place that the whole search finds. Assumes nothing.
+-- `pairfile::first_out` meets its contract: the loop is the search of refusals/proofs/Ranges. Assumes nothing.
 use mathlib.Core.Path.{_≡_, sym, ap, _∙_}
-use Prim.Native.Nat.{ℕ, suc, _+_, _-_, _≤_}
-use native.Mathlib.Numerals.{add-one}
+use Prim.Native.Nat.{_-_}
 use native.Mathlib.Omega.{arith}
 use mir.Facts.{toZ-ofZ}
 use borrow.Author.Needs.{needs, sfits-of}
 use borrow.Author.Tests.{not-true, not-false}
-use Rattle.refusals.specs.Refusals.{inRange, firstOut}
-use Rattle.refusals.proofs.Ranges.{first-on, first-here, first-none}
+use Rattle.refusals.specs.Refusals.{inRange}
+use Rattle.refusals.proofs.Ranges.{Searched, searched-none, searched-on, searched-out, searched-all}
 use Rattle.pairfile.specs.File.{samplesAt}
 use Rattle.pairfile.proofs.first_out.Statement.{statement}
 use Rattle.pairfile.proofs.first_out.Tie as tie
 
 abbrev Inv-loop : tie.InvT-loop
-Inv-loop file start m i₀ i = (i ≤ m) × ((d : ℕ) → i + d ≡ m → firstOut (samplesAt file start) i d ≡ firstOut (samplesAt file start) 0 m)
+Inv-loop file start m i₀ i = Searched (samplesAt file start) m i
 
 abbrev μ-loop : tie.MeasureT-loop
 μ-loop file start m i₀ i = m - i
-
-loop-holds : tie.Need-loop-holds Inv-loop μ-loop
-loop-holds c = (search needs, λ d e. ap (firstOut _ 0) (omega arith))
 
 -- what a turn tests is whether its sample is in range
 tested : (c : tie.After-in-range Inv-loop μ-loop) →
@@ -30,17 +26,12 @@ tested c = sym (c .in-range .ensures ∙ ap inRange (toZ-ofZ (sfits-of (c .befor
 returns : tie.Need-returns Inv-loop μ-loop
 returns c =
     let l = c .before .before .before .before in
-    sym (first-here _ (l .loop .i) _ (tested (c .before) ∙ not-true _ (c .if1 .taken)))
-    ∙ l .loop .inv .1 (suc (l .before .before .args .m - (l .loop .i + 1))) (omega arith)
+    searched-out (l .loop .inv) (omega arith) (tested (c .before) ∙ not-true _ (c .if1 .taken))
 
 loop-again : tie.Need-loop-again Inv-loop μ-loop
 loop-again c =
     let l = c .before .before .before .before in
-    let t = tested (c .before) ∙ not-false _ (c .if1 .left) in
-    (search needs, λ d e. rw add-one (sym (first-on _ (l .loop .i) d t) ∙ l .loop .inv .1 (suc d) (omega arith)))
-
-returns-2 : tie.Need-returns-2 Inv-loop μ-loop
-returns-2 c = sym (first-none _ _) ∙ c .before .loop .inv .1 0 (omega arith)
+    searched-on (l .loop .inv) (omega arith) (tested (c .before) ∙ not-false _ (c .if1 .left))
 
 pub first-out-spec : {M : Type 1} → statement M
 first-out-spec =
@@ -48,7 +39,7 @@ first-out-spec =
     (tie.spec
     Inv-loop
     μ-loop
-    loop-holds
+    (λ c. searched-none)  -- loop-holds
     (λ c. search needs)  -- mul-signed-at
     (λ c. search needs)  -- add-signed-at
     (λ c κs. search needs)  -- signed-at-requires
@@ -57,4 +48,4 @@ first-out-spec =
     (λ c. search needs)  -- add-i
     (λ c. search needs)  -- loop-less
     loop-again
-    returns-2)
+    (λ c. searched-all (c .before .loop .inv) (omega arith)))  -- returns-2

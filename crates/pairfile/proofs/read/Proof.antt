@@ -11,7 +11,8 @@ use Rattle.ffct.specs.Block.{isLength}
 use Rattle.refusals.specs.Refusals.{firstOut}
 use Rattle.refusals.proofs.Ranges.{first-to}
 use Rattle.pairfile.specs.File.{sampleCount, blockLength, samplesOfA, samplesOfB}
-use Rattle.pairfile.proofs.Verdicts.{Passed7, Passed8, Passed9, Passed1, Passed3, Passed6, refused-7, refused-8, refused-9, refused-1, refused-3, refused-6, read-refused, read-accepted}
+use Rattle.pairfile.proofs.Verdicts.{Passed7, Passed8, Passed9, Passed1, Passed3, Passed6, read-refused, read-accepted}
+use Rattle.pairfile.proofs.Verdicts.{refused-7, refused-8, refused-9, refused-1, refused-3, refused-6}
 use Rattle.pairfile.proofs.read.Statement.{statement}
 use Rattle.pairfile.proofs.read.Tie as tie
 
@@ -21,6 +22,9 @@ start c = c .before .before .before .before .before
 
 abbrev counted : tie.Else7 → tie.Else3
 counted c = c .before .before .before .before .before .before
+
+abbrev lent-to : tie.Else8 → tie.Else7
+lent-to c = c .before .before
 
 abbrev searched : tie.After-first-out2 → tie.Else8
 searched c = c .before
@@ -62,17 +66,21 @@ count c = counted c .before .before .unsigned-at .ensures
 out-of-a : (c : tie.After-first-out) → let f = file (c .before) in c .first-out .result ≡ firstOut (samplesOfA f) 0 (sampleCount f)
 out-of-a c = rw (count (c .before)) at (c .first-out .ensures)
 
-out-of-b : (c : tie.After-first-out2) → let f = file (searched c .before .before) in c .first-out2 .result ≡ firstOut (samplesOfB f) 0 (sampleCount f)
-out-of-b c = rw (count (searched c .before .before)) at (c .first-out2 .ensures)
+out-of-b : (c : tie.After-first-out2) →
+    let f = file (lent-to (searched c)) in
+    c .first-out2 .result ≡ firstOut (samplesOfB f) 0 (sampleCount f)
+out-of-b c = rw (count (lent-to (searched c))) at (c .first-out2 .ensures)
 
-in-a : (c : tie.Else8) → let f = file (c .before .before) in firstOut (samplesOfA f) 0 (sampleCount f) ≡ 0 + sampleCount f
-in-a c = let f = file (c .before .before) in omega (arith, out-of-a (c .before), first-to (samplesOfA f) 0 (sampleCount f))
+in-a : (c : tie.Else8) → let f = file (lent-to c) in firstOut (samplesOfA f) 0 (sampleCount f) ≡ 0 + sampleCount f
+in-a c = let f = file (lent-to c) in omega (arith, out-of-a (c .before), first-to (samplesOfA f) 0 (sampleCount f))
 
-in-b : (c : tie.Else9) → let f = file (searched (c .before) .before .before) in firstOut (samplesOfB f) 0 (sampleCount f) ≡ 0 + sampleCount f
-in-b c = let f = file (searched (c .before) .before .before) in omega (arith, out-of-b (c .before), first-to (samplesOfB f) 0 (sampleCount f))
+in-b : (c : tie.Else9) → let f = file (lent-to (searched (c .before))) in firstOut (samplesOfB f) 0 (sampleCount f) ≡ 0 + sampleCount f
+in-b c =
+    let f = file (lent-to (searched (c .before))) in
+    omega (arith, out-of-b (c .before), first-to (samplesOfB f) 0 (sampleCount f))
 
-passed-6 : (c : tie.Else9) → let p = searched (c .before) .before .before in Passed6 (file p) (lent p)
-passed-6 c = let s = searched (c .before) in record { past = passed-3 (s .before .before); range = (in-a s, (in-b c, tt)) }
+passed-6 : (c : tie.Else9) → let p = lent-to (searched (c .before)) in Passed6 (file p) (lent p)
+passed-6 c = let s = searched (c .before) in record { past = passed-3 (lent-to s); range = (in-a s, (in-b c, tt)) }
 
 -- ---- the refusals
 returns : tie.Need-returns
@@ -100,14 +108,18 @@ returns-8 : tie.Need-returns-8
 returns-8 c = read-refused (refused-6 (passed-3 (c .before .before)) (inl (out-of-a (c .before), omega arith)))
 
 returns-9 : tie.Need-returns-9
-returns-9 c = let s = searched (c .before) in read-refused (refused-6 (passed-3 (s .before .before)) (inr (in-a s, inl (out-of-b (c .before), omega arith))))
+returns-9 c =
+    let s = searched (c .before) in
+    read-refused (refused-6 (passed-3 (lent-to s)) (inr (in-a s, inl (out-of-b (c .before), omega arith))))
 
 -- ---- the accepted file
 returns-10 : tie.Need-returns-10
 returns-10 c =
     let tested = c .before .before .before .before .before .before in
-    let p = searched (tested .before) .before .before in
-    read-accepted _ (passed-6 tested) (count p) (p .before .before .before .before .unsigned-at2 .ensures) (c .before .before .before .before .fill .ensures) (c .before .fill2 .ensures)
+    let p = lent-to (searched (tested .before)) in
+    read-accepted _ (passed-6 tested) (count p) (p .before .before .before .before .unsigned-at2 .ensures)
+    (c .before .before .before .before .fill .ensures)
+    (c .before .fill2 .ensures)
 
 pub read-spec : {M : Type 1} → statement M
 read-spec =

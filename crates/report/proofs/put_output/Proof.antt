@@ -28,7 +28,8 @@ returns c =
     let p = c .before .before in
     let n = p .before .before .before in
     let r = n .before .before .before in
-    rw (refused-output _ (r .read .result) (verdict r) (λ z. omega (arith, n .number-of .ensures))) (rw (n .number-of .ensures) at (p .put-refusal .ensures))
+    rw (refused-output _ (r .read .result) (verdict r) (λ z. omega (arith, n .number-of .ensures)))
+    (rw (n .number-of .ensures) at (p .put-refusal .ensures))
 
 -- and once it is accepted, the recordings hold the file's samples
 accepts : (c : tie.Else1) → verdictOf (c .before .before .before .before .read .result) ≡ accepted
@@ -36,8 +37,9 @@ accepts c = none-accepted (c .before .before .before .before .read .result) (ome
 
 done : (c : tie.After-sizes-of) →
     let r = c .before .before .before .before .before in
-    let s = r .before .before .before .before .before in
-    ReadDone (s .args .file .now) (s .args .a .now) (s .args .b .now) (r .read .last .1 .0) (r .read .last .1 .1 .0) (c .sizes-of .result .samples) (c .sizes-of .result .length)
+    let a = r .before .before .before .before .before .args in
+    let sizes = c .sizes-of .result in
+    ReadDone (a .file .now) (a .a .now) (a .b .now) (r .read .last .1 .0) (r .read .last .1 .1 .0) (sizes .samples) (sizes .length)
 done c =
     let r = c .before .before .before .before .before in
     rw (c .sizes-of .ensures .0, c .sizes-of .ensures .1) (r .read .ensures .done (accepts (c .before)))

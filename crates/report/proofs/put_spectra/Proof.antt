@@ -1,4 +1,5 @@
--- `report::put_spectra` meets its contract: when the loop comes to a block, the lines of the blocks before it are put behind the heading. Assumes nothing.
+-- `report::put_spectra` meets its contract: when the loop comes to a block, the lines of the blocks before it are put behind the heading.
+-- Assumes nothing.
 use mathlib.Core.Path.{_≡_}
 use Prim.Native.Nat.{_+_, _-_, _/_, _≤_}
 use native.Mathlib.Nat.{div-le-self}
@@ -30,9 +31,11 @@ put-block-requires c κs =
     let l = i .before in
     let s = l .before .before .before .before .before .before in
     let p = s .pre .0 in
+    let b = l .loop .block in
+    let n = s .args .n in
     let v = l .loop .inv .2 in (
-      printable-block (l .loop .block) p (omega arith) (v .realWords) (v .imaginaryWords) (v .scratchWords),
-      omega (arith, whole-blocks (l .loop .block + 1) (s .args .m) (s .args .n) (p .length-ok) (omega arith), next-block (l .loop .block) (s .args .n), v .fits),
+      printable-block b p (omega arith) (v .realWords) (v .imaginaryWords) (v .scratchWords),
+      omega (arith, whole-blocks (b + 1) (s .args .m) n (p .length-ok) (omega arith), next-block b n, v .fits),
     )
 
 loop-again : tie.Need-loop-again Inv-loop μ-loop
@@ -48,9 +51,10 @@ returns c =
     let s = h .before .before .before in
     let v = l .loop .inv .2 in
     let all : l .loop .block ≡ s .args .m / s .args .n = omega (arith, l .loop .inv .0) in
+    let whole = whole-blocks (l .loop .block) (s .args .m) (s .args .n) (s .pre .0 .length-ok) (l .loop .inv .0) in
     record {
       put = rw all at (h .put-heading .ensures then v .put);
-      fits = omega (arith, v .fits, h .put-heading .ensures .next-is, whole-blocks (l .loop .block) (s .args .m) (s .args .n) (s .pre .0 .length-ok) (l .loop .inv .0));
+      fits = omega (arith, v .fits, h .put-heading .ensures .next-is, whole);
       realWords = v .realWords;
       imaginaryWords = v .imaginaryWords;
       scratchWords = v .scratchWords;

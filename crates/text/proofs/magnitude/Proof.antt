@@ -14,13 +14,17 @@ use Rattle.whole.proofs.Words.{not-negative}
 use Rattle.text.proofs.magnitude.Statement.{statement}
 use Rattle.text.proofs.magnitude.Tie as tie
 
-turned : (x : ℤ) → SFits w32 x → ltZ x (pos 0) ≡ true → (n : ℕ) × (n < 2 ^ 31) × (natAbs x ≡ n + 1) × (toZ w32 (4294967295 - ofZ w32 x) ≡ pos n)
+-- the complement of a negative number's bits is one less than its size
+abbrev Turned : ℤ → Type 0
+Turned x = (n : ℕ) × (n < 2 ^ 31) × (natAbs x ≡ n + 1) × (toZ w32 (4294967295 - ofZ w32 x) ≡ pos n)
+
+turned : (x : ℤ) → SFits w32 x → ltZ x (pos 0) ≡ true → Turned x
 turned (pos n) f h = absurd (omega (arith, ltb-true n 0 h))
 turned (negsuc n) f h =
     let s : 4294967295 - (2 ^ 32 - suc n) ≡ n = omega arith in
     (n, f .sfits, omega arith, simp (s, lt-ltb n (2 ^ 31) (f .sfits)))
 
-negative : (c : tie.Then1) → (n : ℕ) × (n < 2 ^ 31) × (natAbs (c .before .args .x) ≡ n + 1) × (toZ w32 (4294967295 - ofZ w32 (c .before .args .x)) ≡ pos n)
+negative : (c : tie.Then1) → Turned (c .before .args .x)
 negative c = let f = c .before .fits .x in turned _ f (rw (toZ-ofZ f) at (c .if1 .taken))
 
 cast-result : tie.Need-cast-result

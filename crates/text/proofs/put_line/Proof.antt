@@ -1,4 +1,5 @@
--- `text::put_line` meets its contract: by the widths of the four numbers each text finds room, and the eight texts are the line. Assumes nothing.
+-- `text::put_line` meets its contract: by the widths of the four numbers each text finds room, and the eight texts are the line.
+-- Assumes nothing.
 use Prim.Native.Nat.{_≤_}
 use native.Mathlib.Omega.{arith}
 use lib.ListN.{length}
@@ -81,9 +82,9 @@ put-requires-4 c κs =
       from-g (c .before .before .before .before) .put .ensures,
     )
 
-line-put :
-    (h : tie.After-put4)
-    → let s = begin (from-h h) in Put (s .args .page .now) (s .args .at) (line (s .args .block) (s .args .k) (s .args .re) (s .args .im)) (h .put4 .result) (h .put4 .last .1 .0)
+line-put : (h : tie.After-put4) →
+    let a = begin (from-h h) .args in
+    Put (a .page .now) (a .at) (line (a .block) (a .k) (a .re) (a .im)) (h .put4 .result) (h .put4 .last .1 .0)
 unfolding line
 line-put h =
     let g = h .before .before .before .before .before in
@@ -95,17 +96,19 @@ line-put h =
     let a = b .before .before .before .before .before in
     let re = rw (toZ-ofZ (begin b .fits .re)) at (e .put-decimal .ensures) in
     let im = rw (toZ-ofZ (begin b .fits .im)) at (g .put-decimal2 .ensures) in
-    a .put-number .ensures then b .put .ensures then c .put-number2 .ensures then d .put2 .ensures then re then f .put3 .ensures then im then h .put4 .ensures
+    a .put-number .ensures then b .put .ensures
+    then c .put-number2 .ensures then d .put2 .ensures
+    then re then f .put3 .ensures
+    then im then h .put4 .ensures
 
 same-length : tie.Need-same-length
 same-length c = line-put (c .before .before) .len
 
 returns : tie.Need-returns
 returns c =
-    let s = begin (from-h (c .before .before)) in (
-      line-put (c .before .before),
-      omega (arith, line-put (c .before .before) .next-is, line-length (s .args .re) (s .args .im) (s .pre .0) (s .pre .1) (s .fits .re) (s .fits .im)),
-    )
+    let s = begin (from-h (c .before .before)) in
+    let width = line-length (s .args .re) (s .args .im) (s .pre .0) (s .pre .1) (s .fits .re) (s .fits .im) in
+    (line-put (c .before .before), omega (arith, line-put (c .before .before) .next-is, width))
 
 pub put-line-spec : {M : Type 1} → statement M
 put-line-spec =

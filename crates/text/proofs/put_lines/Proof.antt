@@ -45,7 +45,8 @@ loop-again c =
     let i = c .before .before .before .before in
     let e : toZ w32 (ofZ w32 (re (l .loop .k))) ≡ re (l .loop .k) = toZ-ofZ (sfits-of (i .before .re .given)) in
     let f : toZ w32 (ofZ w32 (im (l .loop .k))) ≡ im (l .loop .k) = toZ-ofZ (sfits-of (i .im .given)) in
-    (search needs, search needs, one-more (s .block) re im (l .loop .k) (l .loop .inv .2) (rw (e, f) at (c .before .before .put-line .ensures .0)))
+    let put = rw (e, f) at (c .before .before .put-line .ensures .0) in
+    (omega arith, omega arith, one-more (s .block) re im (l .loop .k) (l .loop .inv .2) put)
 
 returns : tie.Need-returns Inv-loop μ-loop
 returns c =

@@ -9,14 +9,18 @@ use Rattle.text.proofs.Spelling.{number-length}
 use Rattle.text.proofs.put_refusal.Statement.{statement}
 use Rattle.text.proofs.put_refusal.Tie as tie
 
+-- where the function begins, from behind the first call
+abbrev begin : tie.After-put → tie.Start
+begin c = c .before .before .before .before
+
 one-digit : (s : tie.Start) → length (number (s .args .number)) ≤ 1
 one-digit s = number-length 0 _ (s .pre .0)
 
 put-number-requires : tie.Need-put-number-requires
-put-number-requires c κs = omega (arith, one-digit (c .before .before .before .before .before .before .before))
+put-number-requires c κs = omega (arith, one-digit (begin (c .before .before .before)))
 
 put-requires-2 : tie.Need-put-requires-2
-put-requires-2 c κs = omega (arith, one-digit (c .before .before .before .before .before .before .before .before .before .before .before .before))
+put-requires-2 c κs = omega (arith, one-digit (begin (c .before .before .before .before .before .before .before .before)))
 
 returns : tie.Need-returns
 returns c =

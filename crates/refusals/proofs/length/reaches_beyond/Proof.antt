@@ -1,4 +1,5 @@
--- `refusals::length::reaches_beyond` meets its contract: where n is at most len, the difference is tested in place of the sum. Assumes nothing.
+-- `refusals::length::reaches_beyond` meets its contract: where n is at most len, the difference is tested in place of the sum.
+-- Assumes nothing.
 use mathlib.Core.Path.{_≡_, sym}
 use mathlib.Core.Logic.{⊎-elim}
 use Prim.Native.Nat.{ℕ, _+_, _-_, _≤_}

@@ -1,4 +1,5 @@
--- `refusals::range::in_range` meets its contract: a sample below the range is refused first, and of the others those above it. Assumes nothing.
+-- `refusals::range::in_range` meets its contract: a sample below the range is refused first, and of the others those above it.
+-- Assumes nothing.
 use mathlib.Core.Path.{_≡_, refl, sym}
 use mathlib.Core.Bool.{true, false, false≢true}
 use Prim.Native.Nat.{suc}
