@@ -1,118 +1,175 @@
--- A transform of a block of n samples: the block is loaded to the front of the words, transformed there, and its coefficients are stored.
+-- The transforms of a block in range: what the calls of a run ask after each other, and what they come to.
+--     ready, few, ..small         a block is ready, its counts are few, its coefficients small
+--     cosine-ready .. dfts-made   both DFTs, of the block loaded in pairs
+--     dct-ready, dct-made         the DCT, of the block loaded in its order
+--     cleared                     the words cleared in the end
+--     dfts-ready, spectrum-few    when both DFTs may be made
+--     part-word, ..               coefficients that stand behind the block
 -- Assumes nothing.
-use mathlib.Core.Path.{_≡_, refl, sym, _∙_, subst}
-use mathlib.Core.Bool.{true}
+use mathlib.Core.Path.{_≡_, refl, sym, ap, _∙_, subst}
 use mathlib.Core.List.{List}
 use Prim.Native.Nat.{ℕ, _+_, _*_, _/_, _^_, _≤_, _<_}
 use native.Mathlib.Nat.{mul-le-mul}
 use native.Mathlib.Omega.{arith}
-use lib.IntN.{ℤ, natAbs}
+use lib.IntN.{ℤ, pos, natAbs}
 use lib.ListN.{length}
 use Rattle.whole.proofs.Size.{within-size}
 use Rattle.words.specs.Words.{Samples, word, Written}
-use Rattle.words.proofs.Writing.{front, beyond, past, written-same}
-use Rattle.ffct.specs.Block.{AcceptedBlock, largestSum, isLength, level}
-use Rattle.ffct.specs.Transforms.{Transform, cosineBeyond, cosineDft, sineDft, dct}
-use Rattle.ffct.proofs.Lengths.{len, pow-len, len-pos}
-use Rattle.ffct.proofs.Blocks.{Same, dft-same, dct-same, cosine-beyond-same}
+use Rattle.words.proofs.Writing.{front, written-same, past}
+use Rattle.words.proofs.Parts.{part, part-at}
+use Rattle.ffct.specs.Block.{AcceptedBlock, largestSum, level}
+use Rattle.ffct.specs.Transforms.{Transform, cosineDft, sineDft, dct, spectrum}
+use Rattle.ffct.proofs.Blocks.{Same, dft-same, dct-same}
 use Rattle.ffct.proofs.Counts.{FewOperations, few-operations}
 use Rattle.ffct.proofs.Sizes.{accepted-inner, dft-size, dct-within}
-use Rattle.transforms.specs.Steps.{Ready, Gives, Transformed}
-use Rattle.blocks.specs.Blocks.{Workable, Cleared}
-use Rattle.ffct.proofs.ElevenLengths.{is-power, level-le, length-le}
+use Rattle.ffct.proofs.ElevenLengths.{is-power, as-len, level-le, length-le}
+use Rattle.counts.specs.declared.tally.Tally.{Tally}
+use Rattle.counts.specs.Tally.{Tallied, HasRoom}
+use Rattle.transforms.specs.Pairs.{paired}
+use Rattle.transforms.specs.Steps.{Ready, Gives, DftReady, DftDone, DctReady, DctDone, dftRoom, dctRoom}
+use Rattle.transforms.proofs.Pairs.{paired-same}
+use Rattle.blocks.specs.Buffers.{inPairs}
+use Rattle.blocks.specs.Blocks.{InRange, Workable, Cleared, DftsReady, DftsMade}
+use Rattle.blocks.proofs.Pairing.{paired-back}
 
-module _ {block w : List ℤ} {n : ℕ} (k : Workable block w) (e : length block ≡ n) where
+module _ {block : List ℤ} (r : InRange block) where
+  abbrev n : ℕ
+  n = length block
+
   abbrev L : ℕ
   L = level n
 
-  accepted-length : isLength n ≡ true
-  accepted-length = subst (λ n. isLength n ≡ true) e (k .length-ok)
+  abbrev x : Samples
+  x = word block
 
-  pub power : n ≡ 2 ^ L
-  power = is-power n accepted-length
-
-  as-len : n ≡ len L
-  as-len = power ∙ pow-len L
-
-  pub some : 1 ≤ n
-  some = omega (arith, as-len, len-pos L)
-
-  pub n-le : n ≤ 1024
-  n-le = length-le n accepted-length
-
-  accepted-block : AcceptedBlock L (word block)
-  accepted-block = record { length = level-le n accepted-length; range = λ i h. k .range i (omega (arith, power, e)) }
+  accepted : AcceptedBlock L x
+  accepted = record { length = level-le n (r .length-ok); range = λ i h. r .range i (omega (arith, is-power n (r .length-ok))) }
 
   -- no count overflows
-  pub few : FewOperations L (word block)
-  few = few-operations L (word block) (level-le n accepted-length)
+  pub few : FewOperations L x
+  few = few-operations L x (level-le n (r .length-ok))
 
-  -- the block is loaded
-  module _ {v : List ℤ} (l : Written 0 (length block) (word block) w v) where
-    pub ready : (room : ℕ) → room ≤ 4 * n + 1 → Ready n room v
-    ready room h = record {
-      level = L;
-      small = level-le n accepted-length;
-      is = power;
-      fits = omega (arith, l .len, k .room, e);
-      samples = λ i g. rw (front l i (omega (arith, e))) (omega (arith, mul-le-mul n-le (k .range i (omega (arith, e)))));
-    }
+  -- a block of the same samples is ready
+  ready : {y : Samples} → ((i : ℕ) → i < n → y i ≡ x i) → Ready n y
+  ready e = record {
+    length-ok = r .length-ok;
+    samples = λ i h. rw (e i h) (omega (arith, mul-le-mul (length-le n (r .length-ok)) (r .range i h)));
+  }
 
-    loaded-same : Same L (word v) (word block)
-    loaded-same i h = front l i (omega (arith, as-len, e))
-
-    -- and transformed: v′ are the words after, and the transform spends p products and a sums
-    module _ {v′ : List ℤ} {p a : ℕ} where
-      -- what stands at the front, whichever the transform
-      left : (transform : ℕ → Samples → Transform) → transform L (word v) ≡ transform L (word block) → (m : ℕ) → Transformed transform n m v v′ p a →
-          Gives (transform L (word block)) m w v′ p a
-      left transform s m t =
-          let g : Gives (transform L (word block)) m v v′ p a = subst (λ t. Gives t m v v′ p a) s (t .gives L power) in
-          record { coefficients = g .coefficients; products = g .products; sums = g .sums; len = g .len ∙ l .len }
-
-      pub cosine-left : Transformed cosineDft n (n / 2 + 1) v v′ p a → Gives (cosineDft L (word block)) (n / 2 + 1) w v′ p a
-      cosine-left = left cosineDft (dft-same L (word v) (word block) loaded-same .0) (n / 2 + 1)
-
-      pub sine-left : Transformed sineDft n (n / 2 + 1) v v′ p a → Gives (sineDft L (word block)) (n / 2 + 1) w v′ p a
-      sine-left = left sineDft (dft-same L (word v) (word block) loaded-same .1) (n / 2 + 1)
-
-      pub dct-left : Transformed dct n n v v′ p a → Gives (dct L (word block)) n w v′ p a
-      dct-left = left dct (dct-same L (word v) (word block) loaded-same) n
+  at-level : {y : Samples} → ((i : ℕ) → i < n → y i ≡ x i) → Same L y x
+  at-level e i h = e i (omega (arith, as-len n (r .length-ok)))
 
   -- the sizes of the coefficients
-  pub cosine-small : (j : ℕ) → j < n / 2 + 1 → natAbs (cosineDft L (word block) .at j) ≤ largestSum + 128
-  cosine-small j h = within-size (dft-size (accepted-inner accepted-block) j (omega (arith, as-len)) .0)
+  pub cosine-small : (j : ℕ) → j < n / 2 + 1 → natAbs (spectrum L x .cosine j) ≤ largestSum + 128
+  unfolding spectrum
+  cosine-small j h = within-size (dft-size (accepted-inner accepted) j (omega (arith, as-len n (r .length-ok))) .0)
 
-  pub sine-small : (j : ℕ) → j < n / 2 + 1 → natAbs (sineDft L (word block) .at j) ≤ largestSum + 128
-  sine-small j h = within-size (dft-size (accepted-inner accepted-block) j (omega (arith, as-len)) .1)
+  pub sine-small : (j : ℕ) → j < n / 2 + 1 → natAbs (spectrum L x .sine j) ≤ largestSum + 128
+  unfolding spectrum
+  sine-small j h = within-size (dft-size (accepted-inner accepted) j (omega (arith, as-len n (r .length-ok))) .1)
 
-  pub dct-small : (j : ℕ) → j < n → natAbs (dct L (word block) .at j) ≤ largestSum + 257
-  dct-small j h = within-size (dct-within (accepted-inner accepted-block) j (omega (arith, as-len)))
+  pub dct-small : (j : ℕ) → j < n → natAbs (dct L x .at j) ≤ largestSum + 257
+  dct-small j h = within-size (dct-within (accepted-inner accepted) j (omega (arith, as-len n (r .length-ok))))
 
--- a step later the words are others, but as many
-pub again : {block v w : List ℤ} → Workable block w → length v ≡ length w → Workable block v
-again k e = record { length-ok = k .length-ok; range = k .range; room = omega (arith, k .room, e) }
+-- ---- both DFTs: the block is loaded in pairs
+module _ {block : List ℤ} {at : ℕ} {w v : List ℤ} {spent : Tally} (r : DftsReady block at w spent)
+    (l : Written 0 (length block) (inPairs (length block) (word block)) w v) where
+  abbrev b : InRange block
+  b = r .block-ok
 
-module _ {t : Transform} {m : ℕ} {v v′ : List ℤ} {p a : ℕ} (g : Gives t m v v′ p a) where
-  -- the words are as small as the coefficients that they are
-  pub sized : {c d : ℕ} → c ≤ d → ((j : ℕ) → j < m → natAbs (t .at j) ≤ c) → (j : ℕ) → j < m → natAbs (word v′ j) ≤ d
-  sized h b j i = rw (g .coefficients j i) (omega (arith, h, b j i))
+  block₀ : (i : ℕ) → i < n b → paired (n b) 1 (word v) i ≡ x b i
+  block₀ i h = paired-same (n b) 1 (word v) (inPairs (n b) (x b)) (omega arith) (λ j o. front l j (omega arith)) i h ∙ paired-back (n b) (x b) i h
 
-  -- words stored are the coefficients
-  pub stored : {out out′ : List ℤ} → Written 0 m (word v′) out out′ → Written 0 m (t .at) out out′
-  stored s = written-same s refl (g .coefficients)
+  cosine-is : cosineDft (L b) (paired (n b) 1 (word v)) ≡ cosineDft (L b) (x b)
+  cosine-is = dft-same (L b) _ _ (at-level b block₀) .0
 
--- and so are those that (9) tells above n / 2
-pub mirrored : {t : Transform} {n p a : ℕ} {v v′ out out′ : List ℤ} → Gives t (n / 2 + 1) v v′ p a → Written 0 n (cosineBeyond n (word v′)) out out′ →
-    Written 0 n (cosineBeyond n (t .at)) out out′
-mirrored {t} {n} {v′ = v′} g s =
-    written-same s refl (λ k h. cosine-beyond-same n (word v′) (t .at) k (omega arith) (λ j l. g .coefficients j (omega arith)))
+  pub cosine-ready : DftReady cosineDft (n b) 1 at v spent
+  unfolding spectrum
+  cosine-ready = record {
+    ready = ready b block₀;
+    stride = omega arith;
+    behind = omega (arith, r .behind);
+    fits = omega (arith, r .fits, l .len);
+    room = rw cosine-is (omega (arith, r .room));
+  }
 
--- words cleared in the end are cleared, whatever stood there meanwhile
+  module _ {v₁ : List ℤ} {t₁ : Tally} (cosined : DftDone cosineDft (n b) 1 at v v₁ spent t₁) where
+    cosine-tallied : Tallied (cosineDft (L b) (x b) .products) (cosineDft (L b) (x b) .sums) spent t₁
+    cosine-tallied = subst (λ t. Tallied (t .products) (t .sums) spent t₁) cosine-is (cosined .tallied)
+
+    block₁ : (i : ℕ) → i < n b → paired (n b) 1 (word v₁) i ≡ x b i
+    block₁ i h = paired-same (n b) 1 (word v₁) (word v) (omega arith) (λ j o. cosined .front j (omega (arith, r .behind))) i h ∙ block₀ i h
+
+    sine-is : sineDft (L b) (paired (n b) 1 (word v₁)) ≡ sineDft (L b) (x b)
+    sine-is = dft-same (L b) _ _ (at-level b block₁) .1
+
+    pub sine-ready : DftReady sineDft (n b) 1 (at + n b / 2 + 1) v₁ t₁
+    unfolding spectrum
+    sine-ready = record {
+      ready = ready b block₁;
+      stride = omega arith;
+      behind = omega (arith, r .behind);
+      fits = omega (arith, r .fits, l .len, cosined .len);
+      room = rw sine-is (omega (arith, r .room, cosine-tallied));
+    }
+
+    pub dfts-made : {v₂ : List ℤ} {t₂ : Tally} → DftDone sineDft (n b) 1 (at + n b / 2 + 1) v₁ v₂ t₁ t₂ → DftsMade block at w v₂ spent t₂
+    unfolding spectrum
+    dfts-made {v₂} {t₂} sined = record {
+      cosineWords = λ k h. sined .front (at + k) (omega arith) ∙ cosined .coefficients k h ∙ ap (λ t. t .at k) cosine-is;
+      sineWords = λ k h. sined .coefficients k h ∙ ap (λ t. t .at k) sine-is;
+      between = λ k h o. sined .front k (omega arith) ∙ cosined .front k o ∙ l .high k (omega arith);
+      tallied = omega (arith, cosine-tallied, sine-tallied);
+      len = sined .len ∙ cosined .len ∙ l .len;
+    }
+      where
+        sine-tallied : Tallied (sineDft (L b) (x b) .products) (sineDft (L b) (x b) .sums) t₁ t₂
+        sine-tallied = subst (λ t. Tallied (t .products) (t .sums) t₁ t₂) sine-is (sined .tallied)
+
+-- ---- the DCT: the block is loaded in its order
+module _ {block w v : List ℤ} (r : InRange block) (l : Written 0 (length block) (word block) w v) where
+  dct-is : dct (L r) (word v) ≡ dct (L r) (x r)
+  dct-is = dct-same (L r) _ _ (at-level r (front l))
+
+  pub dct-ready : {spent : Tally} → dctRoom (n r) ≤ length w → HasRoom (dct (L r) (x r) .products) (dct (L r) (x r) .sums) spent → DctReady (n r) v spent
+  dct-ready h room = record { ready = ready r (front l); fits = omega (arith, l .len); room = rw dct-is room }
+
+  pub dct-made : {v₁ : List ℤ} {spent t₁ : Tally} → DctDone (n r) v v₁ spent t₁ → Gives (dct (L r) (x r)) 0 (n r) w v₁ spent t₁
+  dct-made {v₁} {spent} {t₁} d =
+      let g : Gives (dct (L r) (x r)) 0 (n r) v v₁ spent t₁ = subst (λ t. Gives t 0 (n r) v v₁ spent t₁) dct-is d in
+      record { coefficients = g .coefficients; front = λ k h. absurd (omega arith); tallied = g .tallied; len = g .len ∙ l .len }
+
+-- ---- words cleared in the end are cleared, whatever stood there meanwhile
 pub cleared : {w v w′ : List ℤ} → length v ≡ length w → Cleared v w′ → Cleared w w′
 cleared {w} {v} e c = record {
   new = λ j h. c .new j (omega (arith, h, e));
   low = λ j h. absurd (omega arith);
-  high = λ j h. beyond c j (omega (arith, h, e)) ∙ past _ v j (omega (arith, h, e)) ∙ sym (past _ w j (omega arith));
+  high = λ j h. c .high j (omega (arith, h, e)) ∙ past (pos 0) v j (omega (arith, h, e)) ∙ sym (past (pos 0) w j (omega (arith, h)));
   len = c .len ∙ e;
 }
+
+-- ---- the DFTs are ready where there is room behind the block, and the tally is small
+pub dfts-ready : {block : List ℤ} {at : ℕ} {w : List ℤ} {spent : Tally} → InRange block → length block ≤ at → at + (length block / 2 + 1) + dftRoom (length block) ≤ length w
+    → (spent .products ≤ 2 ^ 20) × (spent .sums ≤ 2 ^ 20) → DftsReady block at w spent
+unfolding spectrum
+dfts-ready r behind fits small =
+    record { block-ok = r; behind = behind; fits = fits; room = omega (arith, few r .cosine, few r .sine) }
+
+pub spectrum-few : {block : List ℤ} (r : InRange block) → (spectrum (L r) (x r) .products ≤ 2 ^ 17) × (spectrum (L r) (x r) .sums ≤ 2 ^ 17)
+unfolding spectrum
+spectrum-few r = omega (arith, few r .cosine, few r .sine)
+
+-- ---- a part of the words that holds f, from place `at` on: as small as f, and stored it is f
+module _ (at : ℕ) (v : List ℤ) {m : ℕ} {f : ℕ → ℤ} (h : (k : ℕ) → k < m → word v (at + k) ≡ f k) where
+  pub part-word : (k : ℕ) → k < m → word (part at v) k ≡ f k
+  part-word k l = part-at at v k ∙ h k l
+
+  pub part-sized : {c d : ℕ} → c ≤ d → ((k : ℕ) → k < m → natAbs (f k) ≤ c) → (k : ℕ) → k < m → natAbs (word (part at v) k) ≤ d
+  part-sized l s k o = rw (part-word k o) (omega (arith, l, s k o))
+
+  pub part-stored : {out out′ : List ℤ} → Written 0 m (word (part at v)) out out′ → Written 0 m f out out′
+  part-stored s = written-same s refl part-word
+
+-- coefficients at the front
+pub front-word : {t : Transform} {m : ℕ} {v v′ : List ℤ} {spent total : Tally} → Gives t 0 m v v′ spent total → (k : ℕ) → k < m → word v′ k ≡ t .at k
+front-word {v′ = v′} g k h = ap (word v′) {x = k} {y = 0 + k} (omega arith) ∙ g .coefficients k h

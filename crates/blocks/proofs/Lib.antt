@@ -1,4 +1,5 @@
-pub mod Writing
-pub mod Sines
-pub mod BlockRuns
+pub mod Casting
+pub mod Pairing
 pub mod Parts
+pub mod BlockRuns
+pub mod PairRuns

@@ -1,105 +1,104 @@
--- A part of Pair: the cosine-DFT of one block, by (9) in every word, joined with the sine-DFT of the other, by (10).
+-- A part of Pair: the cosine-DFT C of one block joined with the sine-DFT S of the other by an operation, + or -, at every k below n by (9) and (10).
+--     part-first, part-half, part-front, part-back    coefficient by coefficient
+--     sum-put, ends-put                               two stores
+--     part-ends                                       after the loop and the stores where the sine-DFT is zero
 -- Assumes nothing.
-use mathlib.Core.Path.{_≡_, ap, ap₂, _∙_, subst}
+use mathlib.Core.Path.{_≡_, refl, sym, ap, ap₂, _∙_}
 use mathlib.Core.List.{List}
 use mathlib.Core.Logic.{⊎-elim}
-use Prim.Native.Nat.{ℕ, zero, suc, _+_, _-_, _*_, _/_, _^_, _≤_, _<_}
+use Prim.Native.Nat.{ℕ, _+_, _-_, _*_, _/_, _≤_, _<_}
 use native.Mathlib.Omega.{arith}
-use lib.IntN.{ℤ, pos, natAbs}
-use lib.ListN.{length}
-use Rattle.whole.proofs.Cases.{le-or-lt}
-use Rattle.words.specs.Words.{Samples, word, Written}
-use Rattle.words.proofs.Writing.{front}
-use Rattle.ffct.specs.Block.{level, largestSum}
-use Rattle.ffct.specs.Transforms.{Transform, cosineBeyond, sineBeyond, cosineDft, sineDft}
-use Rattle.ffct.proofs.Lengths.{pow-len}
-use Rattle.ffct.proofs.Steps.{cosine-low, cosine-high}
-use Rattle.ffct.proofs.Blocks.{sine-first, sine-last, sine-beyond-same}
-use Rattle.blocks.specs.Words.{WrittenBySums, Joinable}
-use Rattle.blocks.specs.Blocks.{Workable, DftsMade}
-use Rattle.blocks.proofs.BlockRuns.{power, some, n-le, again, few, cosine-small, sine-small}
+use lib.IntN.{ℤ, pos, negℤ, _+ℤ_, _-ℤ_, +ℤ-idr}
+use lib.ListN.{length, set, length-set}
+use lib.Seq.{getD-set-same, getD-set-other}
+use Rattle.whole.proofs.Cases.{le-or-lt, same-or-not}
+use Rattle.whole.proofs.Difference.{parts, diff}
+use Rattle.whole.proofs.Size.{near}
+use Rattle.words.specs.Words.{word, Written}
+use Rattle.words.proofs.Writing.{Ends}
+use Rattle.ffct.specs.Transforms.{cosineBeyond, sineBeyond}
+use Rattle.ffct.proofs.Steps.{cosine-low, cosine-high, sine-low, sine-high}
+use Rattle.counts.specs.declared.tally.Tally.{Tally}
+use Rattle.counts.specs.Tally.{Tallied}
+use Rattle.blocks.specs.Buffers.{SumReady, SumPut, EndsPut, Sine}
 
--- ---- every coefficient is read from those up to N / 2, and so is as small
-cosine-as-small : (N : ℕ) (f : ℕ → ℤ) (m : ℕ) → ((j : ℕ) → j < N / 2 + 1 → natAbs (f j) ≤ m) → (k : ℕ) → k < N → natAbs (cosineBeyond N f k) ≤ m
-cosine-as-small N f m p k h = ⊎-elim
-    (λ l. rw (cosine-low N f k l) (p k (omega arith)))
-    (λ l. rw (cosine-high N f k l) (p (N - k) (omega arith)))
-    (le-or-lt k (N / 2))
+-- an operation and the other one
+pub record Opposite (op rev : ℤ → ℤ → ℤ) : Type 0 where
+  pub none : (x : ℤ) → op x (pos 0) ≡ x
+  pub turned : (x y : ℤ) → op x (negℤ y) ≡ rev x y
 
--- ---- at 0 and n / 2 the sine-DFT is zero; so a part makes n - 2 sums
-sine-half : (L n : ℕ) (x : Samples) → n ≡ 2 ^ L → sineDft L x .at (n / 2) ≡ pos 0
-sine-half zero n x e = ap (sineDft zero x .at) {x = n / 2} {y = 0} (omega (arith, e)) ∙ sine-first zero x
-sine-half (suc L) n x e = sine-last (suc L) x (n / 2) (omega (arith, e, pow-len (suc L)))
+pub adding : Opposite _+ℤ_ _-ℤ_
+adding = record { none = +ℤ-idr; turned = λ x y. refl }
 
-part-sums : (L n : ℕ) → n ≡ 2 ^ L → 2 * (n - n / 2 - 1) ≡ n - 2
-part-sums zero n e = omega (arith, e)
-part-sums (suc L) n e = omega (arith, e)
+pub subtracting : Opposite _-ℤ_ _+ℤ_
+subtracting = record { none = +ℤ-idr; turned = λ x y. rw (parts x, parts y) (simp diff (omega near)) }
 
--- ---- two blocks of n samples, with room to work in
-pub record TwoBlocks (n : ℕ) (x y w : List ℤ) : Type 0 where
-  pub first : Workable x w
-  pub second : Workable y w
-  pub first-is : length x ≡ n
-  pub second-is : length y ≡ n
+module _ {op rev : ℤ → ℤ → ℤ} (o : Opposite op rev) {n : ℕ} (C : ℕ → ℤ) {S : ℕ → ℤ} (s : Sine n S) where
+  abbrev part : ℕ → ℤ
+  part k = op (cosineBeyond n C k) (sineBeyond n S k)
 
--- the same for the other part, when the words are others, but as many
-pub exchanged : {n : ℕ} {x y v w : List ℤ} → TwoBlocks n x y w → length v ≡ length w → TwoBlocks n y x v
-exchanged b e = record { first = again (b .second) e; second = again (b .first) e; first-is = b .second-is; second-is = b .first-is }
+  pub part-front : (k : ℕ) → k ≤ n / 2 → op (C k) (S k) ≡ part k
+  part-front k h = rw (cosine-low n C k h, sine-low n S k h)
 
--- ---- a part as Pair's definition has it, at the level of n: p products; a sums for the DFTs, and s for joining them by op
-pub record Part (op : ℤ → ℤ → ℤ) (n : ℕ) (x y out out′ : List ℤ) (p a s : ℕ) : Type 0 where
-  pub words :
-      Written 0 n (λ k. op (cosineBeyond (2 ^ level n) (cosineDft (level n) (word x) .at) k) (sineBeyond (2 ^ level n) (sineDft (level n) (word y) .at) k)) out out′
-  pub products : p ≡ cosineDft (level n) (word x) .products + sineDft (level n) (word y) .products
-  pub sums : a + s ≡ cosineDft (level n) (word x) .sums + sineDft (level n) (word y) .sums + (2 ^ level n - 2)
-  pub few : p + a + s ≤ 2 ^ 18
+  pub part-first : C 0 ≡ part 0
+  part-first = sym (o .none (C 0)) ∙ ap (op (C 0)) (sym (s .first)) ∙ part-front 0 (omega arith)
 
--- ---- the DFTs of both blocks are made
-module _ {n : ℕ} {x y out w out′ w′ : List ℤ} {p a : ℕ} (b : TwoBlocks n x y w) (m : DftsMade (length x) x y out w out′ w′ p a) where
-  made : DftsMade n x y out w out′ w′ p a
-  made = subst (λ n. DftsMade n x y out w out′ w′ p a) (b .first-is) m
+  pub part-half : C (n / 2) ≡ part (n / 2)
+  part-half = sym (o .none (C (n / 2))) ∙ ap (op (C (n / 2))) (sym (s .half)) ∙ part-front (n / 2) (omega arith)
 
-  abbrev C : Transform
-  C = cosineDft (level n) (word x)
+  pub part-back : (k : ℕ) → k ≤ n → n / 2 < n - k → rev (C k) (S k) ≡ part (n - k)
+  part-back k l h =
+      let e : n - (n - k) ≡ k = omega arith in
+      rw (cosine-high n C (n - k) h, sine-high n S (n - k) h, e) (sym (o .turned (C k) (S k)))
 
-  abbrev S : Transform
-  S = sineDft (level n) (word y)
+-- ---- two stores to a buffer
+pub sum-put : {x y u v : ℤ} {i j : ℕ} {out : List ℤ} {spent total : Tally} → SumReady x y i j out spent → u ≡ x +ℤ y → v ≡ x -ℤ y →
+    Tallied 0 2 spent total → SumPut x y i j out (set (set out i u) j v) spent total
+sum-put {u = u} {v = v} {i = i} {j = j} {out = out} r e d t = record {
+  sum = getD-set-other (set out i u) j i v (pos 0) (r .apart) ∙ getD-set-same out i u (pos 0) (r .i-fits) ∙ e;
+  difference = getD-set-same (set out i u) j v (pos 0) (simp length-set (r .j-fits)) ∙ d;
+  others = λ k p q. getD-set-other (set out i u) j k v (pos 0) q ∙ getD-set-other out i k u (pos 0) p;
+  len = simp length-set;
+  tallied = t;
+}
 
-  is : n ≡ 2 ^ level n
-  is = power (b .first) (b .first-is)
+pub ends-put : {n : ℕ} {w out : List ℤ} {u v : ℤ} → n / 2 < length out → u ≡ word w 0 → v ≡ word w (n / 2) → EndsPut n w out (set (set out 0 u) (n / 2) v)
+ends-put {n} {w} {out} {u} {v} h e d = record {
+  first = ⊎-elim
+      (λ zeroth. rw zeroth (getD-set-same (set out 0 u) 0 v (pos 0) (simp length-set (omega arith)) ∙ rw zeroth at d))
+      (λ z. getD-set-other (set out 0 u) (n / 2) 0 v (pos 0) (λ e. z (sym e)) ∙ getD-set-same out 0 u (pos 0) (omega arith) ∙ e)
+      (same-or-not (n / 2) 0);
+  half = getD-set-same (set out 0 u) (n / 2) v (pos 0) (simp length-set h) ∙ d;
+  others = λ k p q. getD-set-other (set out 0 u) (n / 2) k v (pos 0) q ∙ getD-set-other out 0 k u (pos 0) p;
+  len = simp length-set;
+}
 
-  -- they can be joined
-  pub joinable : n ≤ length out → Joinable n w′ out′
-  joinable h = record {
-    some = some (b .first) (b .first-is);
-    sines-fit = omega (arith, b .first .room, b .first-is, m .len, some (b .first) (b .first-is));
-    words-fit = omega (arith, h, m .cosineWords .len);
-    first = made .sineWords 0 (omega arith) ∙ sine-first (level n) (word y);
-    half = made .sineWords (n / 2) (omega arith) ∙ sine-half (level n) n (word y) is;
-    sines = λ i h. rw (made .sineWords i h) (sine-small (b .second) (b .second-is) i h);
-    words = λ i h. rw (front (made .cosineWords) i h) (cosine-as-small n (C .at) (largestSum + 128) (cosine-small (b .first) (b .first-is)) i h);
-  }
+-- the loop has come to the middle, and the ends are put
+pub part-ends : {n a : ℕ} {f : ℕ → ℤ} {w before between after : List ℤ} → (1 ≤ n) × (a ≡ n - n / 2 - 1) → ((n ≡ 1 → ⊥) → 2 * (n / 2) ≡ n)
+    → Ends (pos 0) 1 a a (n - 1) (λ i. f (1 + i)) before between → EndsPut n w between after → word w 0 ≡ f 0 → word w (n / 2) ≡ f (n / 2)
+    → Written 0 n f before after
+part-ends {n} {a} {f} {w} {before} {between} {after} h whole run e first half = record {
+  new = λ k l. at k l;
+  low = λ k l. absurd (omega arith);
+  high = λ k l. e .others k (omega arith) (omega arith) ∙ run .high k (omega arith);
+  len = e .len ∙ run .len;
+}
+  where
+    other : (k : ℕ) → k < n → (k ≡ 0 → ⊥) → (k ≡ n / 2 → ⊥) → word after k ≡ f k
+    other k l z m =
+        let even = whole (omega arith) in
+        let place : 1 + (k - 1) ≡ k = omega arith in
+        e .others k z m
+        ∙ rw place at (⊎-elim {C = word between (1 + (k - 1)) ≡ f (1 + (k - 1))} (λ g. run .back (k - 1) (omega arith) (omega arith)) (run .front (k - 1)) (le-or-lt a (k - 1)))
 
-  -- and are joined
-  pub part : (op : ℤ → ℤ → ℤ) {out″ : List ℤ} {s : ℕ} → WrittenBySums n (λ k. op (word out′ k) (sineBeyond n (word w′) k)) (2 * (n - n / 2 - 1)) out′ out″ s →
-      Part op n x y out out″ p a s
-  part op {out″} j = record {
-    words = subst (λ N. Written 0 n (λ k. op (cosineBeyond N (C .at) k) (sineBeyond N (S .at) k)) out out″) is (record {
-      new = λ k h. j .written .new k h
-          ∙ ap₂ op (front (made .cosineWords) k h) (sine-beyond-same n (word w′) (S .at) k (omega arith) (λ i l. made .sineWords i (omega arith)));
-      low = λ k h. absurd (omega arith);
-      high = λ k h. j .written .high k h ∙ made .cosineWords .high k h;
-      len = j .written .len ∙ made .cosineWords .len;
-    });
-    products = made .products;
-    sums = omega (arith, made .sums, j .counted, part-sums (level n) n is, is);
-    few = omega (
-      arith,
-      made .products,
-      made .sums,
-      j .counted,
-      n-le (b .first) (b .first-is),
-      few (b .first) (b .first-is) .cosine,
-      few (b .second) (b .second-is) .sine,
-    );
-  }
+    at : (k : ℕ) → k < n → word after (0 + k) ≡ f k
+    at k l =
+        let here : 0 + k ≡ k = omega arith in
+        rw here (⊎-elim
+        (λ zeroth. rw zeroth (e .first ∙ first))
+        (λ z. ⊎-elim (λ middle. rw middle (e .half ∙ half)) (other k l z) (same-or-not k (n / 2)))
+        (same-or-not k 0))
+
+-- the sums of both parts
+pub parts-sums : (n k : ℕ) → ((n ≡ 1 → ⊥) → 2 * (n / 2) ≡ n) → k ≡ n - n / 2 → 4 * (k - 1) ≡ 2 * (n - 2)
+parts-sums n k whole e = ⊎-elim (λ one. omega arith) (λ more. let even = whole more in omega arith) (same-or-not n 1)

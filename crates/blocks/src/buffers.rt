@@ -1,11 +1,13 @@
 // Between the samples and coefficients of 32 bits and the words of 64 bits that the transforms work in.
-ghost use Prim.Native.Nat.{ℕ, _+_, _-_, _*_, _/_, _≤_, _<_};
-ghost use lib.IntN.{pos, natAbs, _+ℤ_, _-ℤ_};
+use counts::tally::Tally;
+ghost use mathlib.Core.Bool.{true};
+ghost use mathlib.Core.Path.{_≡_};
+ghost use Prim.Native.Nat.{ℕ, _+_, _/_, _≤_, _<_};
+ghost use lib.IntN.{pos, natAbs};
 ghost use lib.ListN.{length};
 ghost use Rattle.words.specs.Words.{word, Written};
-ghost use Rattle.ffct.specs.Block.{largestSum};
-ghost use Rattle.ffct.specs.Transforms.{cosineBeyond, sineBeyond};
-ghost use Rattle.blocks.specs.Words.{WrittenBySums, Joinable};
+ghost use Rattle.ffct.specs.Block.{isLength, largestSum};
+ghost use Rattle.blocks.specs.Buffers.{inPairs, SumReady, SumPut, EndsPut, PartsReady, PartsPut};
 
 // The block at the front of w.
 pub fn load(block: &[i32], w: &mut [i64])
@@ -16,6 +18,27 @@ pub fn load(block: &[i32], w: &mut [i64])
     while i < block.len() {
         let x = block[i] as i64;
         w[i] = x;
+        i += 1;
+    }
+}
+
+// The block at the front of w, in pairs: each sample beside its mirror image.
+pub fn load_pairs(block: &[i32], w: &mut [i64])
+    requires { ⌜ (isLength (length (now block)) ≡ true) × (length (now block) ≤ length (now w)) ⌝ }
+    ensures { λ _. ⌜ Written 0 (length (now (block .entry))) (inPairs (length (now (block .entry))) (word (now (block .entry)))) (now (w .entry)) (now (w .exit)) ⌝ }
+{
+    let n = block.len();
+    if n == 1 {
+        let x = block[0] as i64;
+        w[0] = x;
+        return;
+    }
+    let mut i = 0;
+    while i < n / 2 {
+        let x = block[i] as i64;
+        w[2 * i] = x;
+        let y = block[n - 1 - i] as i64;
+        w[2 * i + 1] = y;
         i += 1;
     }
 }
@@ -34,59 +57,69 @@ pub fn store(w: &[i64], out: &mut [i32], m: usize)
     }
 }
 
-// The coefficients 0 .. n / 2 of a cosine-DFT at the front of w, and by (9) those above n / 2.
-pub fn store_mirrored(w: &[i64], out: &mut [i32], n: usize)
-    requires { ⌜ (1 ≤ n) × (n / 2 + 1 ≤ length (now w)) × (n ≤ length (now out)) ⌝ }
+// The sum of two coefficients at place i, their difference at place j.
+fn put_sum_and_difference(
+    out: &mut [i32],
+    x: i64,
+    y: i64,
+    i: usize,
+    j: usize,
+    spent: Tally,
+) -> Tally
+    requires { ⌜ SumReady x y i j (now out) spent ⌝ }
+    ensures { λ r. ⌜ SumPut x y i j (now (out .entry)) (now (out .exit)) spent r ⌝ }
+{
+    let mut sums = spent.sums;
+    let s = (x + y) as i32;
+    sums += 1;
+    let d = (x - y) as i32;
+    sums += 1;
+    out[i] = s;
+    out[j] = d;
+    Tally {
+        products: spent.products,
+        sums: sums,
+    }
+}
+
+// Coefficient 0 and coefficient n / 2 of a cosine-DFT, where the sine-DFT is zero.
+fn store_ends(w: &[i64], out: &mut [i32], n: usize)
+    requires { ⌜ (n / 2 < length (now w)) × (n / 2 < length (now out)) ⌝ }
     requires { ⌜ ((k : ℕ) → k < n / 2 + 1 → natAbs (word (now w) k) ≤ largestSum + 257) ⌝ }
-    ensures { λ _. ⌜ Written 0 n (cosineBeyond n (word (now (w .entry)))) (now (out .entry)) (now (out .exit)) ⌝ }
+    ensures { λ _. ⌜ EndsPut n (now (w .entry)) (now (out .entry)) (now (out .exit)) ⌝ }
 {
-    store(w, out, n / 2 + 1);
-    let mut k = 1;
-    while k < n - n / 2 {
-        let y = w[k] as i32;
-        out[n - k] = y;
-        k += 1;
-    }
+    let x = w[0] as i32;
+    let y = w[n / 2] as i32;
+    out[0] = x;
+    out[n / 2] = y;
 }
 
-// The sine-DFT at the front of w added to the n words of out, by (10) subtracted above n / 2. It is zero at 0 and n / 2. Returns the sums made.
-pub fn add_sine(w: &[i64], out: &mut [i32], n: usize) -> u64
-    requires { ⌜ Joinable n (now w) (now out) ⌝ }
-    ensures { λ r. ⌜ WrittenBySums n (λ k. word (now (out .entry)) k +ℤ sineBeyond n (word (now (w .entry))) k) (2 * (n - n / 2 - 1)) (now (out .entry)) (now (out .exit)) r ⌝ }
+// Both parts of Pair, from the DFTs of a and b that stand one behind another in w: by (9) and (10), what is added at k is subtracted at n - k.
+pub fn join_parts(
+    w: &[i64],
+    real: &mut [i32],
+    imaginary: &mut [i32],
+    n: usize,
+    spent: Tally,
+) -> Tally
+    requires { ⌜ PartsReady n (now w) (now real) (now imaginary) spent ⌝ }
+    ensures { λ r. ⌜ PartsPut n (now (w .entry)) (now (real .entry)) (now (imaginary .entry)) (now (real .exit)) (now (imaginary .exit)) spent r ⌝ }
 {
-    let mut sums: u64 = 0;
+    let m = n / 2 + 1;
+    let mut tally = spent;
     let mut k = 1;
     while k < n - n / 2 {
-        let s = w[k] as i32;
-        let x = out[k];
-        out[k] = x + s;
-        sums += 1;
-        let y = out[n - k];
-        out[n - k] = y - s;
-        sums += 1;
+        let cosine_a = w[k];
+        let sine_b = w[3 * m + k];
+        let of_real = put_sum_and_difference(real, cosine_a, sine_b, k, n - k, tally);
+        let cosine_b = w[2 * m + k];
+        let sine_a = w[m + k];
+        tally = put_sum_and_difference(imaginary, cosine_b, sine_a, n - k, k, of_real);
         k += 1;
     }
-    sums
-}
-
-// The same with the signs exchanged.
-pub fn subtract_sine(w: &[i64], out: &mut [i32], n: usize) -> u64
-    requires { ⌜ Joinable n (now w) (now out) ⌝ }
-    ensures { λ r. ⌜ WrittenBySums n (λ k. word (now (out .entry)) k -ℤ sineBeyond n (word (now (w .entry))) k) (2 * (n - n / 2 - 1)) (now (out .entry)) (now (out .exit)) r ⌝ }
-{
-    let mut sums: u64 = 0;
-    let mut k = 1;
-    while k < n - n / 2 {
-        let s = w[k] as i32;
-        let x = out[k];
-        out[k] = x - s;
-        sums += 1;
-        let y = out[n - k];
-        out[n - k] = y + s;
-        sums += 1;
-        k += 1;
-    }
-    sums
+    store_ends(w, real, n);
+    store_ends(&w[2 * m..], imaginary, n);
+    tally
 }
 
 // Every word of w is 0.

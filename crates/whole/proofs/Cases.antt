@@ -1,6 +1,6 @@
 -- Two natural numbers compared, and computed tests: what a definition by tests is taken apart with.
 -- Assumes nothing.
-use mathlib.Core.Path.{subst}
+use mathlib.Core.Path.{_≡_, subst}
 use mathlib.Core.Logic.{_⊎_, inl, inr, ⊎-elim}
 use mathlib.Core.Bool.{Bool, true, false}
 use Prim.Native.Nat.{ℕ, zero, suc, _≤_, _<_}
@@ -14,6 +14,9 @@ le-or-lt m n = from (decLe m n)
     from : Dec (m ≤ n) → (m ≤ n) ⊎ (n < m)
     from (yes l) = inl l
     from (no l) = inr (omega arith)
+
+pub same-or-not : (m n : ℕ) → (m ≡ n) ⊎ (m ≡ n → ⊥)
+same-or-not m n = ⊎-elim (λ l. ⊎-elim (λ g. inl (omega arith)) (λ g. inr (λ e. omega arith)) (le-or-lt n m)) (λ l. inr (λ e. omega arith)) (le-or-lt m n)
 
 -- ---- tests that the checker computes
 -- (shut, unlike the library's `_&&_`, so that the two tests are inferred from a hypothesis)

@@ -3,6 +3,7 @@
 --     ends-none       before the first store
 --     ends-front      one store more at the front; `ends-back` at the back
 --     ends-turn       one store more at each end
+--     ends-both       one element more at each end, which a call has written
 --     ends-more       one element more at the front, which a call has written
 --     ends-pass       one element more at the front, which held what it is to hold
 --     ends-join       the back, after a call that wrote the front
@@ -124,6 +125,26 @@ module _ {A : Type 0} {d : A} {b a c m : ℕ} {f : ℕ → A} {before after : Li
     high = λ k l. kept i x k (λ e. omega arith) ∙ p .high k l;
     len = length-set after i x ∙ p .len;
   }
+
+-- one element more at each end, at the places p and q, which a call has written
+pub ends-both : {A : Type 0} {d : A} {b a c m : ℕ} {f : ℕ → A} {before between after : List A} → Ends d b a c m f before between
+    → {p q a′ c′ : ℕ} (j : ℕ) → (a′ ≡ a + 1) × (c′ ≡ c + 1) × (p ≡ b + a) × (q ≡ b + j) × (a < j) × (j + c′ ≡ m)
+    → length after ≡ length between → ((k : ℕ) → (k ≡ p → ⊥) → (k ≡ q → ⊥) → getD after k d ≡ getD between k d)
+    → getD after p d ≡ f a → getD after q d ≡ f j → Ends d b a′ c′ m f before after
+ends-both {d = d} {b = b} {a = a} {c = c} {m = m} {f = f} {after = after} e {p} {q} {a′} {c′} j h len others first last = record {
+  front = λ k l. ⊎-elim
+      (λ o. let here : b + k ≡ p = omega arith in let same : k ≡ a = omega arith in rw (here, same) first)
+      (λ o. others (b + k) (omega arith) (omega arith) ∙ e .front k o)
+      (le-or-lt a k);
+  back = λ k l o. ⊎-elim
+      (λ g. others (b + k) (omega arith) (omega arith) ∙ e .back k l g)
+      (λ g. let here : b + k ≡ q = omega arith in let same : k ≡ j = omega arith in rw (here, same) last)
+      (le-or-lt m (k + c));
+  between = λ k l o. others (b + k) (omega arith) (omega arith) ∙ e .between k (omega arith) (omega arith);
+  low = λ k l. others k (omega arith) (omega arith) ∙ e .low k l;
+  high = λ k l. others k (omega arith) (omega arith) ∙ e .high k l;
+  len = len ∙ e .len;
+}
 
 -- a turn that stores at both ends
 pub ends-turn : {A : Type 0} {d : A} {b a c m : ℕ} {f : ℕ → A} {before after : List A} → Ends d b a c m f before after → {x y : A} {i i′ a′ c′ : ℕ} (j : ℕ)

@@ -1,10 +1,15 @@
--- `blocks::cosine_of` meets its contract. Assumes nothing.
-use mathlib.Core.Path.{refl}
+-- `blocks::cosine_of` meets its contract: the DCT of the block loaded in its order. Assumes nothing.
+use mathlib.Core.Path.{refl, ap, _∙_}
+use Prim.Native.Nat.{_+_}
 use native.Mathlib.Omega.{arith}
 use borrow.Author.Needs.{needs}
 use lib.ListN.{length}
-use Rattle.transforms.specs.Steps.{dctRoom}
-use Rattle.blocks.proofs.BlockRuns.{ready, dct-left, dct-small, sized, stored, cleared}
+use Rattle.words.specs.Words.{word}
+use Rattle.words.proofs.Writing.{written-same}
+use Rattle.ffct.specs.Block.{level}
+use Rattle.ffct.specs.Transforms.{dct}
+use Rattle.transforms.specs.Steps.{Gives}
+use Rattle.blocks.proofs.BlockRuns.{few, dct-ready, dct-made, dct-small, front-word, cleared}
 use Rattle.blocks.proofs.cosine_of.Statement.{statement}
 use Rattle.blocks.proofs.cosine_of.Tie as tie
 
@@ -13,22 +18,37 @@ load-requires c κs = let k = c .before .before .pre .0 in omega (arith, k .room
 
 dct-requires : tie.Need-dct-requires
 dct-requires c κs =
-    let k = c .before .before .before .before .before .before .pre .0 in
-    (c .before .before .before .before .before .quarter-wave .ensures, ready k refl (c .before .before .before .load .ensures) (dctRoom (length (c .before .before .before .before .before .before .args .block .now))) (omega arith))
+    let l = c .before .before .before in
+    let q = l .before .before in
+    let k = q .before .pre .0 in
+    (q .quarter-wave .ensures, dct-ready (k .block-ok) (l .load .ensures) (omega (arith, k .room)) (omega (arith, few (k .block-ok) .dct)))
+
+-- the DCT, once it is made
+made : (d : tie.After-dct) →
+    let s = d .before .before .before .before .before .before .before in
+    let n = length (s .args .block .now) in
+    Gives (dct (level n) (word (s .args .block .now))) 0 n (s .args .w .now) (d .dct .last .1 .0) record { products = 0; sums = 0 } (d .dct .result)
+made d =
+    let l = d .before .before .before .before in
+    dct-made (l .before .before .before .pre .0 .block-ok) (l .load .ensures) (d .dct .ensures)
 
 store-requires : tie.Need-store-requires
 store-requires c κs =
-    let k = c .before .before .before .before .before .before .before .before .before .before .pre .0 in
-    let l = c .before .before .before .before .before .before .before .load .ensures in
-    let g = dct-left k refl l (c .before .before .before .dct .ensures) in
-    ((omega (arith, k .room, g .len), c .before .before .before .before .before .before .before .before .before .before .pre .1), sized g (omega arith) (dct-small k refl))
+    let d = c .before .before .before in
+    let s = d .before .before .before .before .before .before .before in
+    let g = made d in
+    ((omega (arith, s .pre .0 .room, g .len), s .pre .1), λ k h. rw (front-word g k h) (dct-small (s .pre .0 .block-ok) k h))
 
 returns : tie.Need-returns
 returns c =
-    let k = c .before .before .before .before .before .before .before .before .before .before .before .before .before .before .before .pre .0 in
-    let l = c .before .before .before .before .before .before .before .before .before .before .before .before .load .ensures in
-    let g = dct-left k refl l (c .before .before .before .before .before .before .before .before .dct .ensures) in
-    record { words = stored g (c .before .before .before .before .store .ensures); cleared = cleared (g .len) (c .before .clear .ensures); products = g .products; sums = g .sums }
+    let d = c .before .before .before .before .before .before .before .before in
+    let g = made d in
+    record {
+      words = written-same (c .before .before .before .before .store .ensures) refl (front-word g);
+      cleared = cleared (g .len) (c .before .clear .ensures);
+      products = omega (arith, g .tallied);
+      sums = omega (arith, g .tallied);
+    }
 
 pub cosine-of-spec : {M : Type 1} → statement M
 cosine-of-spec =

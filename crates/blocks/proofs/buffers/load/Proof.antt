@@ -2,14 +2,11 @@
 use Prim.Native.Nat.{_-_, _≤_}
 use native.Mathlib.Omega.{arith}
 use lib.ListN.{length}
-use mir.Syntax.{w32}
-use mir.Val.{ofZ}
 use lib.IntN.{pos}
-use borrow.Author.Needs.{needs, sfits-of}
-use Rattle.whole.proofs.Words as Words
-use Rattle.whole.proofs.Words.{Word, widens, widened}
+use borrow.Author.Needs.{needs}
 use Rattle.words.specs.Words.{word}
 use Rattle.words.proofs.Writing.{Ends, ends-none, ends-front, ends-all}
+use Rattle.blocks.proofs.Casting.{sample-widens, sample-widened}
 use Rattle.blocks.proofs.buffers.load.Statement.{statement}
 use Rattle.blocks.proofs.buffers.load.Tie as tie
 
@@ -19,15 +16,11 @@ Inv-loop block w₀ i₀ w i = (i ≤ length block) × Ends (pos 0) 0 i 0 (lengt
 abbrev μ-loop : tie.MeasureT-loop
 μ-loop block w₀ i₀ w i = length block - i
 
--- the sample that a turn reads
-sample : (c : tie.After-x Inv-loop μ-loop) → let x = word (c .before .before .before .args .block .now) (c .before .before .loop .i) in Word w32 (ofZ w32 x) x
-sample c = Words.word (sfits-of (c .x .given))
-
 cast-x : tie.Need-cast-x Inv-loop μ-loop
-cast-x c = widens tt (sample c)
+cast-x c = let l = c .before .before in sample-widens (word (l .before .args .block .now) (l .loop .i)) (c .x .given)
 
 loop-again : tie.Need-loop-again Inv-loop μ-loop
-loop-again c = (search needs, ends-front (c .before .before .loop .inv .1) (omega arith) (widened tt (sample c) .is))
+loop-again c = (search needs, ends-front (c .before .before .loop .inv .1) (omega arith) (sample-widened _ (c .x .given)))
 
 returns : tie.Need-returns Inv-loop μ-loop
 returns c = ends-all (c .before .loop .inv .1) (omega arith)

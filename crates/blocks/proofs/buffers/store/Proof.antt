@@ -5,7 +5,7 @@ use lib.IntN.{pos}
 use borrow.Author.Needs.{needs}
 use Rattle.words.specs.Words.{word}
 use Rattle.words.proofs.Writing.{Ends, ends-none, ends-front, ends-all}
-use Rattle.blocks.proofs.Writing.{narrows, narrowed}
+use Rattle.blocks.proofs.Casting.{coefficient-narrows, coefficient-narrowed}
 use Rattle.blocks.proofs.buffers.store.Statement.{statement}
 use Rattle.blocks.proofs.buffers.store.Tie as tie
 
@@ -18,12 +18,12 @@ abbrev μ-loop : tie.MeasureT-loop
 cast-y : tie.Need-cast-y Inv-loop μ-loop
 cast-y c =
     let l = c .before .before in
-    narrows (word (l .before .args .w .now) (l .loop .k)) (l .before .pre .1 (l .loop .k) (omega arith))
+    coefficient-narrows (word (l .before .args .w .now) (l .loop .k)) (l .before .pre .1 (l .loop .k) (omega arith))
 
 loop-again : tie.Need-loop-again Inv-loop μ-loop
 loop-again c =
     let l = c .before .before in
-    (search needs, ends-front (l .loop .inv .1) (omega arith) (narrowed _ (l .before .pre .1 (l .loop .k) (omega arith)) .is))
+    (search needs, ends-front (l .loop .inv .1) (omega arith) (coefficient-narrowed _ (l .before .pre .1 (l .loop .k) (omega arith))))
 
 returns : tie.Need-returns Inv-loop μ-loop
 returns c = ends-all (c .before .loop .inv .1) (omega arith)

@@ -1,0 +1,38 @@
+-- `blocks::buffers::store_ends` meets its contract. Assumes nothing.
+use Prim.Native.Nat.{_/_}
+use native.Mathlib.Omega.{arith}
+use lib.ListN.{length-set}
+use borrow.Author.Needs.{needs}
+use Rattle.words.specs.Words.{word}
+use Rattle.blocks.proofs.Casting.{coefficient-narrows, coefficient-narrowed}
+use Rattle.blocks.proofs.Parts.{ends-put}
+use Rattle.blocks.proofs.buffers.store_ends.Statement.{statement}
+use Rattle.blocks.proofs.buffers.store_ends.Tie as tie
+
+cast-x : tie.Need-cast-x
+cast-x c = coefficient-narrows (word (c .before .args .w .now) 0) (c .before .pre .1 0 (omega arith))
+
+cast-y : tie.Need-cast-y
+cast-y c =
+    let s = c .before .before in
+    coefficient-narrows (word (s .args .w .now) (s .args .n / 2)) (s .pre .1 (s .args .n / 2) (omega arith))
+
+returns : tie.Need-returns
+returns c =
+    let s = c .before .before in
+    ends-put (s .pre .0 .1) (coefficient-narrowed _ (s .pre .1 0 (omega arith))) (coefficient-narrowed _ (s .pre .1 (s .args .n / 2) (omega arith)))
+
+pub store-ends-spec : {M : Type 1} → statement M
+store-ends-spec =
+    tie.close
+    (tie.spec
+    (λ c. search needs)  -- shared-slice-copy-out-x
+    cast-x
+    (λ c. search needs)  -- mul-y
+    (λ c. search needs)  -- shared-slice-copy-out-y
+    cast-y
+    (λ c. search needs)  -- slice-set-from-x
+    (λ c. search needs)  -- mul-y-2
+    (λ c. simp length-set (omega arith))  -- slice-set-from-y
+    (λ c. search needs)  -- same-length
+    returns)
