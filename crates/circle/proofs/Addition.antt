@@ -11,7 +11,8 @@ use lib.IntN.{ℤ, negℤ, _+ℤ_, _-ℤ_, _*ℤ_}
 use Rattle.whole.proofs.Cases.{le-or-lt}
 use Rattle.whole.proofs.Difference.{int, parts, diff}
 use Rattle.whole.proofs.Ring.{expand}
-use Rattle.whole.proofs.Size.{near, _within_, within-size, within-int, within-eq, within-le, within-add, within-sub, within-mul, within-cancel}
+use Rattle.whole.proofs.Size.{near, _within_, within-size, within-int, within-eq, within-le}
+use Rattle.whole.proofs.Size.{within-add, within-sub, within-mul, within-cancel}
 use Rattle.circle.specs.Circle.{B, K, sineAt}
 use Rattle.circle.specs.Laws.{additionError, Addition}
 use Rattle.circle.proofs.Places.{turns-on, half-turn-on, K-zero}
@@ -21,8 +22,10 @@ use Rattle.circle.proofs.Steps.{stepError, cosOne, sinOne, step-law}
 -- ---- one step more. Cosine and sine of p are (c, s), of q (d, t), of q + 1 (d′, t′), of p + q (f, g), the cosine of p + q + 1 is f′;
 -- the unit step is (a, o), and the steps miss by δ, ε, ζ
 module _ (b η e u v : ℕ) (a o c s d t d′ t′ f g f′ δ ε ζ : ℤ) (lb : 0 < b) (huv : 512 * (u + v) ≤ 513 * b)
-    (ha : a within u) (ho : o within v) (hc : c within b) (hs : s within b) (hδ : δ within η * b) (hε : ε within η * b) (hζ : ζ within η * b)
-    (cos-step : int b *ℤ d′ ≡ a *ℤ d -ℤ o *ℤ t -ℤ δ) (sin-step : int b *ℤ t′ ≡ o *ℤ d +ℤ a *ℤ t -ℤ ε) (far-step : int b *ℤ f′ ≡ a *ℤ f -ℤ o *ℤ g -ℤ ζ)
+    (ha : a within u) (ho : o within v) (hc : c within b) (hs : s within b)
+    (hδ : δ within η * b) (hε : ε within η * b) (hζ : ζ within η * b)
+    (cos-step : int b *ℤ d′ ≡ a *ℤ d -ℤ o *ℤ t -ℤ δ) (sin-step : int b *ℤ t′ ≡ o *ℤ d +ℤ a *ℤ t -ℤ ε)
+    (far-step : int b *ℤ f′ ≡ a *ℤ f -ℤ o *ℤ g -ℤ ζ)
     (cos-sum : c *ℤ d -ℤ s *ℤ t -ℤ int b *ℤ f within e * b) (sin-sum : s *ℤ d +ℤ c *ℤ t -ℤ int b *ℤ g within e * b) where
   -- the five errors, each with its weight, stay below b times the next error
   weights : u * (e * b) + v * (e * b) + b * (η * b) + b * (η * b) + b * (η * b) ≤ b * ((3 * η + e + e / 512 + 1) * b)
@@ -40,11 +43,10 @@ module _ (b η e u v : ℕ) (a o c s d t d′ t′ f g f′ δ ε ζ : ℤ) (lb 
 
   next-sum : c *ℤ d′ -ℤ s *ℤ t′ -ℤ int b *ℤ f′ within (3 * η + e + e / 512 + 1) * b
   next-sum =
+      let turned = within-sub (within-mul ha cos-sum) (within-mul ho sin-sum) in
+      let missed = within-add (within-add (within-sub turned (within-mul hc hδ)) (within-mul hs hε)) (within-mul (within-int b) hζ) in
       within-cancel b lb
-      (within-le
-      (within-eq (sym (spread (int b) ∙ rw (cos-step, sin-step, far-step) (gathered (int b))))
-      (within-add (within-add (within-sub (within-sub (within-mul ha cos-sum) (within-mul ho sin-sum)) (within-mul hc hδ)) (within-mul hs hε)) (within-mul (within-int b) hζ)))
-      weights)
+      (within-le (within-eq (sym (spread (int b) ∙ rw (cos-step, sin-step, far-step) (gathered (int b)))) missed) weights)
 
 -- ---- the induction
 abbrev Cosine : ℕ → ℕ → ℕ → Type 0
@@ -85,8 +87,10 @@ unfolding err
 cosine-sums zero p = at-start p
 cosine-sums (suc q) p =
     rw (add-suc p q)
-    (next-sum B stepError (err q) cosOne sinOne (int cosOne) (int sinOne) (K p) (sineAt p) (K q) (sineAt q) (K (suc q)) (sineAt (suc q)) (K (p + q)) (sineAt (p + q)) (K (suc (p + q))) _ _ _
-    (lit< tt) (lit≤ tt) (within-int cosOne) (within-int sinOne) (K-within p) (K-within (p + 3072)) (step-law q .0) (step-law q .1) (step-law (p + q) .0)
+    (next-sum B stepError (err q) cosOne sinOne (int cosOne) (int sinOne) (K p) (sineAt p) (K q) (sineAt q)
+    (K (suc q)) (sineAt (suc q)) (K (p + q)) (sineAt (p + q)) (K (suc (p + q))) _ _ _
+    (lit< tt) (lit≤ tt) (within-int cosOne) (within-int sinOne) (K-within p) (K-within (p + 3072))
+    (step-law q .0) (step-law q .1) (step-law (p + q) .0)
     (missed (int cosOne *ℤ K q -ℤ int sinOne *ℤ sineAt q) (int B *ℤ K (suc q)))
     (missed (int sinOne *ℤ K q +ℤ int cosOne *ℤ sineAt q) (int B *ℤ sineAt (suc q)))
     (missed (int cosOne *ℤ K (p + q) -ℤ int sinOne *ℤ sineAt (p + q)) (int B *ℤ K (suc (p + q))))
@@ -96,7 +100,10 @@ cosine-sums (suc q) p =
 err-grows : (q n : ℕ) → q ≤ n → err q ≤ err n
 unfolding err
 err-grows q zero h = le-of-eq (ap err {x = q} {y = 0} (omega arith))
-err-grows q (suc n) h = ⊎-elim (λ l. omega (arith, err-grows q n l)) (λ l. le-of-eq (ap err {x = q} {y = suc n} (omega arith))) (le-or-lt q n)
+err-grows q (suc n) h = ⊎-elim
+    (λ l. omega (arith, err-grows q n l))
+    (λ l. le-of-eq (ap err {x = q} {y = suc n} (omega arith)))
+    (le-or-lt q n)
 
 err-small : err 4095 ≤ additionError
 unfolding err
@@ -104,9 +111,16 @@ err-small = lit≤ tt
 
 pub addition : (p q : ℕ) → Addition p q
 unfolding int
-addition p q = record { cosine = within-size (everywhere p q); sine = within-size (as-sine p q (additionError * B) (everywhere (p + 3072) q)) }
+addition p q = record {
+  cosine = within-size (everywhere p q);
+  sine = within-size (as-sine p q (additionError * B) (everywhere (p + 3072) q));
+}
   where
     everywhere : (p q : ℕ) → Cosine p q (additionError * B)
     everywhere p q =
-        rw (turns-on q (q % 4096) (q / 4096) (omega arith), turns-on (q + 3072) (q % 4096 + 3072) (q / 4096) (omega arith), turns-on (p + q) (p + q % 4096) (q / 4096) (omega arith))
+        rw (
+          turns-on q (q % 4096) (q / 4096) (omega arith),
+          turns-on (q + 3072) (q % 4096 + 3072) (q / 4096) (omega arith),
+          turns-on (p + q) (p + q % 4096) (q / 4096) (omega arith),
+        )
         (within-le (cosine-sums (q % 4096) p) (mul-le-mul-right B (le-trans (err-grows (q % 4096) 4095 (omega arith)) err-small)))

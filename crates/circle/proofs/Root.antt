@@ -46,7 +46,8 @@ cosine-le zero = zero-le
 cosine-le (suc times) = root-half (B + halved times .0) (omega (arith, cosine-le times)) .1
 
 -- each halving takes whole-number roots, of the numbers that document 01 gives
-pub halving : (times : ℕ) → IsRoot (B * (B + halved times .0) / 2) (halved (suc times) .0) × IsRoot (B * (B - halved times .0) / 2) (halved (suc times) .1)
+pub halving : (times : ℕ) →
+    IsRoot (B * (B + halved times .0) / 2) (halved (suc times) .0) × IsRoot (B * (B - halved times .0) / 2) (halved (suc times) .1)
 unfolding halved
 halving times =
     (root-half (B + halved times .0) (omega (arith, cosine-le times)) .0, root-half (B - halved times .0) (omega arith) .0)

@@ -63,7 +63,8 @@ module _ (c s : ℕ → ℤ) where
   abbrev SinStep : ℕ → Type 0
   SinStep j = sinError (c j) (s j) (s (suc j)) within stepError * B
 
-passed : (xs ys : List ℤ) → T (stepsWell xs ys) → (j : ℕ) → suc j < length xs → CosStep (entry xs) (entry ys) j × SinStep (entry xs) (entry ys) j
+passed : (xs ys : List ℤ) → T (stepsWell xs ys) → (j : ℕ) → suc j < length xs
+    → CosStep (entry xs) (entry ys) j × SinStep (entry xs) (entry ys) j
 unfolding stepsWell entry
 passed [] ys t j h = absurd (omega arith)
 passed (c ∷ []) ys t j h = absurd (omega arith)
@@ -78,7 +79,8 @@ reversed-skip : (xs ys : List ℤ) (i : ℕ) → entry (reversed xs ys) (length 
 unfolding reversed entry
 reversed-skip [] ys i = ap (λ j. getD ys j (pos 0)) {x = 0 + i} {y = i} (omega arith)
 reversed-skip (x ∷ xs) ys i =
-    ap (λ j. entry (reversed xs (x ∷ ys)) j) {x = suc (length xs) + i} {y = length xs + suc i} (omega arith) ∙ reversed-skip xs (x ∷ ys) (suc i)
+    ap (λ j. entry (reversed xs (x ∷ ys)) j) {x = suc (length xs) + i} {y = length xs + suc i} (omega arith)
+    ∙ reversed-skip xs (x ∷ ys) (suc i)
 
 reversed-at : (xs ys : List ℤ) (i j : ℕ) → i + j + 1 ≡ length xs → entry (reversed xs ys) i ≡ entry xs j
 unfolding reversed entry
@@ -109,8 +111,15 @@ sin-turned i j h = turns-on (i + 3072) j 1 (omega arith)
 
 next-quarter : (j : ℕ) → StepsAt j → StepsAt (j + 1024)
 next-quarter j h =
-    rw (cos-turned (j + 1024) j refl, cos-turned (suc (j + 1024)) (suc j) (omega arith), sin-turned (j + 1024) j refl, sin-turned (suc (j + 1024)) (suc j) (omega arith))
-    (within-eq (cos-error (int cosOne) (int sinOne) (int B) (K j) (sineAt j) (sineAt (suc j))) (within-neg (h .1)), within-eq (sin-error (int cosOne) (int sinOne) (int B) (K j) (sineAt j) (K (suc j))) (h .0))
+    rw (
+      cos-turned (j + 1024) j refl,
+      cos-turned (suc (j + 1024)) (suc j) (omega arith),
+      sin-turned (j + 1024) j refl,
+      sin-turned (suc (j + 1024)) (suc j) (omega arith),
+    ) (
+      within-eq (cos-error (int cosOne) (int sinOne) (int B) (K j) (sineAt j) (sineAt (suc j))) (within-neg (h .1)),
+      within-eq (sin-error (int cosOne) (int sinOne) (int B) (K j) (sineAt j) (K (suc j))) (h .0),
+    )
   where
     cos-error : (a o b c s t : ℤ) → negℤ (o *ℤ c +ℤ a *ℤ s -ℤ b *ℤ t) ≡ a *ℤ negℤ s -ℤ o *ℤ c -ℤ b *ℤ negℤ t
     cos-error a o b c s t = simp expand
@@ -120,7 +129,8 @@ next-quarter j h =
 
 quarters-on : (q j : ℕ) → StepsAt j → StepsAt (j + 1024 * q)
 quarters-on zero j h = subst StepsAt {x = j} {y = j + 1024 * 0} (omega arith) h
-quarters-on (suc q) j h = subst StepsAt {x = j + 1024 * q + 1024} {y = j + 1024 * suc q} (omega arith) (next-quarter (j + 1024 * q) (quarters-on q j h))
+quarters-on (suc q) j h =
+    subst StepsAt {x = j + 1024 * q + 1024} {y = j + 1024 * suc q} (omega arith) (next-quarter (j + 1024 * q) (quarters-on q j h))
 
 pub step-law : (j : ℕ) → StepsAt j
 step-law j =

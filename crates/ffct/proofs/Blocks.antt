@@ -1,4 +1,5 @@
--- A transform of level L reads the first 2 ^ L samples and no others; the sine-DFT is zero at k = 0 and k = N/2; a step reads only the coefficients in range.
+-- A transform of level L reads the first 2 ^ L samples and no others; the sine-DFT is zero at k = 0 and k = N/2; a step reads only the
+-- coefficients in range.
 -- Assumes nothing.
 use mathlib.Core.Path.{_≡_, refl, sym, _∙_, ap, ap₂}
 use mathlib.Core.Logic.{_⊎_, inl, inr, ⊎-elim}
@@ -11,15 +12,18 @@ use Rattle.whole.proofs.Cases.{le-or-lt}
 use Rattle.whole.specs.Round.{round}
 use Rattle.circle.specs.Circle.{T}
 use Rattle.words.specs.Words.{Samples}
-use Rattle.ffct.specs.Transforms.{evens, foldedSums, foldedDifferences, alternate, rearranged, cosineBeyond, sineBeyond, dctBeyond, apart, rotated, dctBy, cosineDft, sineDft, dct, spectrum, pair}
+use Rattle.ffct.specs.Transforms.{evens, foldedSums, foldedDifferences, alternate, rearranged}
+use Rattle.ffct.specs.Transforms.{cosineBeyond, sineBeyond, dctBeyond, apart, rotated, dctBy, cosineDft, sineDft, dct, spectrum, pair}
 use Rattle.ffct.proofs.Lengths.{len, pow-len, len-pos}
-use Rattle.ffct.proofs.Steps.{rearranged-source, sine-step, cosine-low, cosine-high, sine-low, sine-high, dct-low, dct-middle, dct-high, rotated-zero, rotated-low, rotated-middle, rotated-high}
+use Rattle.ffct.proofs.Steps.{sine-step, cosine-low, cosine-high, sine-low, sine-high, dct-low, dct-middle, dct-high}
+use Rattle.ffct.proofs.Steps.{rearranged-source, rotated-zero, rotated-low, rotated-middle, rotated-high}
 
 -- two blocks of level L are the same
 abbrev pub Same : ℕ → Samples → Samples → Type 0
 Same L x y = (i : ℕ) → i < len L → x i ≡ y i
 
-pub rearranged-same : (m : ℕ) (x y : Samples) → ((i : ℕ) → i < 2 * m → x i ≡ y i) → (i : ℕ) → i < 2 * m → rearranged (2 * m) x i ≡ rearranged (2 * m) y i
+pub rearranged-same : (m : ℕ) (x y : Samples) → ((i : ℕ) → i < 2 * m → x i ≡ y i)
+    → (i : ℕ) → i < 2 * m → rearranged (2 * m) x i ≡ rearranged (2 * m) y i
 rearranged-same m x y e i h =
     let s = rearranged-source m i h in
     s .2 x ∙ e (s .0) (s .1) ∙ sym (s .2 y)
@@ -42,8 +46,10 @@ dct-same-of (suc L) H x y e =
 pub dft-same : (L : ℕ) → DftSame L
 unfolding cosineDft dct
 dft-same zero x y e = (ap (λ z. record { at = λ k. z; products = 0; sums = 0 }) (e 0 (omega arith)), refl)
-dft-same (suc zero) x y e =
-    (ap₂ (λ u v. record { at = λ k. cond (eqb k 0) (u +ℤ v) (u -ℤ v); products = 0; sums = 2 }) (e 0 (omega arith)) (e 1 (omega arith)), refl)
+dft-same (suc zero) x y e = (
+  ap₂ (λ u v. record { at = λ k. cond (eqb k 0) (u +ℤ v) (u -ℤ v); products = 0; sums = 2 }) (e 0 (omega arith)) (e 1 (omega arith)),
+  refl,
+)
 dft-same (suc (suc L)) x y e =
     let N = 2 ^ suc (suc L) in (
       ap₂ (λ even odd. record {
@@ -55,7 +61,9 @@ dft-same (suc (suc L)) x y e =
         at = λ k. sineBeyond (N / 2) (even .at) k +ℤ dctBeyond (N / 4) (odd .at) (apart (N / 4) k);
         products = even .products + odd .products;
         sums = even .sums + odd .sums + (N / 4 + (N / 2 - 2));
-      }) (dft-same (suc L) (evens x) (evens y) even-same .1) (dct-same-of L (dft-same L) (foldedDifferences N x) (foldedDifferences N y) difference-same),
+      })
+          (dft-same (suc L) (evens x) (evens y) even-same .1)
+          (dct-same-of L (dft-same L) (foldedDifferences N x) (foldedDifferences N y) difference-same),
     )
   where
     even-same : Same (suc L) (evens x) (evens y)
@@ -91,7 +99,9 @@ sine-first zero x = unfold sineDft in refl
 sine-first (suc zero) x = unfold sineDft in refl
 sine-first (suc (suc L)) x =
     sine-step L x 0
-    ∙ ap₂ _+ℤ_ (sine-low (2 * len L) (sineDft (suc L) (evens x) .at) 0 (omega arith) ∙ sine-first (suc L) (evens x)) (dct-middle (len L) _ (apart (len L) 0) (apart-ends (len L) 0 (inl refl)))
+    ∙ ap₂ _+ℤ_
+    (sine-low (2 * len L) (sineDft (suc L) (evens x) .at) 0 (omega arith) ∙ sine-first (suc L) (evens x))
+    (dct-middle (len L) _ (apart (len L) 0) (apart-ends (len L) 0 (inl refl)))
 
 pub sine-last : (L : ℕ) (x : Samples) (k : ℕ) → 2 * k ≡ len L → sineDft L x .at k ≡ pos 0
 sine-last zero x k h = unfold sineDft in refl
@@ -99,7 +109,8 @@ sine-last (suc zero) x k h = unfold sineDft in refl
 sine-last (suc (suc L)) x k h =
     sine-step L x k
     ∙ ap₂ _+ℤ_
-    (sine-high (2 * len L) _ k (omega (arith, len-pos L)) ∙ ap negℤ (ap (sineDft (suc L) (evens x) .at) {x = 2 * len L - k} {y = 0} (omega arith) ∙ sine-first (suc L) (evens x)))
+    (sine-high (2 * len L) _ k (omega (arith, len-pos L))
+    ∙ ap negℤ (ap (sineDft (suc L) (evens x) .at) {x = 2 * len L - k} {y = 0} (omega arith) ∙ sine-first (suc L) (evens x)))
     (dct-middle (len L) _ (apart (len L) k) (apart-ends (len L) k (inr (omega arith))))
 
 -- ---- a coefficient out of range is read from those in range
@@ -119,7 +130,10 @@ module _ (N : ℕ) (f g : ℕ → ℤ) (k : ℕ) (h : k ≤ N) (e : (j : ℕ) �
 module _ (m : ℕ) (f g : ℕ → ℤ) (k : ℕ) (h : k ≤ 2 * m) where
   pub dct-beyond-same : ((j : ℕ) → j < m → f j ≡ g j) → dctBeyond m f k ≡ dctBeyond m g k
   dct-beyond-same e = ⊎-elim
-      (λ l. ⊎-elim (λ l₂. dct-middle m f k (omega arith) ∙ sym (dct-middle m g k (omega arith))) (λ l₂. dct-low m f k l₂ ∙ e k l₂ ∙ sym (dct-low m g k l₂)) (le-or-lt m k))
+      (λ l. ⊎-elim
+      (λ l₂. dct-middle m f k (omega arith) ∙ sym (dct-middle m g k (omega arith)))
+      (λ l₂. dct-low m f k l₂ ∙ e k l₂ ∙ sym (dct-low m g k l₂))
+      (le-or-lt m k))
       (λ l. dct-high m f k l ∙ ap negℤ (e _ (omega arith)) ∙ sym (dct-high m g k l))
       (le-or-lt k m)
 
@@ -136,13 +150,17 @@ rotated-same m w C C′ S S′ q e d k h = ⊎-elim
     low : 0 < k → k < m → rotated (2 * m) C S k ≡ rotated (2 * m) C′ S′ k
     low l l₂ =
         rotated-low m w C S q k l l₂
-        ∙ ap₂ (λ u v. round (T (k * w) *ℤ u -ℤ T (1024 - k * w) *ℤ v)) (e k (omega arith)) (d k (omega arith)) ∙ sym (rotated-low m w C′ S′ q k l l₂)
+        ∙ ap₂ (λ u v. round (T (k * w) *ℤ u -ℤ T (1024 - k * w) *ℤ v)) (e k (omega arith)) (d k (omega arith))
+        ∙ sym (rotated-low m w C′ S′ q k l l₂)
 
     middle : k ≡ m → rotated (2 * m) C S k ≡ rotated (2 * m) C′ S′ k
     middle l =
-        rotated-middle m w C S q k (omega arith) l ∙ ap (λ u. round (T 512 *ℤ u)) (e m (omega arith)) ∙ sym (rotated-middle m w C′ S′ q k (omega arith) l)
+        rotated-middle m w C S q k (omega arith) l
+        ∙ ap (λ u. round (T 512 *ℤ u)) (e m (omega arith))
+        ∙ sym (rotated-middle m w C′ S′ q k (omega arith) l)
 
     high : m < k → rotated (2 * m) C S k ≡ rotated (2 * m) C′ S′ k
     high l =
         rotated-high m w C S q k l
-        ∙ ap₂ (λ u v. round (T (1024 - (2 * m - k) * w) *ℤ u +ℤ T ((2 * m - k) * w) *ℤ v)) (e _ (omega arith)) (d _ (omega arith)) ∙ sym (rotated-high m w C′ S′ q k l)
+        ∙ ap₂ (λ u v. round (T (1024 - (2 * m - k) * w) *ℤ u +ℤ T ((2 * m - k) * w) *ℤ v)) (e _ (omega arith)) (d _ (omega arith))
+        ∙ sym (rotated-high m w C′ S′ q k l)

@@ -1,5 +1,5 @@
--- The counts that the recursion carries: the length alone decides them, and they are the published closed forms, at all levels and not only the eleven that are accepted
--- (for Spectrum and Pair from N = 2; at N = 1 they are 0).
+-- The counts that the recursion carries: the length alone decides them, and they are the published closed forms, at all levels and not
+-- only the eleven that are accepted (for Spectrum and Pair from N = 2; at N = 1 they are 0).
 -- Assumes nothing.
 use mathlib.Core.Path.{_≡_, refl, ap}
 use mathlib.Core.Bool.{Bool}
@@ -89,11 +89,13 @@ published L = record {
   spectrumP = λ x h. signed-half (2 ^ L) L 3 2 _ (omega (arith, closed-spectrum L x h));
   spectrumS = λ x h. signed-half (2 ^ L) (3 * L) 5 4 _ (omega (arith, closed-spectrum L x h));
   pairP = λ a b h. signed (2 ^ L) L 3 4 _ (omega (arith, closed-spectrum L a h, closed-spectrum L b h));
-  pairS = λ a b h. signed (3 * 2 ^ L) L 1 4 _ (omega (arith, closed-spectrum L a h, closed-spectrum L b h, pow-le-pow-right {n = 2} (lit< tt) h));
+  pairS = λ a b h.
+      signed (3 * 2 ^ L) L 1 4 _ (omega (arith, closed-spectrum L a h, closed-spectrum L b h, pow-le-pow-right {n = 2} (lit< tt) h));
 }
 
 -- "N = 1 costs nothing": here the published forms of Spectrum and Pair are wrong
-pub nothing-at-one : (a b : Samples) → (spectrum 0 a .products ≡ 0) × (spectrum 0 a .sums ≡ 0) × (pair 0 a b .products ≡ 0) × (pair 0 a b .sums ≡ 0)
+pub nothing-at-one : (a b : Samples) →
+    (spectrum 0 a .products ≡ 0) × (spectrum 0 a .sums ≡ 0) × (pair 0 a b .products ≡ 0) × (pair 0 a b .sums ≡ 0)
 unfolding cosineDft spectrum pair
 nothing-at-one a b = (refl, refl, refl, refl)
 

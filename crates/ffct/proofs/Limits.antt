@@ -18,7 +18,8 @@ use Rattle.ffct.specs.Limits.{Limits, PairLimits}
 use Rattle.ffct.proofs.Lengths.{len, pow-len, per, len-per}
 use Rattle.ffct.proofs.Steps.{cosine-low, sine-low}
 use Rattle.ffct.proofs.Sums.{cosSum, sinSum, cos-exact, sin-exact, dct-exact, real-exact, imaginary-exact}
-use Rattle.ffct.proofs.Near.{Near, Bounded, near-neg, near-add, cosine-beyond, sine-beyond, dctError, dftError, dft-near, dct-near}
+use Rattle.ffct.proofs.Near.{Near, Bounded, near-neg, near-add, cosine-beyond, sine-beyond}
+use Rattle.ffct.proofs.Near.{dctError, dftError, BothNear, dft-near, dct-near}
 
 -- an error e is below a limit
 abbrev under : Limit → ℕ → Type 0
@@ -51,23 +52,32 @@ bounded L x a i h = size-within (x i) (a .range i (omega (arith, pow-len L)))
 
 pub limits : (L : ℕ) (x : Samples) → AcceptedBlock L x → Limits L x
 limits L x a = record {
-  cosine = λ k h. rw (pow-len L, cos-exact (per L) (len L) x k w) (near-within (eighth (len L)) (dft k (omega (arith, pow-len L)) .0) (dft-small L (a .length)));
-  sine = λ k h. rw (pow-len L, sin-exact (per L) (len L) x k w) (near-within (eighth (len L)) (dft k (omega (arith, pow-len L)) .1) (dft-small L (a .length)));
-  dct = λ k h. rw (pow-len L, dct-exact (per L) (len L) x k w)
-      (near-within (quarterOfNext (len L)) (dct-near L (per L) x largestSample w (bounded L x a) k (omega (arith, pow-len L))) (dct-small L (a .length)));
+  cosine = λ k h. rw (pow-len L, cos-exact (per L) (len L) x k w)
+      (near-within (eighth (len L)) (dft k (omega (arith, pow-len L)) .0) (dft-small L (a .length)));
+  sine = λ k h. rw (pow-len L, sin-exact (per L) (len L) x k w)
+      (near-within (eighth (len L)) (dft k (omega (arith, pow-len L)) .1) (dft-small L (a .length)));
+  dct = λ k h.
+      let near = dct-near L (per L) x largestSample w (bounded L x a) k (omega (arith, pow-len L)) in
+      rw (pow-len L, dct-exact (per L) (len L) x k w) (near-within (quarterOfNext (len L)) near (dct-small L (a .length)));
 }
   where
     w : len L * per L ≡ 1024
     w = len-per L (a .length)
 
-    dft : (k : ℕ) → 2 * k ≤ len L →
-        Near (cosineDft L x .at k) (cosSum (per L) (len L) x k) (dftError L largestSample) × Near (sineDft L x .at k) (sinSum (per L) (len L) x k) (dftError L largestSample)
+    dft : (k : ℕ) → 2 * k ≤ len L → BothNear L (per L) x k (dftError L largestSample)
     dft = dft-near L (per L) x largestSample w (bounded L x a)
 
 -- ---- Pair: cosine- and sine-DFT at every k below N, by (9) and (10), and their sum or difference
-everywhere : (L w : ℕ) (x : Samples) (X : ℕ) → len L * w ≡ 1024 → Bounded (len L) x X → (k : ℕ) → k < len L →
-    Near (cosineBeyond (len L) (cosineDft L x .at) k) (cosSum w (len L) x k) (dftError L X) × Near (sineBeyond (len L) (sineDft L x .at) k) (sinSum w (len L) x k) (dftError L X)
-everywhere zero w x X q b k h = rw (cosine-low 1 (cosineDft 0 x .at) k (omega arith), sine-low 1 (sineDft 0 x .at) k (omega arith)) (dft-near 0 w x X q b k (omega arith))
+abbrev BeyondNear : ℕ → ℕ → Samples → ℕ → ℕ → Type 0
+BeyondNear L w x k e =
+    Near (cosineBeyond (len L) (cosineDft L x .at) k) (cosSum w (len L) x k) e
+    × Near (sineBeyond (len L) (sineDft L x .at) k) (sinSum w (len L) x k) e
+
+everywhere : (L w : ℕ) (x : Samples) (X : ℕ) → len L * w ≡ 1024 → Bounded (len L) x X
+    → (k : ℕ) → k < len L → BeyondNear L w x k (dftError L X)
+everywhere zero w x X q b k h =
+    rw (cosine-low 1 (cosineDft 0 x .at) k (omega arith), sine-low 1 (sineDft 0 x .at) k (omega arith))
+    (dft-near 0 w x X q b k (omega arith))
 everywhere (suc L) w x X q b k h = (
   cosine-beyond w (len L) x _ k _ (omega arith) q (λ j l. dft-near (suc L) w x X q b j (omega arith) .0),
   sine-beyond w (len L) x _ k _ (omega arith) q (λ j l. dft-near (suc L) w x X q b j (omega arith) .1),
@@ -76,16 +86,16 @@ everywhere (suc L) w x X q b k h = (
 pub pair-limits : (L : ℕ) (a b : Samples) → AcceptedBlock L a → AcceptedBlock L b → PairLimits L a b
 unfolding pair spectrum
 pair-limits L a b A B = record {
-  real = λ k h. rw (pow-len L, real-exact (per L) (len L) a b k w)
-      (near-within (quarter (len L)) (near-add (near a A k (omega (arith, pow-len L)) .0) (near b B k (omega (arith, pow-len L)) .1)) (pair-small L (A .length)));
-  imaginary = λ k h. rw (pow-len L, imaginary-exact (per L) (len L) a b k w)
-      (near-within (quarter (len L)) (near-add (near b B k (omega (arith, pow-len L)) .0) (near-neg (near a A k (omega (arith, pow-len L)) .1))) (pair-small L (A .length)));
+  real = λ k h.
+      let sum = near-add (near a A k (omega (arith, pow-len L)) .0) (near b B k (omega (arith, pow-len L)) .1) in
+      rw (pow-len L, real-exact (per L) (len L) a b k w) (near-within (quarter (len L)) sum (pair-small L (A .length)));
+  imaginary = λ k h.
+      let difference = near-add (near b B k (omega (arith, pow-len L)) .0) (near-neg (near a A k (omega (arith, pow-len L)) .1)) in
+      rw (pow-len L, imaginary-exact (per L) (len L) a b k w) (near-within (quarter (len L)) difference (pair-small L (A .length)));
 }
   where
     w : len L * per L ≡ 1024
     w = len-per L (A .length)
 
-    near : (x : Samples) → AcceptedBlock L x → (k : ℕ) → k < len L →
-        Near (cosineBeyond (len L) (cosineDft L x .at) k) (cosSum (per L) (len L) x k) (dftError L largestSample)
-        × Near (sineBeyond (len L) (sineDft L x .at) k) (sinSum (per L) (len L) x k) (dftError L largestSample)
+    near : (x : Samples) → AcceptedBlock L x → (k : ℕ) → k < len L → BeyondNear L (per L) x k (dftError L largestSample)
     near x X = everywhere L (per L) x largestSample w (bounded L x X)

@@ -21,9 +21,11 @@ use Rattle.circle.proofs.Places.{mirror, opposite, K-zero}
 use Rattle.circle.proofs.Wave.{K-start, K-within}
 use Rattle.circle.proofs.Stored.{at-entry}
 use Rattle.words.specs.Words.{Samples}
-use Rattle.ffct.specs.Transforms.{evens, foldedSums, foldedDifferences, alternate, rearranged, cosineBeyond, sineBeyond, dctBeyond, apart, rotated, cosineDft, sineDft, dct}
+use Rattle.ffct.specs.Transforms.{evens, foldedSums, foldedDifferences, alternate, rearranged}
+use Rattle.ffct.specs.Transforms.{cosineBeyond, sineBeyond, dctBeyond, apart, rotated, cosineDft, sineDft, dct}
 use Rattle.ffct.proofs.Lengths.{len}
-use Rattle.ffct.proofs.Steps.{cosine-low, cosine-high, sine-low, sine-high, dct-low, dct-middle, dct-high, rearranged-source, rotated-zero, rotated-low, rotated-middle, rotated-high, cosine-step, sine-step, dct-step, dct-one}
+use Rattle.ffct.proofs.Steps.{cosine-low, cosine-high, sine-low, sine-high, dct-low, dct-middle, dct-high, rearranged-source}
+use Rattle.ffct.proofs.Steps.{rotated-zero, rotated-low, rotated-middle, rotated-high, cosine-step, sine-step, dct-step, dct-one}
 use Rattle.ffct.proofs.Sums.{cosSum, sinSum, dctSum, cos-size, sin-size, cos-mirror, sin-mirror, dct-mirror, sin-middle, dct-end}
 use Rattle.ffct.proofs.Splits.{cos-split, sin-split, dct-rearranged, turned}
 use Rattle.ffct.proofs.Rotation.{rotation-error}
@@ -67,7 +69,9 @@ module _ (w m : ℕ) (x f : ℕ → ℤ) (k e : ℕ) (l : k ≤ 2 * m) where
       Near (sineBeyond (2 * m) f k) (sinSum w (2 * m) x k) e
   sine-beyond q h = ⊎-elim
       (λ g. rw (sine-low (2 * m) f k (omega arith)) (h k g))
-      (λ g. rw (sine-high (2 * m) f k (omega arith), sin-mirror w (2 * m) x q k (2 * m - k) (omega arith)) (near-neg (h (2 * m - k) (omega arith))))
+      (λ g.
+      rw (sine-high (2 * m) f k (omega arith), sin-mirror w (2 * m) x q k (2 * m - k) (omega arith))
+      (near-neg (h (2 * m - k) (omega arith))))
       (le-or-lt k m)
 
   dct-beyond : m * w ≡ 1024 → ((j : ℕ) → j < m → Near (f j) (dctSum w m x j) e) → Near (dctBeyond m f k) (dctSum w m x k) e
@@ -115,8 +119,11 @@ module _ (m w : ℕ) (y C S : ℕ → ℤ) (X e : ℕ) (q : 2 * m * w ≡ 1024) 
       Near (round (T i *ℤ u -ℤ T j *ℤ v)) (dctSum w (2 * m) y k) (rotationError (2 * m) X e)
   rotation k i j u v hi hj hu hv = record {
     gap =
-        rotation-error (2 ^ 29) (2 ^ 50) (2 ^ 49) B e (2 * m * (X * B)) (2 * m * (X * additionError)) (T i) (T j) u v (K (k * w)) (sineAt (k * w))
-        (cosSum w (2 * m) z k) (sinSum w (2 * m) z k) (dctSum w (2 * m) y k) (round (T i *ℤ u -ℤ T j *ℤ v)) (lit< tt) refl (rounding (T i *ℤ u -ℤ T j *ℤ v)) (rw (← hi) (entry i (omega arith))) (rw (mirror (k * w + 3072) j 1 (omega arith)) (entry j (omega arith)))
+        rotation-error (2 ^ 29) (2 ^ 50) (2 ^ 49) B e (2 * m * (X * B)) (2 * m * (X * additionError))
+        (T i) (T j) u v (K (k * w)) (sineAt (k * w))
+        (cosSum w (2 * m) z k) (sinSum w (2 * m) z k) (dctSum w (2 * m) y k) (round (T i *ℤ u -ℤ T j *ℤ v))
+        (lit< tt) refl (rounding (T i *ℤ u -ℤ T j *ℤ v))
+        (rw (← hi) (entry i (omega arith))) (rw (mirror (k * w + 3072) j 1 (omega arith)) (entry j (omega arith)))
         (K-within _) (K-within _) (hu .gap) (hv .gap) (cos-size w (2 * m) z k z-within) (sin-size w (2 * m) z k z-within) (exact-turn k);
   }
     where
@@ -137,12 +144,14 @@ module _ (m w : ℕ) (y C S : ℕ → ℤ) (X e : ℕ) (q : 2 * m * w ≡ 1024) 
   at-middle : Near (round (T 512 *ℤ C m)) (dctSum w (2 * m) y m) (rotationError (2 * m) X e)
   at-middle =
       rw (alone (T 512) (C m))
-      (rotation m 512 512 (C m) (int 0) (omega arith) (omega arith) (C-near m (omega arith)) (rw (sin-middle w (2 * m) z q m refl) near-nothing))
+      (rotation m 512 512 (C m) (int 0) (omega arith) (omega arith)
+      (C-near m (omega arith)) (rw (sin-middle w (2 * m) z q m refl) near-nothing))
     where
       alone : (c C : ℤ) → c *ℤ C ≡ c *ℤ C -ℤ c *ℤ int 0
       alone c C = rw (parts c, parts C) (simp diff (omega near))
 
-  at-high : (k j : ℕ) → k + j ≡ 2 * m → j ≤ m → Near (round (T (1024 - j * w) *ℤ C j +ℤ T (j * w) *ℤ S j)) (dctSum w (2 * m) y k) (rotationError (2 * m) X e)
+  at-high : (k j : ℕ) → k + j ≡ 2 * m → j ≤ m
+      → Near (round (T (1024 - j * w) *ℤ C j +ℤ T (j * w) *ℤ S j)) (dctSum w (2 * m) y k) (rotationError (2 * m) X e)
   at-high k j h l =
       let places : k * w + j * w ≡ 1024 = omega (arith, ap (λ n. n * w) h) in
       rw (negated (T (1024 - j * w)) (T (j * w)) (C j) (S j))
@@ -186,14 +195,17 @@ sine-none : (w c n : ℕ) (x : Samples) (k : ℕ) → 4 * w ≡ 2048 * c → Nea
 sine-none w c n x k h = rw none near-nothing
   where
     at : (i : ℕ) → sineAt (4 * w * i * k) ≡ pos 0
-    at i = ap K {x = 4 * w * i * k + 3072} {y = 2048 * (c * i * k + 1) + 1024} (omega (arith, ap (λ t. t * (i * k)) h)) ∙ K-zero (c * i * k + 1)
+    at i =
+        ap K {x = 4 * w * i * k + 3072} {y = 2048 * (c * i * k + 1) + 1024} (omega (arith, ap (λ t. t * (i * k)) h))
+        ∙ K-zero (c * i * k + 1)
 
     none : sinSum w n x k ≡ int 0
     none = unfold sinSum int in sum-cong n _ (λ i. pos 0) (λ i b. ap (λ z. x i *ℤ z) (at i) ∙ *ℤ-zero (x i)) ∙ sum-zero n
 
 cosine-one : (w : ℕ) (x : Samples) (k : ℕ) → Near (x 0) (cosSum w 1 x k) 0
 unfolding cosSum sum
-cosine-one w x k = rw (ap K {x = 4 * w * 0 * k} {y = 0} (omega arith), K-first, +ℤ-idl (x 0 *ℤ int B)) (record { gap = no-gap (x 0 *ℤ int B) })
+cosine-one w x k =
+    rw (ap K {x = 4 * w * 0 * k} {y = 0} (omega arith), K-first, +ℤ-idl (x 0 *ℤ int B)) (record { gap = no-gap (x 0 *ℤ int B) })
 
 cosine-two : (x : Samples) (k : ℕ) → k ≤ 1 → Near (cosineDft 1 x .at k) (cosSum 512 2 x k) 0
 unfolding cosineDft cosSum sum
@@ -224,10 +236,14 @@ dftError zero X = 0
 dftError (suc zero) X = 0
 dftError (suc (suc L)) X = dftError (suc L) X + dctError L (2 * X) (dftError L (2 * X))
 
--- what is shown of the cosine-DFT and the sine-DFT of a level, for all samples
+-- coefficient k of the cosine-DFT and of the sine-DFT of a level are within e of their exact sums
+abbrev pub BothNear : ℕ → ℕ → Samples → ℕ → ℕ → Type 0
+BothNear L w x k e = Near (cosineDft L x .at k) (cosSum w (len L) x k) e × Near (sineDft L x .at k) (sinSum w (len L) x k) e
+
+-- what is shown of them, for all samples
 abbrev DftNear : ℕ → Type 0
-DftNear L = (w : ℕ) (x : Samples) (X : ℕ) → len L * w ≡ 1024 → Bounded (len L) x X → (k : ℕ) → 2 * k ≤ len L →
-    Near (cosineDft L x .at k) (cosSum w (len L) x k) (dftError L X) × Near (sineDft L x .at k) (sinSum w (len L) x k) (dftError L X)
+DftNear L = (w : ℕ) (x : Samples) (X : ℕ) → len L * w ≡ 1024 → Bounded (len L) x X
+    → (k : ℕ) → 2 * k ≤ len L → BothNear L w x k (dftError L X)
 
 -- the DCT of that level
 dct-near-of : (L : ℕ) → DftNear L → (w : ℕ) (x : Samples) (X : ℕ) → len L * w ≡ 1024 → Bounded (len L) x X → (k : ℕ) → k < len L →
@@ -241,8 +257,7 @@ dct-near-of (suc L) H w x X q b k h =
     z : Samples
     z = rearranged (2 * len L) x
 
-    both : (j : ℕ) → j ≤ len L →
-        Near (cosineDft (suc L) z .at j) (cosSum w (2 * len L) z j) (dftError (suc L) X) × Near (sineDft (suc L) z .at j) (sinSum w (2 * len L) z j) (dftError (suc L) X)
+    both : (j : ℕ) → j ≤ len L → BothNear (suc L) w z j (dftError (suc L) X)
     both j l = H w z X q (rearranged-within (len L) x b) j (omega arith)
 
 -- ---- a level from the two below it
@@ -264,7 +279,10 @@ one-near w x X q b k h = (cosine-one w x k, sine-none w 2 1 x k (omega arith))
 
 two-near : DftNear 1
 unfolding cosineDft dftError int
-two-near w x X q b k h = (subst (λ w. Near (cosineDft 1 x .at k) (cosSum w 2 x k) 0) {x = 512} {y = w} (omega arith) (cosine-two x k (omega arith)), sine-none w 1 2 x k (omega arith))
+two-near w x X q b k h = (
+  subst (λ w. Near (cosineDft 1 x .at k) (cosSum w 2 x k) 0) {x = 512} {y = w} (omega arith) (cosine-two x k (omega arith)),
+  sine-none w 1 2 x k (omega arith),
+)
 
 pub apart-le : (m k : ℕ) → k ≤ 2 * m → apart m k ≤ 2 * m
 unfolding apart
@@ -277,14 +295,17 @@ dft-near (suc zero) w x X q b k h = two-near w x X q b k h
 dft-near (suc (suc L)) w x X q b k h = (
   rw (cosine-step L x k, cos-split w (len L) x k (omega arith))
       (near-add
-      (cosine-beyond (2 * w) (len L) (evens x) _ k _ (omega arith) (omega arith) (λ j l. dft-near (suc L) (2 * w) (evens x) X (omega arith) evens-within j (omega arith) .0))
+      (cosine-beyond (2 * w) (len L) (evens x) _ k _ (omega arith) (omega arith)
+      (λ j l. dft-near (suc L) (2 * w) (evens x) X (omega arith) evens-within j (omega arith) .0))
       (dct-beyond (4 * w) (len L) (foldedSums (4 * len L) x) _ k _ (omega arith) (omega arith)
       (dct-near-of L (dft-near L) (4 * w) (foldedSums (4 * len L) x) (2 * X) (omega arith) (folded-sums-within (len L) x b)))),
   rw (sine-step L x k, sin-split w (len L) x k (omega arith))
       (near-add
-      (sine-beyond (2 * w) (len L) (evens x) _ k _ (omega arith) (omega arith) (λ j l. dft-near (suc L) (2 * w) (evens x) X (omega arith) evens-within j (omega arith) .1))
+      (sine-beyond (2 * w) (len L) (evens x) _ k _ (omega arith) (omega arith)
+      (λ j l. dft-near (suc L) (2 * w) (evens x) X (omega arith) evens-within j (omega arith) .1))
       (dct-beyond (4 * w) (len L) (foldedDifferences (4 * len L) x) _ (apart (len L) k) _ (apart-le (len L) k (omega arith)) (omega arith)
-      (dct-near-of L (dft-near L) (4 * w) (foldedDifferences (4 * len L) x) (2 * X) (omega arith) (folded-differences-within (len L) x b)))),
+      (dct-near-of L (dft-near L) (4 * w) (foldedDifferences (4 * len L) x) (2 * X) (omega arith)
+      (folded-differences-within (len L) x b)))),
 )
   where
     evens-within : Bounded (2 * len L) (evens x) X

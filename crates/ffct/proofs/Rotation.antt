@@ -7,7 +7,8 @@ use native.Mathlib.Omega.{arith}
 use lib.IntN.{ℤ, _+ℤ_, _-ℤ_, _*ℤ_}
 use Rattle.whole.proofs.Difference.{int, parts, diff}
 use Rattle.whole.proofs.Ring.{expand}
-use Rattle.whole.proofs.Size.{near, _within_, size-within, within-size, within-int, within-eq, within-le, within-add, within-sub, within-mul, within-trans, within-cancel, size-mul, size-int}
+use Rattle.whole.proofs.Size.{near, _within_, size-within, within-size, within-int, within-eq, within-le, size-mul, size-int}
+use Rattle.whole.proofs.Size.{within-add, within-sub, within-mul, within-trans, within-cancel}
 
 -- the size of a coefficient C, from its distance to the exact sum E and the size of E
 pub coefficient-size : (b : ℕ) (C E : ℤ) {e q : ℕ} → 0 < b → C *ℤ int b -ℤ E within e → E within q → C within (q + e) / b
@@ -18,8 +19,8 @@ coefficient-size b C E {e} {q} l h g =
     back : (x y : ℤ) → x -ℤ y +ℤ y ≡ x
     back x y = rw (parts x, parts y) (simp diff (omega near))
 
--- D is c C − s S rounded by 2 h. The table's c and s, times r, are within t of the circle's kc and ks; C and S, times b, are within e of the exact sums E and F;
--- the exact sums turned by (kc, ks) miss b G by at most b f. Then D, times b, is within the sum of four errors of G
+-- D is c C − s S rounded by 2 h. The table's c and s, times r, are within t of the circle's kc and ks; C and S, times b, are within e of
+-- the exact sums E and F; the exact sums turned by (kc, ks) miss b G by at most b f. Then D, times b, is within the sum of four errors of G
 module _ (h r t b e q f : ℕ) (c s C S kc ks E F G D : ℤ) (lb : 0 < b) (hb : 2 * h * r ≡ b)
     (rounded : D *ℤ int (2 * h) -ℤ (c *ℤ C -ℤ s *ℤ S) within h)
     (cos-entry : c *ℤ int r -ℤ kc within t) (sin-entry : s *ℤ int r -ℤ ks within t) (cos-le : kc within b) (sin-le : ks within b)
@@ -37,9 +38,9 @@ module _ (h r t b e q f : ℕ) (c s C S kc ks E F G D : ℤ) (lb : 0 < b) (hb : 
   -- what the table adds
   by-table : (c *ℤ C -ℤ s *ℤ S) *ℤ int r -ℤ (kc *ℤ C -ℤ ks *ℤ S) within 2 * (t * ((q + e) / b))
   by-table =
-      within-le
-      (within-eq (gathered (int r)) (within-sub (within-mul cos-entry (coefficient-size b C E lb C-near E-le)) (within-mul sin-entry (coefficient-size b S F lb S-near F-le))))
-      (omega arith)
+      let cosine = within-mul cos-entry (coefficient-size b C E lb C-near E-le) in
+      let sine = within-mul sin-entry (coefficient-size b S F lb S-near F-le) in
+      within-le (within-eq (gathered (int r)) (within-sub cosine sine)) (omega arith)
     where
       gathered : (r : ℤ) → (c *ℤ r -ℤ kc) *ℤ C -ℤ (s *ℤ r -ℤ ks) *ℤ S ≡ (c *ℤ C -ℤ s *ℤ S) *ℤ r -ℤ (kc *ℤ C -ℤ ks *ℤ S)
       gathered r = simp expand

@@ -1,6 +1,6 @@
 -- What the code needs: coefficients fit 32 bits, and inside every inner transform the products and sums of the rotation (20) fit 64 bits.
--- An inner transform of length n has samples up to X with n X at most 1,024,000,000: that holds of an accepted block, and the samples of the
--- steps keep it (n/2 with the same samples, n/4 with sums of two).
+-- An inner transform of length n has samples up to X with n X at most 1,024,000,000: that holds of an accepted block, and the samples of
+-- the steps keep it (n/2 with the same samples, n/4 with sums of two).
 -- Assumes nothing.
 use mathlib.Core.Path.{_≡_}
 use mathlib.Core.Logic.{⊎-elim}
@@ -50,7 +50,8 @@ pub record Inner (L : ℕ) (x : Samples) (X : ℕ) : Type 0 where
   pub bounded : Bounded (len L) x X
 
 -- samples of which each has its share of the largest sum
-pub share-inner : {L : ℕ} {x : Samples} → L ≤ topLevel → ((n : ℕ) → n < len L → len L * natAbs (x n) ≤ largestSum) → Inner L x (largestSum / len L)
+pub share-inner : {L : ℕ} {x : Samples} → L ≤ topLevel → ((n : ℕ) → n < len L → len L * natAbs (x n) ≤ largestSum)
+    → Inner L x (largestSum / len L)
 share-inner {L} l h = record {
   level = l;
   small = mul-div-le largestSum (len L);
@@ -63,7 +64,9 @@ dft-small L h = leb→le _ _ (below-at 11 (λ L. leb (dftError L (largestSum / l
 
 dct-small : (L : ℕ) → L ≤ topLevel → dctError L (largestSum / len L) (dftError L (largestSum / len L)) ≤ 257 * B
 unfolding both below dftError dctError
-dct-small L h = leb→le _ _ (below-at 11 (λ L. leb (dctError L (largestSum / len L) (dftError L (largestSum / len L))) (257 * B)) tt L (omega arith))
+dct-small L h =
+    leb→le _ _
+    (below-at 11 (λ L. leb (dctError L (largestSum / len L) (dftError L (largestSum / len L))) (257 * B)) tt L (omega arith))
 
 module _ {L : ℕ} {x : Samples} {X : ℕ} (i : Inner L x X) where
   share : X ≤ largestSum / len L
@@ -75,8 +78,10 @@ module _ {L : ℕ} {x : Samples} {X : ℕ} (i : Inner L x X) where
   pub dft-size : (k : ℕ) → 2 * k ≤ len L → (cosineDft L x .at k within largestSum + 128) × (sineDft L x .at k within largestSum + 128)
   dft-size k h =
       let both = dft-near L (per L) x X (len-per L (i .level)) (i .bounded) k h in
-      let l = le-trans (dft-grows L share) (dft-small L (i .level)) in
-      (size _ _ _ 128 (both .0) (cos-size (per L) (len L) x k (i .bounded)) l, size _ _ _ 128 (both .1) (sin-size (per L) (len L) x k (i .bounded)) l)
+      let l = le-trans (dft-grows L share) (dft-small L (i .level)) in (
+        size _ _ _ 128 (both .0) (cos-size (per L) (len L) x k (i .bounded)) l,
+        size _ _ _ 128 (both .1) (sin-size (per L) (len L) x k (i .bounded)) l,
+      )
 
   pub dct-within : (k : ℕ) → k < len L → dct L x .at k within largestSum + 257
   dct-within k h =
@@ -118,7 +123,8 @@ pub record RotationFits (C S c s : ℤ) : Type 0 where
   pub first-small : natAbs ((C +ℤ S) *ℤ c -ℤ S *ℤ (c +ℤ s)) ≤ 2 ^ 62
   pub second-small : natAbs ((C +ℤ S) *ℤ c +ℤ C *ℤ (s -ℤ c)) ≤ 2 ^ 62
 
-pub rotation-fits : {C S c s : ℤ} → C within largestSum + 128 → S within largestSum + 128 → c within 2 ^ 30 → s within 2 ^ 30 → RotationFits C S c s
+pub rotation-fits : {C S c s : ℤ} → C within largestSum + 128 → S within largestSum + 128 → c within 2 ^ 30 → s within 2 ^ 30
+    → RotationFits C S c s
 rotation-fits hC hS hc hs =
     let sum = within-add hC hS in
     let entries = within-add hc hs in
@@ -175,13 +181,15 @@ pair-fits L a b A B = record {
   imaginary = λ k h. within-fits (within-sub (cosine-part (accepted-inner B) k h) (sine-part (accepted-inner A) k h)) (lit< tt);
 }
   where
-    cosine-part : {x : Samples} → Inner L x largestSample → (k : ℕ) → k < 2 ^ L → cosineBeyond (2 ^ L) (cosineDft L x .at) k within largestSum + 128
+    cosine-part : {x : Samples} → Inner L x largestSample → (k : ℕ) → k < 2 ^ L
+        → cosineBeyond (2 ^ L) (cosineDft L x .at) k within largestSum + 128
     cosine-part {x} i k h = ⊎-elim
         (λ l. rw (cosine-low (2 ^ L) (cosineDft L x .at) k l) (dft-size i k (omega (arith, pow-len L)) .0))
         (λ l. rw (cosine-high (2 ^ L) (cosineDft L x .at) k l) (dft-size i (2 ^ L - k) (omega (arith, pow-len L)) .0))
         (le-or-lt k (2 ^ L / 2))
 
-    sine-part : {x : Samples} → Inner L x largestSample → (k : ℕ) → k < 2 ^ L → sineBeyond (2 ^ L) (sineDft L x .at) k within largestSum + 128
+    sine-part : {x : Samples} → Inner L x largestSample → (k : ℕ) → k < 2 ^ L
+        → sineBeyond (2 ^ L) (sineDft L x .at) k within largestSum + 128
     sine-part {x} i k h = ⊎-elim
         (λ l. rw (sine-low (2 ^ L) (sineDft L x .at) k l) (dft-size i k (omega (arith, pow-len L)) .1))
         (λ l. rw (sine-high (2 ^ L) (sineDft L x .at) k l) (within-neg (dft-size i (2 ^ L - k) (omega (arith, pow-len L)) .1)))

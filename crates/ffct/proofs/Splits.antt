@@ -1,4 +1,5 @@
--- (12), (15), (16) and (18) of the exact sums. The first three hold exactly; the rotation (18) holds as nearly as the addition law of the circle.
+-- (12), (15), (16) and (18) of the exact sums. The first three hold exactly; the rotation (18) holds as nearly as the addition law of the
+-- circle.
 -- Assumes nothing.
 use mathlib.Core.Path.{_≡_, refl, sym, _∙_, ap, ap₂}
 use mathlib.Core.Logic.{⊎-elim}
@@ -29,11 +30,13 @@ sum-folded m f =
     ∙ sym (sum-add m f (λ i. f (2 * m - 1 - i)))
 
 -- the even places of 4 m, and the odd ones folded
-even-and-folded : (m : ℕ) (f : ℕ → ℤ) → sum (2 * (2 * m)) f ≡ sum (2 * m) (λ i. f (2 * i)) +ℤ sum m (λ i. f (2 * i + 1) +ℤ f (4 * m - 2 * i - 1))
+even-and-folded : (m : ℕ) (f : ℕ → ℤ) →
+    sum (2 * (2 * m)) f ≡ sum (2 * m) (λ i. f (2 * i)) +ℤ sum m (λ i. f (2 * i + 1) +ℤ f (4 * m - 2 * i - 1))
 even-and-folded m f =
-    sum-even-odd (2 * m) f
-    ∙ ap (λ z. sum (2 * m) (λ i. f (2 * i)) +ℤ z)
-    (sum-folded m (λ i. f (2 * i + 1)) ∙ sum-cong m _ _ (λ i h. ap (λ j. f (2 * i + 1) +ℤ f j) {x = 2 * (2 * m - 1 - i) + 1} {y = 4 * m - 2 * i - 1} (omega arith)))
+    sum-even-odd (2 * m) f ∙ ap (λ z. sum (2 * m) (λ i. f (2 * i)) +ℤ z) (sum-folded m (λ i. f (2 * i + 1)) ∙ sum-cong m _ _ far)
+  where
+    far : (i : ℕ) → i < m → f (2 * i + 1) +ℤ f (2 * (2 * m - 1 - i) + 1) ≡ f (2 * i + 1) +ℤ f (4 * m - 2 * i - 1)
+    far i h = ap (λ j. f (2 * i + 1) +ℤ f j) {x = 2 * (2 * m - 1 - i) + 1} {y = 4 * m - 2 * i - 1} (omega arith)
 
 -- ---- (−1)^n
 pub alternate-mul : (n : ℕ) (z t : ℤ) → alternate n z *ℤ t ≡ z *ℤ alternate n t
@@ -78,7 +81,8 @@ module _ (w m : ℕ) (x : Samples) (k : ℕ) (q : 4 * m * w ≡ 1024) where
       folded : (i : ℕ) → i < m →
           x (2 * i + 1) *ℤ K (4 * w * (2 * i + 1) * k) +ℤ x (4 * m - 2 * i - 1) *ℤ K (4 * w * (4 * m - 2 * i - 1) * k)
           ≡ (x (2 * i + 1) +ℤ x (4 * m - 2 * i - 1)) *ℤ K ((2 * i + 1) * k * (4 * w))
-      folded i h = joined (x (2 * i + 1)) (x (4 * m - 2 * i - 1)) (ap K (omega arith)) (mirror _ _ k (places i (4 * m - 2 * i - 1) (omega arith)))
+      folded i h =
+          joined (x (2 * i + 1)) (x (4 * m - 2 * i - 1)) (ap K (omega arith)) (mirror _ _ k (places i (4 * m - 2 * i - 1) (omega arith)))
 
   -- ---- (15), with (14) for the place k of the sine and d = N/4 − k of the DCT
   sin-folded : (d : ℕ) → ((i : ℕ) → K ((2 * i + 1) * d * (4 * w)) ≡ alternate i (sineAt (4 * w * (2 * i + 1) * k))) →
@@ -102,7 +106,8 @@ module _ (w m : ℕ) (x : Samples) (k : ℕ) (q : 4 * m * w ≡ 1024) where
           ∙ ap (λ z. (x (2 * i + 1) -ℤ x (4 * m - 2 * i - 1)) *ℤ z) (sym (alternate-twice i _) ∙ ap (alternate i) (sym (identity i)))
           ∙ sym (alternate-mul i (x (2 * i + 1) -ℤ x (4 * m - 2 * i - 1)) (K ((2 * i + 1) * d * (4 * w))))
 
-  pub sin-split : sinSum w (2 * (2 * m)) x k ≡ sinSum (2 * w) (2 * m) (evens x) k +ℤ dctSum (4 * w) m (foldedDifferences (4 * m) x) (apart m k)
+  pub sin-split : sinSum w (2 * (2 * m)) x k
+      ≡ sinSum (2 * w) (2 * m) (evens x) k +ℤ dctSum (4 * w) m (foldedDifferences (4 * m) x) (apart m k)
   unfolding apart
   sin-split =
       ⊎-elim
@@ -133,7 +138,8 @@ module _ (w m : ℕ) (x : Samples) (k : ℕ) (q : 2 * m * w ≡ 1024) where
       places i r h = omega (arith, ap (λ t. 4 * w * k * t) h, ap (λ t. 4 * t * k) q)
 
       far-half : (i : ℕ) → i < m →
-          x (2 * i + 1) *ℤ K ((2 * (2 * i + 1) + 1) * k * w) ≡ rearranged (2 * m) x (2 * m - 1 - i) *ℤ K (4 * w * (2 * m - 1 - i) * k + k * w)
+          x (2 * i + 1) *ℤ K ((2 * (2 * i + 1) + 1) * k * w)
+          ≡ rearranged (2 * m) x (2 * m - 1 - i) *ℤ K (4 * w * (2 * m - 1 - i) * k + k * w)
       far-half i h = ap₂ _*ℤ_ (sym (rearranged-far m x i h)) (mirror _ _ k (places i (2 * m - 1 - i) (omega arith)))
 
 -- ---- (18): the sum turned by k w, from the cosine sum and the sine sum
@@ -144,7 +150,8 @@ module _ (w n : ℕ) (y : Samples) (k : ℕ) {X : ℕ} (b : (i : ℕ) → i < n 
   turned =
       within-eq
       (sum-cong n _ _ (λ i h. spread (int B) (K (k * w)) (sineAt (k * w)) (y i) (K (p i)) (sineAt (p i)) (K (p i + k * w)))
-      ∙ sum-sub n _ _ ∙ ap₂ _-ℤ_ (sum-sub n _ _ ∙ ap₂ _-ℤ_ (sum-scale n (K (k * w)) _) (sum-scale n (sineAt (k * w)) _)) (sum-scale n (int B) _))
+      ∙ sum-sub n _ _
+      ∙ ap₂ _-ℤ_ (sum-sub n _ _ ∙ ap₂ _-ℤ_ (sum-scale n (K (k * w)) _) (sum-scale n (sineAt (k * w)) _)) (sum-scale n (int B) _))
       (sum-within n _ (λ i h. within-mul (b i h) (near-sum (p i))))
     where
       p : ℕ → ℕ

@@ -10,7 +10,8 @@ use Rattle.whole.proofs.Cases.{le-or-lt}
 use Rattle.whole.specs.Round.{round}
 use Rattle.circle.specs.Circle.{T}
 use Rattle.words.specs.Words.{Samples}
-use Rattle.ffct.specs.Transforms.{Transform, evens, foldedSums, foldedDifferences, rearranged, cosineBeyond, sineBeyond, dctBeyond, apart, rotated, dctBy, cosineDft, sineDft, dct}
+use Rattle.ffct.specs.Transforms.{Transform, evens, foldedSums, foldedDifferences, rearranged}
+use Rattle.ffct.specs.Transforms.{cosineBeyond, sineBeyond, dctBeyond, apart, rotated, dctBy, cosineDft, sineDft, dct}
 use Rattle.ffct.proofs.Lengths.{len, pow-len, quotient}
 
 -- ---- coefficients out of range
@@ -57,11 +58,9 @@ module _ (m : ℕ) (x : Samples) (i : ℕ) (h : i < m) where
 -- each of them is one of the samples, whatever these are
 pub rearranged-source : (m i : ℕ) → i < 2 * m → (j : ℕ) × (j < 2 * m) × ((x : Samples) → rearranged (2 * m) x i ≡ x j)
 rearranged-source m i h = ⊎-elim
-    (λ l. (
-      2 * (2 * m - 1 - i) + 1,
-      omega arith,
-      λ x. ap (rearranged (2 * m) x) {x = i} {y = 2 * m - 1 - (2 * m - 1 - i)} (omega arith) ∙ rearranged-far m x (2 * m - 1 - i) (omega arith),
-    ))
+    (λ l.
+    let j = 2 * m - 1 - i in
+    (2 * j + 1, omega arith, λ x. ap (rearranged (2 * m) x) {x = i} {y = 2 * m - 1 - j} (omega arith) ∙ rearranged-far m x j (omega arith)))
     (λ l. (2 * i, omega arith, λ x. rearranged-near m x i l))
     (le-or-lt m i)
 
@@ -85,7 +84,8 @@ module _ (m w : ℕ) (C S : ℕ → ℤ) (q : 2 * m * w ≡ 1024) (k : ℕ) wher
       rw (ne-eqb k 0 (λ e. omega arith), le-ltb k (2 * m / 2) (omega arith), eq-eqb k (2 * m / 2) (omega arith))
       (ap (λ j. round (T 512 *ℤ C j)) {x = 2 * m / 2} {y = m} (omega arith))
 
-  pub rotated-high : m < k → rotated (2 * m) C S k ≡ round (T (1024 - (2 * m - k) * w) *ℤ C (2 * m - k) +ℤ T ((2 * m - k) * w) *ℤ S (2 * m - k))
+  pub rotated-high : m < k →
+      rotated (2 * m) C S k ≡ round (T (1024 - (2 * m - k) * w) *ℤ C (2 * m - k) +ℤ T ((2 * m - k) * w) *ℤ S (2 * m - k))
   unfolding rotated
   rotated-high h =
       rw (ne-eqb k 0 (λ e. omega arith), le-ltb k (2 * m / 2) (omega arith), ne-eqb k (2 * m / 2) (λ e. omega arith), place (2 * m - k))
@@ -107,7 +107,8 @@ module _ (L : ℕ) (x : Samples) (k : ℕ) where
   cosine-step = rw (four L, half (len L), fourth (len L))
 
   pub sine-step : sineDft (suc (suc L)) x .at k
-      ≡ sineBeyond (2 * len L) (sineDft (suc L) (evens x) .at) k +ℤ dctBeyond (len L) (dct L (foldedDifferences (4 * len L) x) .at) (apart (len L) k)
+      ≡ sineBeyond (2 * len L) (sineDft (suc L) (evens x) .at) k
+      +ℤ dctBeyond (len L) (dct L (foldedDifferences (4 * len L) x) .at) (apart (len L) k)
   unfolding sineDft dct
   sine-step = rw (four L, half (len L), fourth (len L))
 

@@ -1,5 +1,5 @@
--- The exact sums of a length n with n w = 1024, so that every place is a product of natural numbers; how they split by (12), (15) and (16), exactly,
--- and their values out of range by (6) to (10).
+-- The exact sums of a length n with n w = 1024, so that every place is a product of natural numbers; how they split by (12), (15) and (16),
+-- exactly, and their values out of range by (6) to (10).
 -- Assumes nothing.
 use mathlib.Core.Path.{_≡_, _∙_, ap, ap₂, subst}
 use Prim.Native.Nat.{ℕ, _+_, _*_, _/_, _<_}
@@ -42,8 +42,9 @@ module _ (w n : ℕ) (x : Samples) (k : ℕ) (q : n * w ≡ 1024) where
   pub dct-exact : exactDct n x k ≡ dctSum w n x k
   unfolding exactDct dctSum
   dct-exact =
-      sum-cong n _ _
-      (λ i h. ap (λ p. x i *ℤ K p) (quotient n w ((2 * i + 1) * k * w) ((2 * i + 1) * k * 1024) q (omega (arith, ap (λ t. t * ((2 * i + 1) * k)) q))))
+      sum-cong n _ _ (λ i h.
+      let j = (2 * i + 1) * k in
+      ap (λ p. x i *ℤ K p) (quotient n w (j * w) (j * 1024) q (omega (arith, ap (λ t. t * j) q))))
 
 -- Pair's exact sums, from those of its recordings
 module _ (w n : ℕ) (a b : Samples) (k : ℕ) (q : n * w ≡ 1024) where
@@ -85,7 +86,8 @@ module _ (w n : ℕ) (x : Samples) (q : n * w ≡ 1024) where
   pub sin-mirror : (k l : ℕ) → k + l ≡ n → sinSum w n x k ≡ negℤ (sinSum w n x l)
   unfolding sinSum
   sin-mirror k l h =
-      negated k l (λ i k. 4 * w * i * k + 3072) (λ i. opposite _ _ (i + 1) (omega (arith, ap (λ t. 4 * w * i * t) h, ap (λ t. 4 * t * i) q)))
+      negated k l (λ i k. 4 * w * i * k + 3072)
+      (λ i. opposite _ _ (i + 1) (omega (arith, ap (λ t. 4 * w * i * t) h, ap (λ t. 4 * t * i) q)))
 
   pub dct-mirror : (k l : ℕ) → k + l ≡ 2 * n → dctSum w n x k ≡ negℤ (dctSum w n x l)
   unfolding dctSum

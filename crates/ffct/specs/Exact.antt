@@ -27,7 +27,8 @@ exactImaginary N a b k = sum N (λ n. b n *ℤ K (n * k * 4096 / N) -ℤ a n *�
 
 -- ---- distances
 
--- "let y be the number in the result word and E the exact sum before the division by 2^80. The distance is the size, without sign, of y·2^80 − E."
+-- "let y be the number in the result word and E the exact sum before the division by 2^80. The distance is the size, without sign, of
+-- y·2^80 − E."
 abbrev pub distance : ℤ → ℤ → ℕ
 distance y E = natAbs (y *ℤ pos B -ℤ E)
 
@@ -48,7 +49,7 @@ quarterOfNext N = record { over = N + 1; under = 4 }
 abbrev pub quarter : ℕ → Limit
 quarter N = record { over = N; under = 4 }
 
--- "Within N/8 means that 8 times the distance is at most N·2^80; within (N + 1)/4, that 4 times it is at most (N + 1)·2^80; within N/4, that 4 times
--- it is at most N·2^80."
+-- "Within N/8 means that 8 times the distance is at most N·2^80; within (N + 1)/4, that 4 times it is at most (N + 1)·2^80; within N/4,
+-- that 4 times it is at most N·2^80."
 pub record Within (limit : Limit) (y E : ℤ) : Type 0 where
   pub near : limit .under * distance y E ≤ limit .over * B

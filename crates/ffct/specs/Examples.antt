@@ -1,4 +1,5 @@
--- Document 01, "Blocks to try": P1 to P10 as a table, and what it means that an example holds. proofs/Examples covers the table by one statement.
+-- Document 01, "Blocks to try": P1 to P10 as a table, and what it means that an example holds. proofs/Examples covers the table by one
+-- statement.
 use mathlib.Core.Path.{_≡_}
 use mathlib.Core.List.{List, [], _∷_}
 use Prim.Native.Nat.{ℕ, zero, suc, _/_, _+_, _^_}
@@ -25,7 +26,8 @@ values (suc n) f rest = values n f (f n ∷ rest)
 
 abbrev pub Holds : Example → Type 0
 Holds (spectrumGives L block cosine sine) =
-    (values (2 ^ L / 2 + 1) (spectrum L (samples block) .cosine) [] ≡ cosine) × (values (2 ^ L / 2 + 1) (spectrum L (samples block) .sine) [] ≡ sine)
+    (values (2 ^ L / 2 + 1) (spectrum L (samples block) .cosine) [] ≡ cosine)
+    × (values (2 ^ L / 2 + 1) (spectrum L (samples block) .sine) [] ≡ sine)
 Holds (dctGives L block coefficients) = values (2 ^ L) (dct L (samples block) .at) [] ≡ coefficients
 Holds (dctCosts L products sums) = (x : Samples) → (dct L x .products ≡ products) × (dct L x .sums ≡ sums)
 Holds (spectrumCosts L products sums) = (x : Samples) → (spectrum L x .products ≡ products) × (spectrum L x .sums ≡ sums)
@@ -61,7 +63,9 @@ examples =
     -- P7: N = 8, 1,000,000 at n = 0, else 0: C all 1,000,000, S all 0
     ∷ spectrumGives 3 (million ∷ []) (million ∷ million ∷ million ∷ million ∷ million ∷ []) (pos 0 ∷ pos 0 ∷ pos 0 ∷ pos 0 ∷ pos 0 ∷ [])
     -- P8: the same at n = 1: C 1000000, 707107, 0, −707107, −1000000; S 0, 707107, 1000000, 707107, 0
-    ∷ spectrumGives 3 (pos 0 ∷ million ∷ []) (million ∷ pos 707107 ∷ pos 0 ∷ minus 707107 ∷ minus 1000000 ∷ []) (pos 0 ∷ pos 707107 ∷ million ∷ pos 707107 ∷ pos 0 ∷ [])
+    ∷ spectrumGives 3 (pos 0 ∷ million ∷ [])
+    (million ∷ pos 707107 ∷ pos 0 ∷ minus 707107 ∷ minus 1000000 ∷ [])
+    (pos 0 ∷ pos 707107 ∷ million ∷ pos 707107 ∷ pos 0 ∷ [])
     -- P9: a DCT of N = 8 reports 12 and 29
     ∷ dctCosts 3 12 29
     -- P10: Spectrum of N = 1,024 reports 3,586 and 12,804

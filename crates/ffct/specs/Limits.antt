@@ -17,7 +17,8 @@ pub record PairLimits (L : ℕ) (a b : Samples) : Type 0 where
   pub real : (k : ℕ) → k < 2 ^ L → Within (quarter (2 ^ L)) (pair L a b .real k) (exactReal (2 ^ L) a b k)
   pub imaginary : (k : ℕ) → k < 2 ^ L → Within (quarter (2 ^ L)) (pair L a b .imaginary k) (exactImaginary (2 ^ L) a b k)
 
--- the counts that the recursion carries are the published ones: the DCT's from N = 1, Spectrum's and Pair's from N = 2; "N = 1 costs nothing"
+-- the counts that the recursion carries are the published ones: the DCT's from N = 1, Spectrum's and Pair's from N = 2; "N = 1 costs
+-- nothing"
 pub record PublishedCounts (L : ℕ) : Type 0 where
   pub dctP : (x : Samples) → pos (dct L x .products) ≡ dctProducts L
   pub dctS : (x : Samples) → pos (dct L x .sums) ≡ dctSums L

@@ -7,8 +7,8 @@ use Rattle.whole.specs.Round.{round}
 use Rattle.circle.specs.Circle.{T}
 use Rattle.words.specs.Words.{Samples}
 
--- what a transform gives: coefficient k, and the products and sums that its steps make. "Sign changes, moves, sums with a term that is zero for every block,
--- sums of table entries alone and the half in a rounding are free."
+-- what a transform gives: coefficient k, and the products and sums that its steps make. "Sign changes, moves, sums with a term that is
+-- zero for every block, sums of table entries alone and the half in a rounding are free."
 pub record Transform : Type 0 where
   pub at : ℕ → ℤ
   pub products : ℕ
@@ -37,8 +37,8 @@ foldedDifferences N x n = alternate n (x (2 * n + 1) -ℤ x (N - 2 * n - 1))
 unfoldable pub rearranged : ℕ → Samples → Samples
 rearranged N x n = cond (ltb n (N / 2)) (x (2 * n)) (x (2 * (N - n - 1) + 1))
 
--- ---- "Out-of-range k by (6) to (10), applied to values already rounded." N is the length of the transform; the values of cosine- and sine-DFT stand at 0 .. N/2,
--- those of the DCT at 0 .. N − 1
+-- ---- "Out-of-range k by (6) to (10), applied to values already rounded." N is the length of the transform; the values of cosine- and
+-- sine-DFT stand at 0 .. N/2, those of the DCT at 0 .. N − 1
 
 -- (9): cosine-DFT(N − k) = cosine-DFT(k), for k up to N
 unfoldable pub cosineBeyond : ℕ → (ℕ → ℤ) → ℕ → ℤ
@@ -56,7 +56,8 @@ dctBeyond N D k = cond (ltb k N) (D k) (cond (eqb k N) (pos 0) (negℤ (D (2 * N
 unfoldable pub apart : ℕ → ℕ → ℕ
 apart a b = (a - b) + (b - a)
 
--- ---- (18), (19): the DCT of length N from the cosine-DFT C and the sine-DFT S of its rearranged samples. "Each whole expression is rounded once."
+-- ---- (18), (19): the DCT of length N from the cosine-DFT C and the sine-DFT S of its rearranged samples. "Each whole expression is
+-- rounded once."
 
 -- "with c = T(1024k/N) and s = T(1024 − 1024k/N)"
 abbrev pub c : ℕ → ℕ → ℤ
@@ -73,8 +74,9 @@ rotated N C S k =
     (cond (eqb k (N / 2)) (round (T 512 *ℤ C (N / 2)))
     (let j = N - k in round (s N j *ℤ C j +ℤ c N j *ℤ S j))))
 
--- the DCT of level L, given the cosine-DFT and the sine-DFT of that level. "N = 1: .. DCT(0) = x(0)", at no cost. "DCT from N = 2: rearrange by (16), take the
--- cosine-DFT C and sine-DFT S of the same length", then rotate. (23): "three products and three sums for each pair k, N−k by (20), one product for DCT(N/2)"
+-- the DCT of level L, given the cosine-DFT and the sine-DFT of that level. "N = 1: .. DCT(0) = x(0)", at no cost. "DCT from N = 2:
+-- rearrange by (16), take the cosine-DFT C and sine-DFT S of the same length", then rotate. (23): "three products and three sums for each
+-- pair k, N−k by (20), one product for DCT(N/2)"
 unfoldable pub dctBy : ℕ → (Samples → Transform) → (Samples → Transform) → Samples → Transform
 dctBy zero cosine sine x = record { at = λ k. x 0; products = 0; sums = 0 }
 dctBy (suc L) cosine sine x =
@@ -91,8 +93,9 @@ dctBy (suc L) cosine sine x =
 -- ---- cosine-DFT and sine-DFT: "From N = 4, cosine-DFT by (12) .. Sine-DFT by (15) .."
 
 unfoldable mutual
-  -- "N = 1: cosine-DFT(0) = x(0)"; "N = 2: cosine-DFT is x(0) + x(1), x(0) − x(1)", two sums by (26); from N = 4 (12): "that of N/2 on the even samples plus the DCT
-  -- of N/4 on x(2n+1) + x(N−2n−1)". (24): N/4 sums of samples and N/2 sums of coefficients, for k = 0 .. N/2 without k = N/4, where (6) makes a term zero
+  -- "N = 1: cosine-DFT(0) = x(0)"; "N = 2: cosine-DFT is x(0) + x(1), x(0) − x(1)", two sums by (26); from N = 4 (12): "that of N/2 on the
+  -- even samples plus the DCT of N/4 on x(2n+1) + x(N−2n−1)". (24): N/4 sums of samples and N/2 sums of coefficients, for k = 0 .. N/2
+  -- without k = N/4, where (6) makes a term zero
   pub cosineDft : ℕ → Samples → Transform
   cosineDft zero x = record { at = λ k. x 0; products = 0; sums = 0 }
   cosineDft (suc zero) x = record { at = λ k. cond (eqb k 0) (x 0 +ℤ x 1) (x 0 -ℤ x 1); products = 0; sums = 2 }
@@ -106,8 +109,9 @@ unfoldable mutual
         sums = even .sums + odd .sums + (N / 4 + N / 2);
       }
 
-  -- "N = 1: .. sine-DFT(0) = 0"; "N = 2: .. sine-DFT is 0", no sum by (26); from N = 4 (15): "that of N/2 on the even samples plus DCT(N/4 − k) of
-  -- (−1)^n·(x(2n+1) − x(N−2n−1))". (25): N/4 sums of samples and N/2 − 2 sums of coefficients, for k = 1 .. N/2 − 1 without k = N/4, where (10) makes a term zero
+  -- "N = 1: .. sine-DFT(0) = 0"; "N = 2: .. sine-DFT is 0", no sum by (26); from N = 4 (15): "that of N/2 on the even samples plus
+  -- DCT(N/4 − k) of (−1)^n·(x(2n+1) − x(N−2n−1))". (25): N/4 sums of samples and N/2 − 2 sums of coefficients, for k = 1 .. N/2 − 1 without
+  -- k = N/4, where (10) makes a term zero
   pub sineDft : ℕ → Samples → Transform
   sineDft zero x = record { at = λ k. pos 0; products = 0; sums = 0 }
   sineDft (suc zero) x = record { at = λ k. pos 0; products = 0; sums = 0 }
@@ -138,8 +142,9 @@ spectrum L x =
     let S = sineDft L x in
     record { cosine = C .at; sine = S .at; products = C .products + S .products; sums = C .sums + S .sums }
 
--- ---- Pair, recordings a and b: "real(k) = C_a(k) + S_b(k), imaginary(k) = C_b(k) − S_a(k), with (9), (10) above N/2", for k = 0 .. N − 1. (22): two sums for each k
--- but k = 0 and k = N/2, where the sine-DFT is zero for every block (at N = 1 there is none: 2 · (1 − 2) is 0 on natural numbers)
+-- ---- Pair, recordings a and b: "real(k) = C_a(k) + S_b(k), imaginary(k) = C_b(k) − S_a(k), with (9), (10) above N/2", for
+-- k = 0 .. N − 1. (22): two sums for each k but k = 0 and k = N/2, where the sine-DFT is zero for every block (at N = 1 there is none:
+-- 2 · (1 − 2) is 0 on natural numbers)
 pub record PairSpectrum : Type 0 where
   pub real : ℕ → ℤ
   pub imaginary : ℕ → ℤ
