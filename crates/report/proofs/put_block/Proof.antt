@@ -7,12 +7,19 @@ use Rattle.report.proofs.Printing.{pair-done, lines-same, few-blocks}
 use Rattle.report.proofs.put_block.Statement.{statement}
 use Rattle.report.proofs.put_block.Tie as tie
 
+-- places on the way, from behind the call of Pair: the allowance, and the start
+abbrev allowed : tie.After-pair → tie.After-pair-products
+allowed c = c .before .before .before .before
+
+abbrev start : tie.After-pair → tie.Start
+start c = allowed c .before .before
+
 put-lines-requires : tie.Need-put-lines-requires
 put-lines-requires c κs =
     let p = c .before .before .before .before .before .before in
-    let s = p .before .before .before .before .before .before in
+    let s = start p in
     let k = s .pre .0 in
-    let done = pair-done (s .args .block) k (p .before .before .before .before .pair-products .ensures) (p .pair .ensures) in (
+    let done = pair-done (s .args .block) k (allowed p .pair-products .ensures) (p .pair .ensures) in (
       omega (arith, few-blocks (s .args .block) (s .args .n) _ (k .length-ok) (k .most)),
       length-le (s .args .n) (k .length-ok),
       omega (arith, done .realWords .len, k .realWords),
@@ -24,8 +31,8 @@ returns : tie.Need-returns
 returns c =
     let l = c .before .before in
     let p = l .before .before .before .before .before .before .before in
-    let s = p .before .before .before .before .before .before in
-    let done = pair-done (s .args .block) (s .pre .0) (p .before .before .before .before .pair-products .ensures) (p .pair .ensures) in
+    let s = start p in
+    let done = pair-done (s .args .block) (s .pre .0) (allowed p .pair-products .ensures) (p .pair .ensures) in
     let r = l .put-lines .ensures in
     record {
       put = rw (lines-same (s .args .block) _ _ _ _ (s .args .n) (front (done .realWords)) (front (done .imaginaryWords))) at (r .0);
