@@ -67,10 +67,12 @@ module _ {recording : List ℤ} {start N : ℕ} (f : Fit recording start N) wher
   pub fit-workable : (scratch : List ℤ) {m : ℕ} → m ≡ scratchWords N → m ≤ length scratch
       → Workable (lent recording start N) (take m scratch)
   fit-workable scratch {m} e room = record {
-    length-ok = rw fit-length (f .length-ok);
-    range = λ k h.
-        let l : k < N = omega (arith, h, fit-length) in
-        rw (lent-word recording start N k l) (all-in (word recording) start N (f .range) k l);
+    block-ok = record {
+      length-ok = rw fit-length (f .length-ok);
+      range = λ k h.
+          let l : k < N = omega (arith, h, fit-length) in
+          rw (lent-word recording start N k l) (all-in (word recording) start N (f .range) k l);
+    };
     room = omega (arith, e, fit-length, length-take-le m scratch room);
   }
 
@@ -121,7 +123,7 @@ module _ {N m allowance : ℕ} {counts : Counts} {scratch w′ : List ℤ} (c : 
     {start : ℕ} {spent : Tally} where
   pub cosine-done : {recording coefficients coefficients′ : List ℤ}
       → Passed6 (cosineCall recording start N allowance coefficients scratch)
-      → CosineMade (lent recording start N) coefficients (take m scratch) coefficients′ w′ (spent .products) (spent .sums)
+      → CosineMade (lent recording start N) coefficients (take m scratch) coefficients′ w′ spent
       → CosineDone N (block recording start) allowance coefficients scratch coefficients′ (w′ ++ drop m scratch) spent
   cosine-done {recording} {coefficients} {coefficients′} passed made =
       let (f, _) = fits passed in
@@ -143,7 +145,7 @@ module _ {N m allowance : ℕ} {counts : Counts} {scratch w′ : List ℤ} (c : 
 
   pub spectrum-done : {recording cosine sine cosine′ sine′ : List ℤ}
       → Passed6 (spectrumCall recording start N allowance cosine sine scratch)
-      → SpectrumMade (lent recording start N) cosine sine (take m scratch) cosine′ sine′ w′ (spent .products) (spent .sums)
+      → SpectrumMade (lent recording start N) cosine sine (take m scratch) cosine′ sine′ w′ spent
       → SpectrumDone N (block recording start) allowance cosine sine scratch cosine′ sine′ (w′ ++ drop m scratch) spent
   spectrum-done {recording} {cosine} {sine} {cosine′} {sine′} passed made =
       let (f, _) = fits passed in
@@ -170,7 +172,7 @@ module _ {N m allowance : ℕ} {counts : Counts} {scratch w′ : List ℤ} (c : 
 
   pub pair-done : {a b real imaginary real′ imaginary′ : List ℤ}
       → Passed6 (pairCall a b start N allowance real imaginary scratch)
-      → PairMade (lent a start N) (lent b start N) real imaginary (take m scratch) real′ imaginary′ w′ (spent .products) (spent .sums)
+      → PairMade (lent a start N) (lent b start N) real imaginary (take m scratch) real′ imaginary′ w′ spent
       → PairDone N (block a start) (block b start) allowance real imaginary scratch real′ imaginary′ (w′ ++ drop m scratch) spent
   pair-done {a} {b} {real} {imaginary} {real′} {imaginary′} passed made =
       let (f, (g, _)) = fits passed in

@@ -131,11 +131,8 @@ pair-of-requires c κs =
     let t = c .before .before .before .before .before in
     let (f, (g, _)) = fits (passed-6 t) in
     let is = measured (allowed (searched t)) .scratch-words .ensures in (
-      fit-workable f _ is (omega arith),
-      fit-workable g _ is (omega arith),
-      fit-length g ∙ sym (fit-length f),
-      omega (arith, fit-length f),
-      omega (arith, fit-length f),
+      (fit-workable f _ is (omega arith), fit-workable g _ is (omega arith), fit-length g ∙ sym (fit-length f)),
+      (omega (arith, fit-length f), omega (arith, fit-length f)),
     )
 
 returns-10 : tie.Need-returns-10
