@@ -4,6 +4,7 @@
 --     odd-ready             then the DCT may be taken
 --     join-ready            then both may be joined
 --     dft-ends              what the join leaves is the transform
+--     lent-..               the same where the DCT was taken of a tail that was lent
 -- Assumes nothing.
 use mathlib.Core.Path.{_≡_, refl, sym, ap, ap₂, _∙_, subst}
 use mathlib.Core.List.{List}
@@ -26,9 +27,9 @@ use Rattle.ffct.proofs.Steps.{cosine-step, sine-step, cosine-products, cosine-s
 use Rattle.counts.specs.declared.tally.Tally.{Tally}
 use Rattle.counts.specs.Tally.{Tallied, HasRoom}
 use Rattle.transforms.specs.Pairs.{paired}
-use Rattle.transforms.specs.Steps.{Ready, Gives, DftReady, DftDone, DctReady, FoldReady, Folded, evenAt, oddAt, cosineJoin, sineJoin, JoinReady, Joined}
+use Rattle.transforms.specs.Steps.{Ready, Gives, DftReady, DftDone, DctReady, DctDone, FoldReady, Folded, evenAt, oddAt, cosineJoin, sineJoin, JoinReady, Joined}
 use Rattle.transforms.proofs.Pairs.{paired-same, paired-evens}
-use Rattle.transforms.proofs.Levels.{inner, sample-le, ready-same}
+use Rattle.transforms.proofs.Levels.{inner, sample-le, lent}
 
 -- a quarter of n times a sum of two, from n times each
 quarter-le : (n u v z : ℕ) → n * u ≤ largestSum → n * v ≤ largestSum → z ≤ u + v → n / 4 * z ≤ largestSum
@@ -91,6 +92,10 @@ sine-kind = record {
     quartered : (m : ℕ) → 4 * m / 4 ≡ m
     quartered m = omega arith
 
+-- where the DCT's part begins
+abbrev pub tail : ℕ → ℕ → ℕ
+tail at n = at + n / 2 + 1
+
 module _ {transform : ℕ → Samples → Transform} {fold : ℕ → Samples → Samples} {join : ℕ → (ℕ → ℤ) → (ℕ → ℤ) → ℕ → ℤ} {joins : ℕ → ℕ}
     (K : Kind transform fold join joins) {n s at : ℕ} {w₀ : List ℤ} {spent : Tally} (start : DftReady transform n s at w₀ spent) (many : 4 ≤ n) where
   -- the block, and the levels of its parts
@@ -109,9 +114,8 @@ module _ {transform : ℕ → Samples → Transform} {fold : ℕ → Samples →
   quarter-is : n / 4 ≡ len l
   quarter-is = omega (arith, Q .four)
 
-  -- where the DCT's part begins
   abbrev b : ℕ
-  b = at + n / 2 + 1
+  b = tail at n
 
   -- the two parts of the definition
   abbrev even : Transform
@@ -245,16 +249,35 @@ module _ {transform : ℕ → Samples → Transform} {fold : ℕ → Samples →
             whole-at : (k : ℕ) → transform (level n) x .at k ≡ join n (even .at) (odd .at) k
             whole-at k = rw (Q .level-is) (rw (sym (Q .four)) at (K .step l x k))
 
+      -- ---- after the DCT of the tail, which was lent and came back as p
+      module _ {p : List ℤ} {t₃ : Tally} (oddened : DctDone (n / 4) (part b w₂) p t₂ t₃) where
+        whole-odd : Gives (dct l (word (part b w₂))) b (n / 4) w₂ (back b w₂ p) t₂ t₃
+        whole-odd = lent tail-starts oddened
+
+        pub lent-join-ready : JoinReady (joins n) n at (back b w₂ p) t₃
+        lent-join-ready = join-ready whole-odd
+
+        pub lent-ends : {w₄ : List ℤ} {t₄ : Tally} → Joined join (joins n) n at (back b w₂ p) w₄ t₃ t₄ → DftDone transform n s at w₀ w₄ spent t₄
+        lent-ends = dft-ends whole-odd
+
 -- the even samples' sine-DFT is zero where the join takes it to be
 module _ {n s at : ℕ} {w₀ : List ℤ} {spent : Tally} (start : DftReady sineDft n s at w₀ spent) (many : 4 ≤ n)
-    {w₁ w₂ w₃ : List ℤ} {t₁ t₂ t₃ : Tally} (evened : DftDone sineDft (n / 2) (2 * s) at w₀ w₁ spent t₁)
-    (folded : Folded foldedDifferences n s (at + n / 2 + 1) w₁ w₂ t₁ t₂)
-    (oddened : Gives (dct (level (n / 4)) (word (part (at + n / 2 + 1) w₂))) (at + n / 2 + 1) (n / 4) w₂ w₃ t₂ t₃) where
-  pub sine-zeros : (evenAt at w₃ 0 ≡ pos 0) × (evenAt at w₃ (n / 4) ≡ pos 0)
-  sine-zeros = (
-    even-word sine-kind start many evened folded oddened 0 (omega arith) ∙ sine-first _ _,
-    even-word sine-kind start many evened folded oddened (n / 4) (omega arith) ∙ sine-last _ _ (n / 4) (omega (arith, quarter-is sine-kind start many)),
-  )
+    {w₁ w₂ : List ℤ} {t₁ t₂ : Tally} (evened : DftDone sineDft (n / 2) (2 * s) at w₀ w₁ spent t₁)
+    (folded : Folded foldedDifferences n s (tail at n) w₁ w₂ t₁ t₂) where
+  pub sine-zeros : {w₃ : List ℤ} {t₃ : Tally} → Gives (dct (level (n / 4)) (word (part (tail at n) w₂))) (tail at n) (n / 4) w₂ w₃ t₂ t₃ →
+      (evenAt at w₃ 0 ≡ pos 0) × (evenAt at w₃ (n / 4) ≡ pos 0)
+  sine-zeros oddened =
+      let at-k = even-word sine-kind start many evened folded oddened in (
+        at-k 0 (omega arith) ∙ sine-first _ _,
+        at-k (n / 4) (omega arith) ∙ sine-last _ _ (n / 4) (omega (arith, quarter-is sine-kind start many)),
+      )
+
+  pub lent-sine-ready : {p : List ℤ} {t₃ : Tally} → DctDone (n / 4) (part (tail at n) w₂) p t₂ t₃ →
+      let w₃ = back (tail at n) w₂ p in
+      JoinReady (n / 2 - 2) n at w₃ t₃ × (evenAt at w₃ 0 ≡ pos 0) × (evenAt at w₃ (n / 4) ≡ pos 0)
+  lent-sine-ready done =
+      let z = sine-zeros (whole-odd sine-kind start many evened folded done) in
+      (lent-join-ready sine-kind start many evened folded done, z .0, z .1)
 
 -- two differences are put at a time
 multiple : (n k : ℕ) → n ≡ 8 * k → 8 * (n / 8) ≡ n

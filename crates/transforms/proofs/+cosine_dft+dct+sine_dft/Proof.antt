@@ -1,17 +1,11 @@
--- `transforms::cosine_dft`, `sine_dft` and `dct` meet their contracts: the rank 2 n, for the DCT 2 n + 1, falls at each call; what each call asks and what the calls come to is in
--- DftRuns and DctRuns. Assumes nothing.
-use mathlib.Core.Path.{_≡_}
-use Prim.Native.Nat.{ℕ, _+_, _*_, _/_, _≤_, _<_}
+-- `transforms::cosine_dft`, `sine_dft` and `dct` meet their contracts: the rank 2 n, for the DCT 2 n + 1, falls at each call; what each
+-- call asks and what the calls come to is in DftRuns and DctRuns. Assumes nothing.
+use Prim.Native.Nat.{ℕ, _+_, _*_, _≤_, _<_}
 use native.Mathlib.Omega.{arith}
 use borrow.Author.Needs.{needs}
 use lib.ListN.{length}
-use Rattle.words.specs.Words.{word}
-use Rattle.words.proofs.Parts.{part, back}
-use Rattle.ffct.specs.Block.{level}
-use Rattle.ffct.specs.Transforms.{dct as dctOf}
-use Rattle.transforms.specs.Steps.{Gives}
-use Rattle.transforms.proofs.Levels.{lent}
-use Rattle.transforms.proofs.DftRuns.{cosine-kind, sine-kind, even-ready, stride-below, fold-ready, tail-starts, odd-ready, join-ready, sine-zeros, eighths, dft-ends}
+use Rattle.transforms.proofs.DftRuns.{cosine-kind, sine-kind, tail, even-ready, stride-below, fold-ready, tail-starts, odd-ready}
+use Rattle.transforms.proofs.DftRuns.{lent-join-ready, lent-sine-ready, eighths, lent-ends}
 use Rattle.transforms.proofs.DctRuns.{cosine-ready, sine-ready, rotation-ready, dct-ends}
 use borrow.Fn.Kinds.{In}
 use borrow.Fn.PlainCycle.{Measures, is, falls, and}
@@ -108,137 +102,147 @@ dct-calls t = (
 -- ---- `cosine_dft`: the tail that it lends begins inside the words
 cosine-starts : (t : ℕ) (f : cosine-dft-lts.After-put-folded-sums (cosine-dft-calls t) (cosine-dft-at t) cosine-dft.Post) →
     let a = f .before .before .before .before .before .before .args in
-    a .at + a .n / 2 + 1 ≤ length (f .put-folded-sums .last .0)
+    tail (a .at) (a .n) ≤ length (f .put-folded-sums .last .0)
 cosine-starts t f =
     let e = f .before .before .before in
     let s = e .before .before .before in
     tail-starts cosine-kind (s .pre .1 .1) (omega arith) (e .cosine-dft .ensures) (f .put-folded-sums .ensures)
 
--- and the DCT, seen from the whole
-cosine-odd : (t : ℕ) (d : cosine-dft-lts.After-dct (cosine-dft-calls t) (cosine-dft-at t) cosine-dft.Post) →
-    let f = d .before .before .before in
-    let a = f .before .before .before .before .before .before .args in
-    let b = a .at + a .n / 2 + 1 in
-    let w = f .put-folded-sums .last .0 in
-    Gives (dctOf (level (a .n / 4)) (word (part b w))) b (a .n / 4) w (back b w (d .dct .last .1 .0)) (f .put-folded-sums .result) (d .dct .result)
-cosine-odd t d = lent (cosine-starts t (d .before .before .before)) (d .dct .ensures)
-
-cosine-dft-cosine-short-requires : (t : ℕ) → cosine-dft-lts.Need-cosine-short-requires (cosine-dft-calls t) (cosine-dft-at t) cosine-dft.Post
+cosine-dft-cosine-short-requires : (t : ℕ) →
+    cosine-dft-lts.Need-cosine-short-requires (cosine-dft-calls t) (cosine-dft-at t) cosine-dft.Post
 cosine-dft-cosine-short-requires t c κs = let s = c .before .before in (s .pre .1 .0, s .pre .1 .1, c .before .if1 .taken)
 
-cosine-dft-cosine-dft-requires : (t : ℕ) → cosine-dft-lts.Need-cosine-dft-requires (cosine-dft-calls t) (cosine-dft-at t) cosine-dft.Post
+cosine-stride : (t : ℕ) →
+    cosine-dft-lts.Need-mul-cosine-dft (cosine-dft-calls t) (cosine-dft-at t) cosine-dft.Post
+cosine-stride t c =
+    let s = c .before .before in
+    omega (arith, stride-below cosine-kind (s .pre .1 .1) (omega arith), s .pre .1 .1 .fits)
+
+cosine-dft-cosine-dft-requires : (t : ℕ) →
+    cosine-dft-lts.Need-cosine-dft-requires (cosine-dft-calls t) (cosine-dft-at t) cosine-dft.Post
 cosine-dft-cosine-dft-requires t c κs =
     let s = c .before .before in
     (omega (arith, s .pre .0), (s .pre .1 .0, even-ready cosine-kind (s .pre .1 .1) (omega arith)))
 
-cosine-dft-put-folded-sums-requires : (t : ℕ) → cosine-dft-lts.Need-put-folded-sums-requires (cosine-dft-calls t) (cosine-dft-at t) cosine-dft.Post
+cosine-dft-put-folded-sums-requires : (t : ℕ) →
+    cosine-dft-lts.Need-put-folded-sums-requires (cosine-dft-calls t) (cosine-dft-at t) cosine-dft.Post
 cosine-dft-put-folded-sums-requires t c κs =
     let e = c .before .before in
     let s = e .before .before .before in
     fold-ready cosine-kind (s .pre .1 .1) (omega arith) (e .cosine-dft .ensures)
 
-cosine-dft-dct-requires : (t : ℕ) → cosine-dft-lts.Need-dct-requires (cosine-dft-calls t) (cosine-dft-at t) cosine-dft.Post
+cosine-dft-dct-requires : (t : ℕ) →
+    cosine-dft-lts.Need-dct-requires (cosine-dft-calls t) (cosine-dft-at t) cosine-dft.Post
 cosine-dft-dct-requires t c κs =
     let f = c .before .before in
     let e = f .before .before .before in
     let s = e .before .before .before in
     (omega (arith, s .pre .0), (s .pre .1 .0, odd-ready cosine-kind (s .pre .1 .1) (omega arith) (e .cosine-dft .ensures) (f .put-folded-sums .ensures)))
 
-cosine-dft-join-cosine-requires : (t : ℕ) → cosine-dft-lts.Need-join-cosine-requires (cosine-dft-calls t) (cosine-dft-at t) cosine-dft.Post
+cosine-dft-join-cosine-requires : (t : ℕ) →
+    cosine-dft-lts.Need-join-cosine-requires (cosine-dft-calls t) (cosine-dft-at t) cosine-dft.Post
 cosine-dft-join-cosine-requires t c κs =
     let d = c .before .before in
     let f = d .before .before .before in
     let e = f .before .before .before in
     let s = e .before .before .before in
-    join-ready cosine-kind (s .pre .1 .1) (omega arith) (e .cosine-dft .ensures) (f .put-folded-sums .ensures) (cosine-odd t d)
+    lent-join-ready cosine-kind (s .pre .1 .1) (omega arith) (e .cosine-dft .ensures) (f .put-folded-sums .ensures) (d .dct .ensures)
 
-cosine-dft-returns-2 : (t : ℕ) → cosine-dft-lts.Need-returns-2 (cosine-dft-calls t) (cosine-dft-at t) cosine-dft.Post
+cosine-dft-returns-2 : (t : ℕ) →
+    cosine-dft-lts.Need-returns-2 (cosine-dft-calls t) (cosine-dft-at t) cosine-dft.Post
 cosine-dft-returns-2 t c =
     let d = c .before .before .before .before in
     let f = d .before .before .before in
     let e = f .before .before .before in
     let s = e .before .before .before in
-    dft-ends cosine-kind (s .pre .1 .1) (omega arith) (e .cosine-dft .ensures) (f .put-folded-sums .ensures) (cosine-odd t d) (c .before .join-cosine .ensures)
+    lent-ends cosine-kind (s .pre .1 .1) (omega arith) (e .cosine-dft .ensures) (f .put-folded-sums .ensures) (d .dct .ensures) (c .before .join-cosine .ensures)
 
 -- ---- `sine_dft`: the tail that it lends begins inside the words
 sine-starts : (t : ℕ) (f : sine-dft-lts.After-put-folded-differences (sine-dft-calls t) (sine-dft-at t) sine-dft.Post) →
     let a = f .before .before .before .before .before .before .args in
-    a .at + a .n / 2 + 1 ≤ length (f .put-folded-differences .last .0)
+    tail (a .at) (a .n) ≤ length (f .put-folded-differences .last .0)
 sine-starts t f =
     let e = f .before .before .before in
     let s = e .before .before .before in
     tail-starts sine-kind (s .pre .1 .1) (omega arith) (e .sine-dft .ensures) (f .put-folded-differences .ensures)
 
--- and the DCT, seen from the whole
-sine-odd : (t : ℕ) (d : sine-dft-lts.After-dct (sine-dft-calls t) (sine-dft-at t) sine-dft.Post) →
-    let f = d .before .before .before in
-    let a = f .before .before .before .before .before .before .args in
-    let b = a .at + a .n / 2 + 1 in
-    let w = f .put-folded-differences .last .0 in
-    Gives (dctOf (level (a .n / 4)) (word (part b w))) b (a .n / 4) w (back b w (d .dct .last .1 .0)) (f .put-folded-differences .result) (d .dct .result)
-sine-odd t d = lent (sine-starts t (d .before .before .before)) (d .dct .ensures)
-
-sine-dft-sine-short-requires : (t : ℕ) → sine-dft-lts.Need-sine-short-requires (sine-dft-calls t) (sine-dft-at t) sine-dft.Post
+sine-dft-sine-short-requires : (t : ℕ) →
+    sine-dft-lts.Need-sine-short-requires (sine-dft-calls t) (sine-dft-at t) sine-dft.Post
 sine-dft-sine-short-requires t c κs = let s = c .before .before in (s .pre .1 .0, s .pre .1 .1, c .before .if1 .taken)
 
-sine-dft-sine-dft-requires : (t : ℕ) → sine-dft-lts.Need-sine-dft-requires (sine-dft-calls t) (sine-dft-at t) sine-dft.Post
+sine-stride : (t : ℕ) →
+    sine-dft-lts.Need-mul-sine-dft (sine-dft-calls t) (sine-dft-at t) sine-dft.Post
+sine-stride t c =
+    let s = c .before .before in
+    omega (arith, stride-below sine-kind (s .pre .1 .1) (omega arith), s .pre .1 .1 .fits)
+
+sine-dft-sine-dft-requires : (t : ℕ) →
+    sine-dft-lts.Need-sine-dft-requires (sine-dft-calls t) (sine-dft-at t) sine-dft.Post
 sine-dft-sine-dft-requires t c κs =
     let s = c .before .before in
     (omega (arith, s .pre .0), (s .pre .1 .0, even-ready sine-kind (s .pre .1 .1) (omega arith)))
 
-sine-dft-put-folded-differences-requires : (t : ℕ) → sine-dft-lts.Need-put-folded-differences-requires (sine-dft-calls t) (sine-dft-at t) sine-dft.Post
+sine-dft-put-folded-differences-requires : (t : ℕ) →
+    sine-dft-lts.Need-put-folded-differences-requires (sine-dft-calls t) (sine-dft-at t) sine-dft.Post
 sine-dft-put-folded-differences-requires t c κs =
     let e = c .before .before in
     let s = e .before .before .before in
     (fold-ready sine-kind (s .pre .1 .1) (omega arith) (e .sine-dft .ensures), eighths (s .pre .1 .1) (omega arith))
 
-sine-dft-dct-requires : (t : ℕ) → sine-dft-lts.Need-dct-requires (sine-dft-calls t) (sine-dft-at t) sine-dft.Post
+sine-dft-dct-requires : (t : ℕ) →
+    sine-dft-lts.Need-dct-requires (sine-dft-calls t) (sine-dft-at t) sine-dft.Post
 sine-dft-dct-requires t c κs =
     let f = c .before .before in
     let e = f .before .before .before in
     let s = e .before .before .before in
     (omega (arith, s .pre .0), (s .pre .1 .0, odd-ready sine-kind (s .pre .1 .1) (omega arith) (e .sine-dft .ensures) (f .put-folded-differences .ensures)))
 
-sine-dft-join-sine-requires : (t : ℕ) → sine-dft-lts.Need-join-sine-requires (sine-dft-calls t) (sine-dft-at t) sine-dft.Post
+sine-dft-join-sine-requires : (t : ℕ) →
+    sine-dft-lts.Need-join-sine-requires (sine-dft-calls t) (sine-dft-at t) sine-dft.Post
 sine-dft-join-sine-requires t c κs =
     let d = c .before .before in
     let f = d .before .before .before in
     let e = f .before .before .before in
     let s = e .before .before .before in
-    let z = sine-zeros (s .pre .1 .1) (omega arith) (e .sine-dft .ensures) (f .put-folded-differences .ensures) (sine-odd t d) in
-    (join-ready sine-kind (s .pre .1 .1) (omega arith) (e .sine-dft .ensures) (f .put-folded-differences .ensures) (sine-odd t d), z .0, z .1)
+    lent-sine-ready (s .pre .1 .1) (omega arith) (e .sine-dft .ensures) (f .put-folded-differences .ensures) (d .dct .ensures)
 
-sine-dft-returns-2 : (t : ℕ) → sine-dft-lts.Need-returns-2 (sine-dft-calls t) (sine-dft-at t) sine-dft.Post
+sine-dft-returns-2 : (t : ℕ) →
+    sine-dft-lts.Need-returns-2 (sine-dft-calls t) (sine-dft-at t) sine-dft.Post
 sine-dft-returns-2 t c =
     let d = c .before .before .before .before in
     let f = d .before .before .before in
     let e = f .before .before .before in
     let s = e .before .before .before in
-    dft-ends sine-kind (s .pre .1 .1) (omega arith) (e .sine-dft .ensures) (f .put-folded-differences .ensures) (sine-odd t d) (c .before .join-sine .ensures)
+    lent-ends sine-kind (s .pre .1 .1) (omega arith) (e .sine-dft .ensures) (f .put-folded-differences .ensures) (d .dct .ensures) (c .before .join-sine .ensures)
 
 -- ---- `dct`
-dct-dct-short-requires : (t : ℕ) → dct-lts.Need-dct-short-requires (dct-calls t) (dct-at t) dct.Post
+dct-dct-short-requires : (t : ℕ) →
+    dct-lts.Need-dct-short-requires (dct-calls t) (dct-at t) dct.Post
 dct-dct-short-requires t c κs = let s = c .before .before in (s .pre .1 .0, s .pre .1 .1, c .before .if1 .taken)
 
-dct-cosine-dft-requires : (t : ℕ) → dct-lts.Need-cosine-dft-requires (dct-calls t) (dct-at t) dct.Post
+dct-cosine-dft-requires : (t : ℕ) →
+    dct-lts.Need-cosine-dft-requires (dct-calls t) (dct-at t) dct.Post
 dct-cosine-dft-requires t c κs =
     let s = c .before .before in
     (omega (arith, s .pre .0), (s .pre .1 .0, cosine-ready (s .pre .1 .1) (omega arith)))
 
-dct-sine-dft-requires : (t : ℕ) → dct-lts.Need-sine-dft-requires (dct-calls t) (dct-at t) dct.Post
+dct-sine-dft-requires : (t : ℕ) →
+    dct-lts.Need-sine-dft-requires (dct-calls t) (dct-at t) dct.Post
 dct-sine-dft-requires t c κs =
     let d = c .before .before in
     let s = d .before .before .before in
     (omega (arith, s .pre .0), (s .pre .1 .0, sine-ready (s .pre .1 .1) (omega arith) (d .cosine-dft .ensures)))
 
-dct-rotate-requires : (t : ℕ) → dct-lts.Need-rotate-requires (dct-calls t) (dct-at t) dct.Post
+dct-rotate-requires : (t : ℕ) →
+    dct-lts.Need-rotate-requires (dct-calls t) (dct-at t) dct.Post
 dct-rotate-requires t c κs =
     let e = c .before .before in
     let d = e .before .before .before in
     let s = d .before .before .before in
     (s .pre .1 .0, rotation-ready (s .pre .1 .1) (omega arith) (d .cosine-dft .ensures) (e .sine-dft .ensures))
 
-dct-returns-2 : (t : ℕ) → dct-lts.Need-returns-2 (dct-calls t) (dct-at t) dct.Post
+dct-returns-2 : (t : ℕ) →
+    dct-lts.Need-returns-2 (dct-calls t) (dct-at t) dct.Post
 dct-returns-2 t c =
     let e = c .before .before .before .before in
     let d = e .before .before .before in
@@ -252,7 +256,7 @@ pub +cosine-dft+dct+sine-dft-spec : {M : Type 1} → statement M
     (cosine-dft-cosine-short-requires t)
     (λ c. search needs)  -- cosine-dft-same-length
     (λ c. search needs)  -- cosine-dft-returns
-    (λ c. let s = c .before .before in omega (arith, stride-below cosine-kind (s .pre .1 .1) (omega arith), s .pre .1 .1 .fits))  -- cosine-dft-mul-cosine-dft
+    (cosine-stride t)  -- cosine-dft-mul-cosine-dft
     (cosine-dft-cosine-dft-requires t)
     (λ c. search needs)  -- cosine-dft-add-b
     (λ c. search needs)  -- cosine-dft-add-b-2
@@ -284,7 +288,7 @@ pub +cosine-dft+dct+sine-dft-spec : {M : Type 1} → statement M
     (sine-dft-sine-short-requires t)
     (λ c. search needs)  -- sine-dft-same-length
     (λ c. search needs)  -- sine-dft-returns
-    (λ c. let s = c .before .before in omega (arith, stride-below sine-kind (s .pre .1 .1) (omega arith), s .pre .1 .1 .fits))  -- sine-dft-mul-sine-dft
+    (sine-stride t)  -- sine-dft-mul-sine-dft
     (sine-dft-sine-dft-requires t)
     (λ c. search needs)  -- sine-dft-add-b
     (λ c. search needs)  -- sine-dft-add-b-2

@@ -1,35 +1,25 @@
 -- `transforms::short::cosine_32` meets its contract: a run of the cosine-DFT at that length. Assumes nothing.
-use Prim.Native.Nat.{_+_, _≤_}
+use Prim.Native.Nat.{_≤_}
 use borrow.Author.Needs.{needs}
 use lib.Dec.{lit≤}
 use lib.ListN.{length}
-use Rattle.words.specs.Words.{word}
-use Rattle.words.proofs.Parts.{part, back}
-use Rattle.ffct.specs.Block.{level}
-use Rattle.ffct.specs.Transforms.{dct}
-use Rattle.transforms.specs.Steps.{Gives}
-use Rattle.transforms.proofs.Levels.{lent}
-use Rattle.transforms.proofs.DftRuns.{cosine-kind, even-ready, fold-ready, tail-starts, odd-ready, join-ready, dft-ends}
+use Rattle.transforms.proofs.DftRuns.{cosine-kind, tail, even-ready, fold-ready, tail-starts, odd-ready, lent-join-ready, lent-ends}
 use Rattle.transforms.proofs.short.cosine_32.Statement.{statement}
 use Rattle.transforms.proofs.short.cosine_32.Tie as tie
 
 -- the tail that is lent begins inside the words
-starts : (f : tie.After-put-folded-sums) → f .before .before .before .before .before .args .at + 16 + 1 ≤ length (f .put-folded-sums .last .0)
-starts f = let e = f .before .before .before in tail-starts cosine-kind (e .before .before .pre .1) (lit≤ tt) (e .cosine-16 .ensures) (f .put-folded-sums .ensures)
-
--- the DCT, seen from the whole
-odd : (d : tie.After-dct-8) →
-    let f = d .before .before .before in
-    let b = f .before .before .before .before .before .args .at + 16 + 1 in
-    let w = f .put-folded-sums .last .0 in
-    Gives (dct (level 8) (word (part b w))) b 8 w (back b w (d .dct-8 .last .1 .0)) (f .put-folded-sums .result) (d .dct-8 .result)
-odd d = lent (starts (d .before .before .before)) (d .dct-8 .ensures)
+starts : (f : tie.After-put-folded-sums) → tail (f .before .before .before .before .before .args .at) 32 ≤ length (f .put-folded-sums .last .0)
+starts f =
+    let e = f .before .before .before in
+    tail-starts cosine-kind (e .before .before .pre .1) (lit≤ tt) (e .cosine-16 .ensures) (f .put-folded-sums .ensures)
 
 cosine-16-requires : tie.Need-cosine-16-requires
 cosine-16-requires c κs = (c .before .pre .0, even-ready cosine-kind (c .before .pre .1) (lit≤ tt))
 
 put-folded-sums-requires : tie.Need-put-folded-sums-requires
-put-folded-sums-requires c κs = let e = c .before .before in fold-ready cosine-kind (e .before .before .pre .1) (lit≤ tt) (e .cosine-16 .ensures)
+put-folded-sums-requires c κs =
+    let e = c .before .before in
+    fold-ready cosine-kind (e .before .before .pre .1) (lit≤ tt) (e .cosine-16 .ensures)
 
 dct-8-requires : tie.Need-dct-8-requires
 dct-8-requires c κs =
@@ -43,15 +33,15 @@ join-cosine-requires c κs =
     let d = c .before .before in
     let f = d .before .before .before in
     let e = f .before .before .before in
-    let s = e .before .before in
-    join-ready cosine-kind (s .pre .1) (lit≤ tt) (e .cosine-16 .ensures) (f .put-folded-sums .ensures) (odd d)
+    lent-join-ready cosine-kind (e .before .before .pre .1) (lit≤ tt) (e .cosine-16 .ensures) (f .put-folded-sums .ensures) (d .dct-8 .ensures)
 
 returns : tie.Need-returns
 returns c =
     let d = c .before .before .before .before in
     let f = d .before .before .before in
     let e = f .before .before .before in
-    dft-ends cosine-kind (e .before .before .pre .1) (lit≤ tt) (e .cosine-16 .ensures) (f .put-folded-sums .ensures) (odd d) (c .before .join-cosine .ensures)
+    let s = e .before .before in
+    lent-ends cosine-kind (s .pre .1) (lit≤ tt) (e .cosine-16 .ensures) (f .put-folded-sums .ensures) (d .dct-8 .ensures) (c .before .join-cosine .ensures)
 
 pub cosine-32-spec : {M : Type 1} → statement M
 cosine-32-spec =

@@ -10,7 +10,9 @@ cosine-2-requires : tie.Need-cosine-2-requires
 cosine-2-requires c κs = even-ready cosine-kind (c .before .pre) (lit≤ tt)
 
 put-folded-sums-requires : tie.Need-put-folded-sums-requires
-put-folded-sums-requires c κs = let e = c .before .before in fold-ready cosine-kind (e .before .before .pre) (lit≤ tt) (e .cosine-2 .ensures)
+put-folded-sums-requires c κs =
+    let e = c .before .before in
+    fold-ready cosine-kind (e .before .before .pre) (lit≤ tt) (e .cosine-2 .ensures)
 
 join-cosine-requires : tie.Need-join-cosine-requires
 join-cosine-requires c κs =
@@ -22,7 +24,8 @@ returns : tie.Need-returns
 returns c =
     let f = c .before .before .before .before in
     let e = f .before .before .before in
-    dft-ends cosine-kind (e .before .before .pre) (lit≤ tt) (e .cosine-2 .ensures) (f .put-folded-sums .ensures) dct-single (c .before .join-cosine .ensures)
+    let s = e .before .before in
+    dft-ends cosine-kind (s .pre) (lit≤ tt) (e .cosine-2 .ensures) (f .put-folded-sums .ensures) dct-single (c .before .join-cosine .ensures)
 
 pub cosine-4-spec : {M : Type 1} → statement M
 cosine-4-spec =

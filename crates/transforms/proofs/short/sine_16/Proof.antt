@@ -1,36 +1,26 @@
 -- `transforms::short::sine_16` meets its contract: a run of the sine-DFT at that length. Assumes nothing.
 use mathlib.Core.Path.{refl}
-use Prim.Native.Nat.{_+_, _≤_}
+use Prim.Native.Nat.{_≤_}
 use borrow.Author.Needs.{needs}
 use lib.Dec.{lit≤}
 use lib.ListN.{length}
-use Rattle.words.specs.Words.{word}
-use Rattle.words.proofs.Parts.{part, back}
-use Rattle.ffct.specs.Block.{level}
-use Rattle.ffct.specs.Transforms.{dct}
-use Rattle.transforms.specs.Steps.{Gives}
-use Rattle.transforms.proofs.Levels.{lent}
-use Rattle.transforms.proofs.DftRuns.{sine-kind, even-ready, fold-ready, tail-starts, odd-ready, join-ready, sine-zeros, dft-ends}
+use Rattle.transforms.proofs.DftRuns.{sine-kind, tail, even-ready, fold-ready, tail-starts, odd-ready, lent-sine-ready, lent-ends}
 use Rattle.transforms.proofs.short.sine_16.Statement.{statement}
 use Rattle.transforms.proofs.short.sine_16.Tie as tie
 
 -- the tail that is lent begins inside the words
-starts : (f : tie.After-put-folded-differences) → f .before .before .before .before .before .args .at + 8 + 1 ≤ length (f .put-folded-differences .last .0)
-starts f = let e = f .before .before .before in tail-starts sine-kind (e .before .before .pre .1) (lit≤ tt) (e .sine-8 .ensures) (f .put-folded-differences .ensures)
-
--- the DCT, seen from the whole
-odd : (d : tie.After-dct-4) →
-    let f = d .before .before .before in
-    let b = f .before .before .before .before .before .args .at + 8 + 1 in
-    let w = f .put-folded-differences .last .0 in
-    Gives (dct (level 4) (word (part b w))) b 4 w (back b w (d .dct-4 .last .1 .0)) (f .put-folded-differences .result) (d .dct-4 .result)
-odd d = lent (starts (d .before .before .before)) (d .dct-4 .ensures)
+starts : (f : tie.After-put-folded-differences) → tail (f .before .before .before .before .before .args .at) 16 ≤ length (f .put-folded-differences .last .0)
+starts f =
+    let e = f .before .before .before in
+    tail-starts sine-kind (e .before .before .pre .1) (lit≤ tt) (e .sine-8 .ensures) (f .put-folded-differences .ensures)
 
 sine-8-requires : tie.Need-sine-8-requires
 sine-8-requires c κs = (c .before .pre .0, even-ready sine-kind (c .before .pre .1) (lit≤ tt))
 
 put-folded-differences-requires : tie.Need-put-folded-differences-requires
-put-folded-differences-requires c κs = let e = c .before .before in (fold-ready sine-kind (e .before .before .pre .1) (lit≤ tt) (e .sine-8 .ensures), refl)
+put-folded-differences-requires c κs =
+    let e = c .before .before in
+    (fold-ready sine-kind (e .before .before .pre .1) (lit≤ tt) (e .sine-8 .ensures), refl)
 
 dct-4-requires : tie.Need-dct-4-requires
 dct-4-requires c κs =
@@ -44,16 +34,15 @@ join-sine-requires c κs =
     let d = c .before .before in
     let f = d .before .before .before in
     let e = f .before .before .before in
-    let s = e .before .before in
-    let z = sine-zeros (s .pre .1) (lit≤ tt) (e .sine-8 .ensures) (f .put-folded-differences .ensures) (odd d) in
-    (join-ready sine-kind (s .pre .1) (lit≤ tt) (e .sine-8 .ensures) (f .put-folded-differences .ensures) (odd d), z .0, z .1)
+    lent-sine-ready (e .before .before .pre .1) (lit≤ tt) (e .sine-8 .ensures) (f .put-folded-differences .ensures) (d .dct-4 .ensures)
 
 returns : tie.Need-returns
 returns c =
     let d = c .before .before .before .before in
     let f = d .before .before .before in
     let e = f .before .before .before in
-    dft-ends sine-kind (e .before .before .pre .1) (lit≤ tt) (e .sine-8 .ensures) (f .put-folded-differences .ensures) (odd d) (c .before .join-sine .ensures)
+    let s = e .before .before in
+    lent-ends sine-kind (s .pre .1) (lit≤ tt) (e .sine-8 .ensures) (f .put-folded-differences .ensures) (d .dct-4 .ensures) (c .before .join-sine .ensures)
 
 pub sine-16-spec : {M : Type 1} → statement M
 sine-16-spec =

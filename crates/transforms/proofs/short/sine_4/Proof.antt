@@ -19,7 +19,8 @@ even c = sine-few (even-ready sine-kind (c .before .before .pre) (lit≤ tt)) (l
 folded : (c : tie.After-put-difference) →
     let e = c .before .before .before in
     let s = e .before .before in
-    Folded foldedDifferences 4 (s .args .stride) (s .args .at + 2 + 1) (e .put-zeros .last .0) (c .put-difference .last .0) (s .args .spent) (c .put-difference .result)
+    Folded foldedDifferences 4 (s .args .stride) (s .args .at + 2 + 1) (e .put-zeros .last .0) (c .put-difference .last .0)
+    (s .args .spent) (c .put-difference .result)
 folded c =
     let e = c .before .before .before in
     four-folded (fold-ready sine-kind (e .before .before .pre) (lit≤ tt) (even e)) (c .put-difference .ensures)
