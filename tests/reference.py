@@ -505,4 +505,4 @@ if __name__ == "__main__":
     if sys.argv[1:] != ["--self-test"]:
         sys.exit("usage: python3 tests/reference.py --self-test")
     import reference_self_test
-    reference_self_test.run()
+    sys.exit(0 if reference_self_test.run() else 1)

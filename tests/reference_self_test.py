@@ -1,7 +1,7 @@
 """Self test of tests/reference.py; run by `python3 tests/reference.py --self-test`.
 
-Each check_ function is one check, and its docstring is the line printed for it.
-A failed check stops the run with an AssertionError.
+Each check_ function is one check, and its docstring is the line printed for it; a check that fails is
+printed with its traceback. The last line is 'N passed, M failed'.
 """
 
 import itertools
@@ -10,6 +10,7 @@ import random
 import struct
 import sys
 import time
+import traceback
 
 import reference as ref
 
@@ -417,12 +418,21 @@ def check_pairspec():
 
 
 def run():
+    """Runs every check; whether all passed."""
     if not __debug__:
         sys.exit("the checks are assertions: run without -O")
-    begun = time.perf_counter()
+    passed = failed = 0
     for name, check in list(globals().items()):
         if name.startswith("check_"):
             since = time.perf_counter()
-            check()
-            print("passed in %6.3f s: %s" % (time.perf_counter() - since, check.__doc__))
-    print("all passed in %.1f s" % (time.perf_counter() - begun))
+            try:
+                check()
+            except Exception:
+                failed += 1
+                traceback.print_exc(file=sys.stdout)
+                print("FAILED: %s" % check.__doc__)
+            else:
+                passed += 1
+                print("passed in %6.3f s: %s" % (time.perf_counter() - since, check.__doc__))
+    print("%d passed, %d failed" % (passed, failed))
+    return failed == 0

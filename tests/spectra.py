@@ -1,8 +1,15 @@
 """Writes what crates/spectra_test is to write: every case of its src/main.rt, answered by tests/reference.py. It shares nothing with the product.
 
     python3 tests/spectra.py > crates/spectra_test/stdout
+    python3 tests/spectra.py --compare crates/spectra_test/stdout
+
+The second compares, line by line, and changes nothing; its last line is 'N passed, M failed'.
 """
 
+import contextlib
+import io
+import itertools
+import sys
 from typing import NamedTuple
 
 import reference
@@ -137,7 +144,7 @@ def run_starts(length):
     run_query(length)
 
 
-def main():
+def run_all():
     run_kinds()
     for i in range(10):
         for j in range(i, 10):
@@ -150,4 +157,28 @@ def main():
             run_query(length)
 
 
-main()
+def compare(path):
+    """Whether the file at path has just these lines."""
+    answers = io.StringIO()
+    with contextlib.redirect_stdout(answers):
+        run_all()
+    with open(path, encoding="ascii") as file:
+        pairs = list(itertools.zip_longest(answers.getvalue().splitlines(True), file.read().splitlines(True)))
+    wrong = [(number, *pair) for number, pair in enumerate(pairs, 1) if pair[0] != pair[1]]
+    for number, answer, stored in wrong:
+        print("%s, line %d: has %r\n    expected %r" % (path, number, stored, answer))
+    print("%d passed, %d failed" % (len(pairs) - len(wrong), len(wrong)))
+    return not wrong
+
+
+def main():
+    if sys.argv[1:2] == ["--compare"] and len(sys.argv) == 3:
+        return 0 if compare(sys.argv[2]) else 1
+    if len(sys.argv) > 1:
+        sys.exit("usage: python3 tests/spectra.py [--compare FILE]")
+    run_all()
+    return 0
+
+
+if __name__ == "__main__":
+    sys.exit(main())

@@ -95,6 +95,25 @@ static void calls(void)
     check(one[8] == kept[8] && scratch[0] == 0 && scratch[127] == 0 && scratch[128] != 0, "Cosine writes 8 words and clears 128", 8);
 }
 
+/* The costs of n samples by the query: just that allowance is accepted and is spent, one product less is refused. */
+static void costs(size_t n)
+{
+    uint64_t cost[6]; /* not `six`, which each call marks */
+    memcpy(cost, six, sizeof cost);
+    COSINE(x, LONGEST, 0, n, cost[0], one, LONGEST, scratch, WORDS(scratch));
+    check(answer == 0 && products == cost[0] && sums == cost[1], "Cosine with just its products", n);
+    SPECTRUM(x, LONGEST, 0, n, cost[2], one, LONGEST, two, LONGEST, scratch, WORDS(scratch));
+    check(answer == 0 && products == cost[2] && sums == cost[3], "Spectrum with just its products", n);
+    PAIR(x, LONGEST, x, LONGEST, 0, n, cost[4], one, LONGEST, two, LONGEST, scratch, WORDS(scratch));
+    check(answer == 0 && products == cost[4] && sums == cost[5], "Pair, both recordings one, with just its products", n);
+    if (cost[0] > 0)
+        COSINE(x, LONGEST, 0, n, cost[0] - 1, one, LONGEST, scratch, WORDS(scratch)), refused(5, 0, "Cosine, a product less");
+    if (cost[2] > 0)
+        SPECTRUM(x, LONGEST, 0, n, cost[2] - 1, one, LONGEST, two, LONGEST, scratch, WORDS(scratch)), refused(5, 0, "Spectrum, a product less");
+    if (cost[4] > 0)
+        PAIR(x, LONGEST, x, LONGEST, 0, n, cost[4] - 1, one, LONGEST, two, LONGEST, scratch, WORDS(scratch)), refused(5, 0, "Pair, a product less");
+}
+
 static void counts(void)
 {
     size_t n, i;
@@ -104,15 +123,7 @@ static void counts(void)
         answer = mealbis_counts(n, six, six + 1, six + 2, six + 3, six + 4, six + 5);
         if (a_length) {
             check(answer == 0, "counts of a length", n);
-            SPECTRUM(x, LONGEST, 0, n, UINT64_MAX, one, LONGEST, two, LONGEST, scratch, WORDS(scratch));
-            mealbis_counts(n, six, six + 1, six + 2, six + 3, six + 4, six + 5);
-            check(answer == 0 && products == six[2] && sums == six[3], "Spectrum spends its counts", n);
-            PAIR(x, LONGEST, x, LONGEST, 0, n, six[4], one, LONGEST, two, LONGEST, scratch, WORDS(scratch));
-            mealbis_counts(n, six, six + 1, six + 2, six + 3, six + 4, six + 5);
-            check(answer == 0 && products == six[4] && sums == six[5], "Pair, both recordings one, spends its counts", n);
-            COSINE(x, LONGEST, 0, n, UINT64_MAX, one, LONGEST, scratch, WORDS(scratch));
-            mealbis_counts(n, six, six + 1, six + 2, six + 3, six + 4, six + 5);
-            check(answer == 0 && products == six[0] && sums == six[1], "Cosine spends its counts", n);
+            costs(n);
         } else {
             int zeros = 1;
             for (i = 0; i < 6; i++)
