@@ -286,25 +286,25 @@ int plain_cosine(const int32_t *rec, size_t rec_len, size_t start, size_t length
     return 0;
 }
 
-/* real and imaginary, k = 0 .. n - 1, from the DFTs of both blocks, k = 0 .. n/2. */
+/* re and im, k = 0 .. n - 1, from the DFTs of both blocks, k = 0 .. n/2. */
 static struct tally combine(const int64_t *c_a, const int64_t *s_a, const int64_t *c_b,
-                            const int64_t *s_b, size_t n, int32_t *real, int32_t *imaginary)
+                            const int64_t *s_b, size_t n, int32_t *re, int32_t *im)
 {
     struct tally spent = nothing;
     size_t half = n / 2, k;
 
     /* The sine-DFTs are 0 at both ends. */
-    real[0] = (int32_t)c_a[0];
-    imaginary[0] = (int32_t)c_b[0];
-    real[half] = (int32_t)c_a[half];
-    imaginary[half] = (int32_t)c_b[half];
+    re[0] = (int32_t)c_a[0];
+    im[0] = (int32_t)c_b[0];
+    re[half] = (int32_t)c_a[half];
+    im[half] = (int32_t)c_b[half];
 
     /* C(n - k) = C(k) by (9), S(n - k) = -S(k) by (10). */
     for (k = 1; k < half; k++) {
-        real[k] = (int32_t)(c_a[k] + s_b[k]);
-        imaginary[k] = (int32_t)(c_b[k] - s_a[k]);
-        real[n - k] = (int32_t)(c_a[k] - s_b[k]);
-        imaginary[n - k] = (int32_t)(c_b[k] + s_a[k]);
+        re[k] = (int32_t)(c_a[k] + s_b[k]);
+        im[k] = (int32_t)(c_b[k] - s_a[k]);
+        re[n - k] = (int32_t)(c_a[k] - s_b[k]);
+        im[n - k] = (int32_t)(c_b[k] + s_a[k]);
         spent.sums += 4;
     }
     return spent;
@@ -312,7 +312,7 @@ static struct tally combine(const int64_t *c_a, const int64_t *s_a, const int64_
 
 int plain_pair(const int32_t *a, size_t a_len, const int32_t *b, size_t b_len,
                size_t start, size_t length, uint64_t allowance,
-               int32_t *real, size_t real_len, int32_t *imaginary, size_t imaginary_len,
+               int32_t *re, size_t re_len, int32_t *im, size_t im_len,
                int64_t *scratch, size_t scratch_len,
                uint64_t counts[2], uint64_t *place)
 {
@@ -324,7 +324,7 @@ int plain_pair(const int32_t *a, size_t a_len, const int32_t *b, size_t b_len,
         return 1;
     if (!holds_block(a_len, start, length) || !holds_block(b_len, start, length))
         return 2;
-    if (real_len < length || imaginary_len < length)
+    if (re_len < length || im_len < length)
         return 3;
     if (scratch_len < scratch_words(length))
         return 4;
@@ -349,7 +349,7 @@ int plain_pair(const int32_t *a, size_t a_len, const int32_t *b, size_t b_len,
     load(scratch, b + start, length);
     spent = both(spent, cosine_dft(scratch, 1, length, c_b, work));
     spent = both(spent, sine_dft(scratch, 1, length, s_b, work));
-    spent = both(spent, combine(c_a, s_a, c_b, s_b, length, real, imaginary));
+    spent = both(spent, combine(c_a, s_a, c_b, s_b, length, re, im));
     finish(spent, counts, scratch, length);
     return 0;
 }

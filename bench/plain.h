@@ -34,7 +34,7 @@ int plain_cosine(const int32_t *rec, size_t rec_len, size_t start, size_t length
 /* complex DFT of a + ib, k = 0 .. length - 1 */
 int plain_pair(const int32_t *a, size_t a_len, const int32_t *b, size_t b_len,
                size_t start, size_t length, uint64_t allowance,
-               int32_t *real, size_t real_len, int32_t *imaginary, size_t imaginary_len,
+               int32_t *re, size_t re_len, int32_t *im, size_t im_len,
                int64_t *scratch, size_t scratch_len,
                uint64_t counts[2], uint64_t *place);
 

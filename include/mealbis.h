@@ -1,8 +1,11 @@
 /*
  * mealbis.h: spectra of strain blocks, for C.
  *
- * Link with libmealbis.a, which `rt staticlib mealbis` builds for x86-64 Linux:
+ * Link with libmealbis.a, which `rt staticlib mealbis` builds:
  *     cc -Iinclude program.c target/staticlib/libmealbis.a
+ * The archive is for x86-64 Linux: ELF, the System V calling convention, position-independent, SSE2
+ * and no later instructions. The kit builds for no other target, also where it runs on an Arm
+ * machine: not for ARM, not for 32 bits, not for Windows or macOS.
  * The library needs `memset` and nothing else of the C library. It is written in Rattle and proved:
  * for every input that keeps the section "Buffers" each function answers as said here, writes
  * nothing else, and ends. "Document 01" is docs/01-scope.md; the promises themselves are in
@@ -13,6 +16,23 @@
  * A sample is a whole number of hundredths of a microstrain, -1,000,000 to 1,000,000. Coefficients
  * are in the same unit and always fit an int32_t. A block is `length` samples of a recording from
  * `start` on, start counting from 0. `length`, N below, is 1, 2, 4, 8, .. 512 or 1,024.
+ *
+ * ---- What the coefficients mean
+ *
+ * With `rate` samples a second, coefficient k belongs to the frequency k * rate / N. The complex DFT
+ * of a block is
+ *     X(k) = cosine[k] - i sine[k]
+ * with a MINUS: its phase is atan2(-sine[k], cosine[k]). A wave A cos(2 pi n k / N + phase), with
+ * 0 < k < N/2, has X(k) = (N/2) A exp(i phase); so its amplitude is 2 |X(k)| / N, in the unit of the
+ * samples. At k = 0 (the mean) and k = N/2 it is |X(k)| / N. A square of a coefficient needs int64_t.
+ *
+ * mealbis_pair gives the DFT of a + i b. The spectra of a and b, for k = 1 .. N/2 - 1, are
+ *     cosine of a = (re[k] + re[N-k]) / 2        sine of a = (im[N-k] - im[k]) / 2
+ *     cosine of b = (im[k] + im[N-k]) / 2        sine of b = (re[k] - re[N-k]) / 2
+ * and at k = 0 and N/2 re[k] and im[k] are the cosines of a and b, and the sines are 0. Sums and
+ * differences fit an int32_t, the halves leave no rest, and the result is mealbis_spectrum's to the
+ * last digit. Where only these are wanted, two calls of mealbis_spectrum cost less: the same
+ * products and 2 N - 4 sums fewer.
  *
  * ---- Answers
  *
@@ -66,6 +86,13 @@
  * No heap, no lock, no file, no global state: calls with buffers of their own may run at the same
  * time in threads and interrupt handlers.
  *
+ * In an interrupt handler without an operating system (as the archive is built today; the proof does
+ * not speak of registers):
+ *   - It uses the vector registers, xmm, but neither AVX nor x87. Save and restore them.
+ *   - The stack is aligned to 16 bytes at a call, as C asks: it is written by aligned instructions.
+ *   - It uses the red zone, the 128 bytes below the stack pointer. What interrupts a call leaves them
+ *     alone or runs on another stack.
+ *
  * Stack: a copy of the cosine table, 4,100 bytes, and frames whose number depends on the length
  * alone. Measured at length 1,024, in bytes: mealbis_pair 6,264, mealbis_cosine 6,248,
  * mealbis_spectrum 6,008, mealbis_counts 112, mealbis_read 96; shorter blocks take no more.
@@ -80,6 +107,10 @@
 #ifdef __cplusplus
 extern "C" {
 #endif
+
+/* The version, 10000 major + 100 minor + patch: of this header, and of the archive that is linked. */
+#define MEALBIS_VERSION 10000u
+uint32_t mealbis_version(void);
 
 /* The answers. */
 #define MEALBIS_ACCEPTED 0u
@@ -100,6 +131,8 @@ extern "C" {
 #define MEALBIS_SPECTRUM_WORDS(length) ((length) / 2 + 1)
 #define MEALBIS_SCRATCH_WORDS(length) (8 * (length) + 64)
 #define MEALBIS_FILE_BYTES(samples) (8 + 8 * (samples))
+/* The words of an array, for the counts beside each pointer. Of an array, not of a pointer. */
+#define MEALBIS_WORDS(array) (sizeof(array) / sizeof((array)[0]))
 
 /*
  * Spectrum: cosine-DFT and sine-DFT of a block x(0) .. x(N-1), for k = 0 .. N/2 (k = 0 at N = 1):
@@ -137,30 +170,36 @@ uint32_t mealbis_cosine(
 
 /*
  * Pair: the complex DFT of two recordings, a + i b, for k = 0 .. N-1:
- *   real[k] + i imaginary[k] is the sum of (a(n) + i b(n)) * exp(-2 pi i n k / N), each part within
- *   N/4 of document 01's exact sum.
+ *   re[k] + i im[k] is the sum of (a(n) + i b(n)) * exp(-2 pi i n k / N), each part within N/4 of
+ *   document 01's exact sum.
  * One start serves both recordings, which may differ in length. Tests 1, 2, 3, 4, 5, 6; 6 examines
  * a's block and then b's, and *place does not say in which of them the sample is: where a's sample
  * there is in range, it is b's. On acceptance *products and *sums are what was spent.
  *
- *   a, a_words; b, b_words         the samples; only those of the blocks are examined
- *   real, real_words               at least N words
- *   imaginary, imaginary_words     at least N words
- *   scratch, scratch_words         at least 8 N + 64 words
+ *   a, a_words; b, b_words     the samples; only those of the blocks are examined
+ *   re, re_words               at least N words
+ *   im, im_words               at least N words
+ *   scratch, scratch_words     at least 8 N + 64 words
  */
 uint32_t mealbis_pair(
     const int32_t *a, size_t a_words,
     const int32_t *b, size_t b_words,
     size_t start, size_t length, uint64_t allowance,
-    int32_t *real, size_t real_words,
-    int32_t *imaginary, size_t imaginary_words,
+    int32_t *re, size_t re_words,
+    int32_t *im, size_t im_words,
     int64_t *scratch, size_t scratch_words,
     uint64_t *products, uint64_t *sums, size_t *place);
 
 /*
- * The count query: what mealbis_cosine (the DCT), mealbis_spectrum and mealbis_pair spend on a block
- * of this length; the products are the least allowance that they accept. Tests 1; after the refusal
- * all six are 0.
+ * The count query: what the calls spend on a block of this length; the products are the least
+ * allowance that they accept. Tests 1; after the refusal all six are 0.
+ *
+ * Mind the order, which is not that of the calls above. Cosine's counts are higher than Spectrum's:
+ * taken for these, they are accepted as an allowance, and nothing tells.
+ *
+ *   dct_products, dct_sums              of mealbis_cosine
+ *   spectrum_products, spectrum_sums    of mealbis_spectrum
+ *   pair_products, pair_sums            of mealbis_pair
  */
 uint32_t mealbis_counts(
     size_t length,

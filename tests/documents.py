@@ -1,5 +1,5 @@
 #!/usr/bin/env python3
-"""Holds docs/MAP.md to the documents that it maps and to the files that it names; and the width of lines.
+"""Holds docs/MAP.md to the documents that it maps and to the files that it names; and every document to the files that it names and to a width.
 
     python3 tests/documents.py [FOLDER]        the repository, where it is not the one that this file is in
 
@@ -10,8 +10,8 @@ left out, up to the end of the sentence. `...` leaves out the rest of a paragrap
 Names. `crate/specs/File: `name`` says that the file declares the name; `Other: `name`` is a file of the same folder; a name without a file is in
 the file named last in its column. A name in brackets after another stands somewhere in that file. In the column of functions a name is declared
 in the code of the crate named before it, `crate: `name``, or of any. In the column of edits, `crate: name` is crates/crate/must-fail/name.edit; a
-name without a crate is of the crate named last in the column; a cell without an edit says `none meant: ` and why. Other text may name only
-files that exist.
+name without a crate is of the crate named last in the column; a cell without an edit says `none meant: ` and why. Files that README.md and
+docs/*.md name exist.
 
 The last line is 'N passed, M failed'.
 """
@@ -21,10 +21,11 @@ from pathlib import Path
 
 ROOT = Path(sys.argv[1] if len(sys.argv) > 1 else Path(__file__).parent.parent)
 MAP = ROOT / "docs/MAP.md"
-NARROW = ("docs/MAP.md", "docs/DEMANDS.md")  # lines of at most WIDTH columns outside of tables
+NARROW = ("README.md", "docs/MAP.md", "docs/DEMANDS.md")  # lines of at most WIDTH columns outside of tables
 WIDTH = 140
 SENTENCE_END = re.compile(r"(?<=[^.][.?!])\s+(?=[^a-z.])")
 FILE = re.compile(r"[\w+]+(?:/[\w+.-]+)+")
+NAMED_FILE = re.compile(r"(?<![\w/.])(?!target/)(?:\w+/(?:specs|proofs|src|must-fail)|(?:bench|crates|docs|examples|include|tests))/[\w+./-]+")
 WORD = r"[\w'′₀-₉-]"  # a letter of a name in specs/ and proofs/
 
 
@@ -243,6 +244,16 @@ def check_map(results):
         check_sentences(results, path, quotations.get(path.name[:2], []))
 
 
+def check_files(results):
+    """The files that any document names."""
+    crates = Crates()
+    for path in (ROOT / "README.md", *sorted((ROOT / "docs").glob("*.md"))):
+        for number, line in enumerate(path.read_text().splitlines(), 1):
+            for word in NAMED_FILE.findall(line):
+                word = word.rstrip(".-")
+                results.add("NAME" in word or crates.files(word), "%s:%d: no file %s" % (path.relative_to(ROOT), number, word))
+
+
 def check_widths(results):
     for name in NARROW:
         for number, line in enumerate((ROOT / name).read_text().splitlines(), 1):
@@ -253,6 +264,7 @@ def check_widths(results):
 def main():
     results = Results()
     check_map(results)
+    check_files(results)
     check_widths(results)
     print("%d passed, %d failed" % (results.passed, results.failed))
     return 1 if results.failed else 0

@@ -11,8 +11,6 @@ static int32_t a[MEALBIS_MOST_FILE_SAMPLES], b[MEALBIS_MOST_FILE_SAMPLES];
 static int32_t first[MEALBIS_LONGEST_BLOCK], second[MEALBIS_LONGEST_BLOCK]; /* results */
 static int64_t scratch[MEALBIS_SCRATCH_WORDS(MEALBIS_LONGEST_BLOCK)];
 
-#define WORDS(buffer) (sizeof(buffer) / sizeof((buffer)[0]))
-
 static void print_rows(const char *heading, size_t from, size_t to)
 {
     printf("%s\n", heading);
@@ -32,7 +30,7 @@ int main(void)
         return 2;
     size_t bytes = fread(file, 1, sizeof file, input);
     fclose(input);
-    answer = mealbis_read(file, bytes, a, WORDS(a), b, WORDS(b), &samples, &length, &place);
+    answer = mealbis_read(file, bytes, a, MEALBIS_WORDS(a), b, MEALBIS_WORDS(b), &samples, &length, &place);
     if (answer != MEALBIS_ACCEPTED) {
         printf("refused %" PRIu32 "\n", answer);
         return 1;
@@ -45,28 +43,28 @@ int main(void)
            dct_products, dct_sums, spectrum_products, spectrum_sums, pair_products, pair_sums);
 
     /* the second block of a, with just its allowance */
-    answer = mealbis_spectrum(a, samples, length, length, spectrum_products, first, WORDS(first), second, WORDS(second),
-                              scratch, WORDS(scratch), &products, &sums, &place);
+    answer = mealbis_spectrum(a, samples, length, length, spectrum_products, first, MEALBIS_WORDS(first), second, MEALBIS_WORDS(second),
+                              scratch, MEALBIS_WORDS(scratch), &products, &sums, &place);
     if (answer == MEALBIS_ACCEPTED) {
         print_rows("Spectrum of a, block 1: k cosine sine", 29, 32);
         printf("spent %" PRIu64 " products and %" PRIu64 " sums\n", products, sums);
     }
 
     /* the first block of both */
-    answer = mealbis_pair(a, samples, b, samples, 0, length, pair_products, first, WORDS(first), second, WORDS(second),
-                          scratch, WORDS(scratch), &products, &sums, &place);
+    answer = mealbis_pair(a, samples, b, samples, 0, length, pair_products, first, MEALBIS_WORDS(first), second, MEALBIS_WORDS(second),
+                          scratch, MEALBIS_WORDS(scratch), &products, &sums, &place);
     if (answer == MEALBIS_ACCEPTED) {
         print_rows("Pair of a and b, block 0: k real imaginary", 0, 3);
         printf("spent %" PRIu64 " products and %" PRIu64 " sums\n", products, sums);
     }
 
     /* refusals: the results stay as they are */
-    answer = mealbis_spectrum(a, samples, 0, length, spectrum_products - 1, first, WORDS(first), second, WORDS(second),
-                              scratch, WORDS(scratch), &products, &sums, &place);
+    answer = mealbis_spectrum(a, samples, 0, length, spectrum_products - 1, first, MEALBIS_WORDS(first), second, MEALBIS_WORDS(second),
+                              scratch, MEALBIS_WORDS(scratch), &products, &sums, &place);
     printf("one product less allowed: refused %" PRIu32 "\n", answer);
     a[300] = MEALBIS_LARGEST_SAMPLE + 1;
-    answer = mealbis_spectrum(a, samples, length, length, spectrum_products, first, WORDS(first), second, WORDS(second),
-                              scratch, WORDS(scratch), &products, &sums, &place);
+    answer = mealbis_spectrum(a, samples, length, length, spectrum_products, first, MEALBIS_WORDS(first), second, MEALBIS_WORDS(second),
+                              scratch, MEALBIS_WORDS(scratch), &products, &sums, &place);
     printf("a sample too large: refused %" PRIu32 ", at place %zu\n", answer, place);
     print_rows("still Pair's: k real imaginary", 0, 1);
     return 0;

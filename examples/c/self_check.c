@@ -1,6 +1,6 @@
 /*
- * Holds the library, as linked, to include/mealbis.h: each answer of each call, the words that are written in every answer, buffers that stay,
- * NULL with count 0, and the stack. Prints each check that fails, and 'N passed, M failed'.
+ * Holds the library, as linked, to include/mealbis.h: its version, each answer of each call, the words that are written in every answer, buffers
+ * that stay, what the coefficients mean, NULL with count 0, and the stack. Prints each check that fails, and 'N passed, M failed'.
  */
 #define _XOPEN_SOURCE 700
 #include <stdio.h>
@@ -9,7 +9,6 @@
 #include "mealbis.h"
 
 #define LONGEST MEALBIS_LONGEST_BLOCK
-#define WORDS(buffer) (sizeof(buffer) / sizeof((buffer)[0]))
 #define STACK_PROMISED 8192
 
 static int32_t x[LONGEST + 8], y[LONGEST + 8], one[LONGEST + 8], two[LONGEST + 8], kept[LONGEST + 8];
@@ -52,7 +51,7 @@ static void refused(uint32_t number, size_t at, const char *what)
     size_t i;
     int same = 1;
     memset(&word, 0x55, sizeof word);
-    for (i = 0; i < WORDS(scratch); i++)
+    for (i = 0; i < MEALBIS_WORDS(scratch); i++)
         same = same && scratch[i] == word;
     check(answer == number, what, answer);
     check(place == at, what, place);
@@ -86,7 +85,7 @@ static void calls(void)
     COSINE(x, 16, 8, 8, 11, one, 8, scratch, 128), refused(5, 0, "Cosine, allowance 11");
     PAIR(x, 16, y, 16, 0, 2048, 99, one, 8, two, 8, scratch, 128), refused(1, 0, "Pair, length 2048");
     PAIR(x, 16, y, 15, 8, 8, 99, one, 8, two, 8, scratch, 128), refused(2, 0, "Pair beyond b");
-    PAIR(x, 16, y, 16, 8, 8, 99, one, 8, two, 7, scratch, 128), refused(3, 0, "Pair, imaginary too short");
+    PAIR(x, 16, y, 16, 8, 8, 99, one, 8, two, 7, scratch, 128), refused(3, 0, "Pair, im too short");
     PAIR(x, 16, y, 16, 8, 8, 99, one, 8, two, 8, scratch, 127), refused(4, 0, "Pair, scratch too short");
     PAIR(x, 16, y, 16, 8, 8, 3, one, 8, two, 8, scratch, 128), refused(5, 0, "Pair, allowance 3");
 
@@ -100,18 +99,18 @@ static void costs(size_t n)
 {
     uint64_t cost[6]; /* not `six`, which each call marks */
     memcpy(cost, six, sizeof cost);
-    COSINE(x, LONGEST, 0, n, cost[0], one, LONGEST, scratch, WORDS(scratch));
+    COSINE(x, LONGEST, 0, n, cost[0], one, LONGEST, scratch, MEALBIS_WORDS(scratch));
     check(answer == 0 && products == cost[0] && sums == cost[1], "Cosine with just its products", n);
-    SPECTRUM(x, LONGEST, 0, n, cost[2], one, LONGEST, two, LONGEST, scratch, WORDS(scratch));
+    SPECTRUM(x, LONGEST, 0, n, cost[2], one, LONGEST, two, LONGEST, scratch, MEALBIS_WORDS(scratch));
     check(answer == 0 && products == cost[2] && sums == cost[3], "Spectrum with just its products", n);
-    PAIR(x, LONGEST, x, LONGEST, 0, n, cost[4], one, LONGEST, two, LONGEST, scratch, WORDS(scratch));
+    PAIR(x, LONGEST, x, LONGEST, 0, n, cost[4], one, LONGEST, two, LONGEST, scratch, MEALBIS_WORDS(scratch));
     check(answer == 0 && products == cost[4] && sums == cost[5], "Pair, both recordings one, with just its products", n);
     if (cost[0] > 0)
-        COSINE(x, LONGEST, 0, n, cost[0] - 1, one, LONGEST, scratch, WORDS(scratch)), refused(5, 0, "Cosine, a product less");
+        COSINE(x, LONGEST, 0, n, cost[0] - 1, one, LONGEST, scratch, MEALBIS_WORDS(scratch)), refused(5, 0, "Cosine, a product less");
     if (cost[2] > 0)
-        SPECTRUM(x, LONGEST, 0, n, cost[2] - 1, one, LONGEST, two, LONGEST, scratch, WORDS(scratch)), refused(5, 0, "Spectrum, a product less");
+        SPECTRUM(x, LONGEST, 0, n, cost[2] - 1, one, LONGEST, two, LONGEST, scratch, MEALBIS_WORDS(scratch)), refused(5, 0, "Spectrum, a product less");
     if (cost[4] > 0)
-        PAIR(x, LONGEST, x, LONGEST, 0, n, cost[4] - 1, one, LONGEST, two, LONGEST, scratch, WORDS(scratch)), refused(5, 0, "Pair, a product less");
+        PAIR(x, LONGEST, x, LONGEST, 0, n, cost[4] - 1, one, LONGEST, two, LONGEST, scratch, MEALBIS_WORDS(scratch)), refused(5, 0, "Pair, a product less");
 }
 
 static void counts(void)
@@ -130,6 +129,28 @@ static void counts(void)
                 zeros = zeros && six[i] == 0;
             check(answer == 1 && zeros, "counts of no length", n);
         }
+    }
+}
+
+/* What the header says of the coefficients: the sign of the sine, and how Pair's result has the spectra of a and b. */
+static void meaning(void)
+{
+    static const int32_t wave[8] = {0, 707107, 1000000, 707107, 0, -707107, -1000000, -707107}; /* cos(2 pi n / 8 - pi / 2) */
+    static int32_t cosine[2][LONGEST], sine[2][LONGEST];
+    size_t n, k;
+    SPECTRUM(wave, 8, 0, 8, UINT64_MAX, one, 8, two, 8, scratch, MEALBIS_WORDS(scratch));
+    check(answer == 0 && one[1] == 0 && two[1] >= 3999999 && two[1] <= 4000002, "a wave that lags by a quarter", 8);
+    for (n = 4; n <= LONGEST; n *= 2) {
+        int same = 1;
+        SPECTRUM(x, LONGEST, 0, n, UINT64_MAX, cosine[0], LONGEST, sine[0], LONGEST, scratch, MEALBIS_WORDS(scratch));
+        SPECTRUM(y + 1, LONGEST, 0, n, UINT64_MAX, cosine[1], LONGEST, sine[1], LONGEST, scratch, MEALBIS_WORDS(scratch));
+        PAIR(x, LONGEST, y + 1, LONGEST, 0, n, UINT64_MAX, one, LONGEST, two, LONGEST, scratch, MEALBIS_WORDS(scratch));
+        for (k = 1; k < n / 2; k++)
+            same = same && cosine[0][k] == (one[k] + one[n - k]) / 2 && sine[0][k] == (two[n - k] - two[k]) / 2
+                && cosine[1][k] == (two[k] + two[n - k]) / 2 && sine[1][k] == (one[k] - one[n - k]) / 2;
+        for (k = 0; k < n; k += n / 2)
+            same = same && cosine[0][k] == one[k] && cosine[1][k] == two[k] && sine[0][k] == 0 && sine[1][k] == 0;
+        check(same, "the spectra of a and b from Pair's", n);
     }
 }
 
@@ -158,7 +179,7 @@ static void files(void)
     file[8 + 4 * 13 + 3] = 0x7f;
     READ(file, sizeof file, one, 8, two, 8), file_refused(6, 5, "sample 5 of b");
     file[8 + 4 * 13 + 3] = 0;
-    READ(file, sizeof file, one, WORDS(one), two, WORDS(two));
+    READ(file, sizeof file, one, MEALBIS_WORDS(one), two, MEALBIS_WORDS(two));
     check(answer == 0 && samples == 8 && length == 4 && place == 0, "a file is read", answer);
     check(one[0] == 0 && two[0] == 7 && one[8] == kept[8] && two[8] == kept[8], "its samples, and no more", 8);
 }
@@ -178,8 +199,8 @@ static void empty_buffers(void)
     COSINE(NULL, 0, 0, 1, 0, NULL, 0, NULL, 0), refused(2, 0, "Cosine, nothing");
     PAIR(NULL, 0, y, 16, 0, 1, 0, one, 8, two, 8, scratch, 128), refused(2, 0, "Pair, no a");
     PAIR(x, 16, NULL, 0, 0, 1, 0, one, 8, two, 8, scratch, 128), refused(2, 0, "Pair, no b");
-    PAIR(x, 16, y, 16, 0, 1, 0, NULL, 0, two, 8, scratch, 128), refused(3, 0, "Pair, no real");
-    PAIR(x, 16, y, 16, 0, 1, 0, one, 8, NULL, 0, scratch, 128), refused(3, 0, "Pair, no imaginary");
+    PAIR(x, 16, y, 16, 0, 1, 0, NULL, 0, two, 8, scratch, 128), refused(3, 0, "Pair, no re");
+    PAIR(x, 16, y, 16, 0, 1, 0, one, 8, NULL, 0, scratch, 128), refused(3, 0, "Pair, no im");
     PAIR(x, 16, y, 16, 0, 1, 0, one, 8, two, 8, NULL, 0), refused(4, 0, "Pair, no scratch");
     PAIR(NULL, 0, NULL, 0, 0, 1, 0, NULL, 0, NULL, 0, NULL, 0), refused(2, 0, "Pair, nothing");
     READ(NULL, 0, one, 8, two, 8), file_refused(7, 0, "no file");
@@ -196,9 +217,9 @@ static int which;
 static void on_stack(void)
 {
     switch (which) {
-    case 1: mealbis_spectrum(x, LONGEST, 0, LONGEST, UINT64_MAX, one, LONGEST, two, LONGEST, scratch, WORDS(scratch), &products, &sums, &place); break;
-    case 2: mealbis_cosine(x, LONGEST, 0, LONGEST, UINT64_MAX, one, LONGEST, scratch, WORDS(scratch), &products, &sums, &place); break;
-    case 3: mealbis_pair(x, LONGEST, y, LONGEST, 0, LONGEST, UINT64_MAX, one, LONGEST, two, LONGEST, scratch, WORDS(scratch), &products, &sums, &place); break;
+    case 1: mealbis_spectrum(x, LONGEST, 0, LONGEST, UINT64_MAX, one, LONGEST, two, LONGEST, scratch, MEALBIS_WORDS(scratch), &products, &sums, &place); break;
+    case 2: mealbis_cosine(x, LONGEST, 0, LONGEST, UINT64_MAX, one, LONGEST, scratch, MEALBIS_WORDS(scratch), &products, &sums, &place); break;
+    case 3: mealbis_pair(x, LONGEST, y, LONGEST, 0, LONGEST, UINT64_MAX, one, LONGEST, two, LONGEST, scratch, MEALBIS_WORDS(scratch), &products, &sums, &place); break;
     case 4: mealbis_counts(LONGEST, six, six + 1, six + 2, six + 3, six + 4, six + 5); break;
     case 5: mealbis_read(file, sizeof file, one, 8, two, 8, &samples, &length, &place); break;
     }
@@ -224,12 +245,14 @@ int main(int argc, char **argv)
 {
     static const char *const names[] = {"no call", "mealbis_spectrum", "mealbis_cosine", "mealbis_pair", "mealbis_counts", "mealbis_read"};
     size_t i, own;
-    for (i = 0; i < WORDS(x); i++) {
+    for (i = 0; i < MEALBIS_WORDS(x); i++) {
         x[i] = (int32_t)(i * 7919 % 2000001) - 1000000;
         y[i] = -x[i];
     }
+    check(mealbis_version() == MEALBIS_VERSION, "the versions of header and archive", mealbis_version());
     calls();
     counts();
+    meaning();
     files();
     empty_buffers();
     own = stack_used(0); /* what on_stack takes itself */

@@ -11,7 +11,7 @@ extern "C" {
     ) -> u32;
     fn mealbis_pair(
         a: *const i32, a_words: usize, b: *const i32, b_words: usize, start: usize, length: usize, allowance: u64,
-        real: *mut i32, real_words: usize, imaginary: *mut i32, imaginary_words: usize, scratch: *mut i64, scratch_words: usize,
+        re: *mut i32, re_words: usize, im: *mut i32, im_words: usize, scratch: *mut i64, scratch_words: usize,
         products: &mut u64, sums: &mut u64, place: &mut usize,
     ) -> u32;
     fn mealbis_counts(

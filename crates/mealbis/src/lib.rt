@@ -2,6 +2,8 @@
 // the call is accepted. Counts, sizes and place come back through lent words, which are written in every answer. No function asks anything
 // of its input, and each promises the record of the call that it makes (specs/Promises.antt). include/mealbis.h is written for who calls
 // them.
+pub mod version;
+
 use pairfile::FileAnswer;
 use spectra::Answer;
 use spectra::CountsAnswer;
