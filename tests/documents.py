@@ -210,6 +210,8 @@ def check_text(results, crates, where, text, files):
             files = check_place(results, crates, where, kind, word, files)
         elif kind in ("name", "part") and re.fullmatch(WORD + "+", word):
             results.add(any(crates.declares(path, word) for path in everywhere), "%s: nothing is called `%s`" % (where, word))
+        elif kind == "bare" and word not in crates.names:
+            results.add(any(ROOT.glob("crates/*/must-fail/%s.edit" % word)), "%s: no crate and no edit %s" % (where, word))
     return files if text else []
 
 
