@@ -32,7 +32,7 @@
  * and at k = 0 and N/2 re[k] and im[k] are the cosines of a and b, and the sines are 0. Sums and
  * differences fit an int32_t, the halves leave no rest, and the result is mealbis_spectrum's to the
  * last digit. Where only these are wanted, two calls of mealbis_spectrum cost less: the same
- * products and 2 N - 4 sums fewer.
+ * products and, from N = 4 on, 2 N - 4 sums fewer.
  *
  * ---- Answers
  *
