@@ -26,7 +26,7 @@ use Rattle.transforms.specs.Pairs.{paired}
 use Rattle.transforms.specs.Steps.{Gives, DftReady, DftDone, DctReady, DctDone, FoldReady, Folded, DifferenceReady, DifferencePut}
 use Rattle.transforms.proofs.Pairs.{paired-near, paired-far, paired-odd, paired-mirror}
 use Rattle.transforms.proofs.Levels.{sample-le}
-use Rattle.transforms.proofs.Folding.{even-ready}
+use Rattle.transforms.proofs.Folding.{beside-ready}
 
 -- words written are the coefficients
 pub gives : {t : Transform} {at m : ℕ} {before after : List ℤ} {spent total : Tally} → Written at m (t .at) before after →
@@ -99,7 +99,8 @@ module _ {s b : ℕ} {w : List ℤ} {spent : Tally} (r : FoldReady 4 s b w spent
   pub four-ready : DifferenceReady (2 * s) (2 * s - 1) b w spent
   four-ready =
       let here : b + 0 ≡ b = omega arith in
-      rw (first, here) at (even-ready r {i = 0} (omega arith) {f = λ k. pos 0} {c = 0} {m = 0} ends-none (r .room) (omega (arith, r .fits)))
+      rw here at (beside-ready r {i = 0} (omega arith) {f = λ k. pos 0} {c = 0} {m = 0} ends-none (r .room) (omega (arith, r .fits))
+      (2 * s) (2 * s - 1) (omega (arith, r .stride)) (omega (arith, r .stride)))
 
   pub four-folded : {v : List ℤ} {total : Tally} → DifferencePut (2 * s) (2 * s - 1) b w v spent total → Folded foldedDifferences 4 s b w v spent total
   unfolding alternate

@@ -1,7 +1,8 @@
 -- One turn of a loop that folds (12), (15): sample 2 i + 1 and its mirror image, which are neighbours, read while a run behind the block is written.
 -- Assumes nothing.
 use mathlib.Core.List.{List}
-use mathlib.Core.Path.{_≡_, sym, _∙_}
+use mathlib.Core.Path.{_≡_, sym, ap, _∙_}
+use mathlib.Core.Logic.{⊎-elim}
 use Prim.Native.Nat.{ℕ, _+_, _*_, _-_, _/_, _%_, _^_, _≤_, _<_}
 use native.Mathlib.Nat.{mul-le-mul-left}
 use native.Mathlib.Omega.{arith}
@@ -10,6 +11,7 @@ use lib.ListN.{length}
 use lib.Signed.{mag}
 use mir.Syntax.{w64}
 use mir.Val.{ofZ}
+use Rattle.whole.proofs.Cases.{same-or-not}
 use Rattle.whole.proofs.Words.{held}
 use Rattle.whole.proofs.Operations.{Computes}
 use Rattle.words.specs.Words.{Samples, word, Written}
@@ -52,33 +54,26 @@ module _ {n s b : ℕ} {before : List ℤ} {spent : Tally} (r : FoldReady n s b 
     folded-sum u v = added (held u first-is) (held v second-is)
         (omega (arith, r .samples (2 * i + 1) (omega arith))) (omega (arith, r .samples (n - 2 * i - 1) (omega arith)))
 
-    -- what putting their difference asks, either way round
-    module _ {tally : Tally} (room : HasRoom 0 1 tally) (l : b + a < length before) where
-      first-small : natAbs (word after (place s i)) ≤ largestSum
-      first-small = rw first-is (r .samples (2 * i + 1) (omega arith))
+    -- what putting the difference of two of their places asks
+    pub beside-ready : {tally : Tally} → HasRoom 0 1 tally → b + a < length before → (p q : ℕ) → (place s i ≤ p + 1) × (p ≤ place s i) →
+        (place s i ≤ q + 1) × (q ≤ place s i) → DifferenceReady p q (b + a) after tally
+    beside-ready room l p q hp hq = record {
+      x-below = omega (arith, inside);
+      y-below = omega (arith, inside);
+      fits = omega (arith, run .len);
+      x-small = small p hp;
+      y-small = small q hq;
+      room = room;
+    }
+      where
+        first : (p : ℕ) → p ≡ place s i → natAbs (word after p) ≤ largestSum
+        first p e = rw (ap (word after) e ∙ first-is) (r .samples (2 * i + 1) (omega arith))
 
-      second-small : natAbs (word after (place s i - 1)) ≤ largestSum
-      second-small = rw second-is (r .samples (n - 2 * i - 1) (omega arith))
+        second : (p : ℕ) → p ≡ place s i - 1 → natAbs (word after p) ≤ largestSum
+        second p e = rw (ap (word after) e ∙ second-is) (r .samples (n - 2 * i - 1) (omega arith))
 
-      pub even-ready : DifferenceReady (place s i) (place s i - 1) (b + a) after tally
-      even-ready = record {
-        x-below = omega (arith, inside);
-        y-below = omega (arith, inside);
-        fits = omega (arith, run .len);
-        x-small = first-small;
-        y-small = second-small;
-        room = room;
-      }
-
-      pub odd-ready : DifferenceReady (place s i - 1) (place s i) (b + a) after tally
-      odd-ready = record {
-        x-below = even-ready .y-below;
-        y-below = even-ready .x-below;
-        fits = even-ready .fits;
-        x-small = second-small;
-        y-small = first-small;
-        room = room;
-      }
+        small : (p : ℕ) → (place s i ≤ p + 1) × (p ≤ place s i) → natAbs (word after p) ≤ largestSum
+        small p h = ⊎-elim (first p) (λ other. second p (omega arith)) (same-or-not p (place s i))
 
 -- one difference more: the signs alternate, so at an odd place the difference is turned round
 module _ {n s b : ℕ} {before : List ℤ} {spent : Tally} (r : FoldReady n s b before spent) {i : ℕ} (h : i < n / 4) {after last : List ℤ}

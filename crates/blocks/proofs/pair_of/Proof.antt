@@ -1,6 +1,7 @@
 -- `blocks::pair_of` meets its contract: the DFTs of a, then those of b behind them, joined by the laws of PairRuns. Assumes nothing.
 use mathlib.Core.Path.{_∙_}
 use Prim.Native.Nat.{_≤_}
+use native.Mathlib.Omega.{arith}
 use borrow.Author.Needs.{needs}
 use lib.ListN.{length}
 use Rattle.blocks.proofs.BlockRuns.{cleared}
@@ -26,7 +27,7 @@ join-parts-requires c κs =
     let f = c .before .before .before .before .before in
     let d = f .before .before .before .before in
     let p = d .before .before .before .before .pre in
-    parts-ready (p .0 .0) (p .0 .1) (p .0 .2) (d .both-dfts .ensures) (f .both-dfts2 .ensures) (p .1 .0, p .1 .1)
+    parts-ready (p .0 .0) (p .0 .1) (p .0 .2) (d .both-dfts .ensures) (f .both-dfts2 .ensures) (omega (arith, p .1), omega (arith, p .1))
 
 -- the DFTs begin inside the words
 starts : (f : tie.After-both-dfts2) → length (f .before .before .before .before .before .before .before .before .args .a .now) ≤ length (f .both-dfts2 .last .1 .1 .0)

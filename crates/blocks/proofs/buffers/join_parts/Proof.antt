@@ -53,7 +53,7 @@ real c =
     let x = read (C k) (c .before .before .before .cosine-a .given) in
     let y = read (sineOfB n (s .args .w .now) k) (c .before .before .sine-b .given) in
     let put = rw (x, y) at (c .put-sum-and-difference .ensures) in
-    ends-both (l .loop .inv .1) (n - k - 1) (omega arith) (put .len) (put .others)
+    ends-both (l .loop .inv .1) (n - k - 1) (omega arith) (put .len) (λ j a b. put .others j (omega arith) (omega arith))
     (put .sum ∙ rw up (part-front adding C (s .pre .sine-b) k (omega arith)))
     (put .difference ∙ rw down (part-back adding C (s .pre .sine-b) k (omega arith) (omega arith)))
 
@@ -112,7 +112,7 @@ loop-again c =
     let put = rw (x, y) at (q .put-sum-and-difference2 .ensures) in (
       omega (arith, l .loop .inv .0 .2, p .put-sum-and-difference .ensures .tallied, put .tallied),
       rw next (real p),
-      ends-both (l .loop .inv .2) (n - k - 1) (omega arith) (put .len) (λ j a b. put .others j b a)
+      ends-both (l .loop .inv .2) (n - k - 1) (omega arith) (put .len) (λ j a b. put .others j (omega arith) (omega arith))
           (put .difference ∙ rw up (part-front subtracting C (s .pre .sine-a) k (omega arith)))
           (put .sum ∙ rw down (part-back subtracting C (s .pre .sine-a) k (omega arith) (omega arith))),
     )

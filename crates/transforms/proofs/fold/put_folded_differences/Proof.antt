@@ -9,7 +9,7 @@ use Rattle.words.specs.Words.{word}
 use Rattle.words.proofs.Writing.{Ends, ends-none, ends-all}
 use Rattle.ffct.specs.Transforms.{foldedDifferences}
 use Rattle.transforms.specs.Pairs.{paired}
-use Rattle.transforms.proofs.Folding.{place, inside, even-ready, odd-ready, even-more, odd-more}
+use Rattle.transforms.proofs.Folding.{place, inside, beside-ready, even-more, odd-more}
 use Rattle.transforms.proofs.fold.put_folded_differences.Statement.{statement}
 use Rattle.transforms.proofs.fold.put_folded_differences.Tie as tie
 
@@ -53,7 +53,7 @@ put-difference-requires : tie.Need-put-difference-requires Inv-loop μ-loop
 put-difference-requires c κs =
     let l = c .before .before in
     let r = l .before .pre .0 in
-    even-ready r {i = l .loop .i} (omega arith) (l .loop .inv .1) (omega (arith, r .room)) (omega (arith, r .fits))
+    beside-ready r {i = l .loop .i} (omega arith) (l .loop .inv .1) (omega (arith, r .room)) (omega (arith, r .fits)) _ _ (omega arith) (omega arith)
 
 put-difference-requires-2 : tie.Need-put-difference-requires-2 Inv-loop μ-loop
 put-difference-requires-2 c κs =
@@ -61,7 +61,7 @@ put-difference-requires-2 c κs =
     let l = d .before .before .before in
     let r = l .before .pre .0 in
     let h = follows (d .before .before) in
-    odd-ready r {i = l .loop .i + 1} h (even d) (omega (arith, r .room, d .put-difference .ensures .tallied)) (omega (arith, r .fits))
+    beside-ready r {i = l .loop .i + 1} h (even d) (omega (arith, r .room, d .put-difference .ensures .tallied)) (omega (arith, r .fits)) _ _ (omega arith) (omega arith)
 
 loop-again : tie.Need-loop-again Inv-loop μ-loop
 loop-again c =
