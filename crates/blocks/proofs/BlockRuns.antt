@@ -78,7 +78,8 @@ module _ {block : List ℤ} {at : ℕ} {w v : List ℤ} {spent : Tally} (r : Dft
   b = r .block-ok
 
   block₀ : (i : ℕ) → i < n b → paired (n b) 1 (word v) i ≡ x b i
-  block₀ i h = paired-same (n b) 1 (word v) (inPairs (n b) (x b)) (omega arith) (λ j o. front l j (omega arith)) i h ∙ paired-back (n b) (x b) i h
+  block₀ i h = paired-same (n b) 1 (word v) (inPairs (n b) (x b)) (omega arith) (λ j o. front l j (omega arith)) i h
+      ∙ paired-back (n b) (x b) i h
 
   cosine-is : cosineDft (L b) (paired (n b) 1 (word v)) ≡ cosineDft (L b) (x b)
   cosine-is = dft-same (L b) _ _ (at-level b block₀) .0
@@ -131,7 +132,8 @@ module _ {block w v : List ℤ} (r : InRange block) (l : Written 0 (length block
   dct-is : dct (L r) (word v) ≡ dct (L r) (x r)
   dct-is = dct-same (L r) _ _ (at-level r (front l))
 
-  pub dct-ready : {spent : Tally} → dctRoom (n r) ≤ length w → HasRoom (dct (L r) (x r) .products) (dct (L r) (x r) .sums) spent → DctReady (n r) v spent
+  pub dct-ready : {spent : Tally} → dctRoom (n r) ≤ length w → HasRoom (dct (L r) (x r) .products) (dct (L r) (x r) .sums) spent →
+      DctReady (n r) v spent
   dct-ready h room = record { ready = ready r (front l); fits = omega (arith, l .len); room = rw dct-is room }
 
   pub dct-made : {v₁ : List ℤ} {spent t₁ : Tally} → DctDone (n r) v v₁ spent t₁ → Gives (dct (L r) (x r)) 0 (n r) w v₁ spent t₁
@@ -149,7 +151,8 @@ cleared {w} {v} e c = record {
 }
 
 -- ---- the DFTs are ready where there is room behind the block, and the tally is small
-pub dfts-ready : {block : List ℤ} {at : ℕ} {w : List ℤ} {spent : Tally} → InRange block → length block ≤ at → at + (length block / 2 + 1) + dftRoom (length block) ≤ length w
+pub dfts-ready : {block : List ℤ} {at : ℕ} {w : List ℤ} {spent : Tally} → InRange block → length block ≤ at →
+    at + (length block / 2 + 1) + dftRoom (length block) ≤ length w
     → (spent .products ≤ 2 ^ 20) × (spent .sums ≤ 2 ^ 20) → DftsReady block at w spent
 unfolding spectrum
 dfts-ready r behind fits small =
@@ -171,5 +174,6 @@ module _ (at : ℕ) (v : List ℤ) {m : ℕ} {f : ℕ → ℤ} (h : (k : ℕ) �
   part-stored s = written-same s refl part-word
 
 -- coefficients at the front
-pub front-word : {t : Transform} {m : ℕ} {v v′ : List ℤ} {spent total : Tally} → Gives t 0 m v v′ spent total → (k : ℕ) → k < m → word v′ k ≡ t .at k
+pub front-word : {t : Transform} {m : ℕ} {v v′ : List ℤ} {spent total : Tally} → Gives t 0 m v v′ spent total → (k : ℕ) → k < m →
+    word v′ k ≡ t .at k
 front-word {v′ = v′} g k h = ap (word v′) {x = k} {y = 0 + k} (omega arith) ∙ g .coefficients k h

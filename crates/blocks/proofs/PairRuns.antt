@@ -30,7 +30,8 @@ sine-half zero n x e = ap (sineDft zero x .at) {x = n / 2} {y = 0} (omega (arith
 sine-half (suc L) n x e = sine-last (suc L) x (n / 2) (omega (arith, e, pow-len (suc L)))
 
 -- a sine-DFT that stands somewhere, of a block of n samples
-sine : {block : List ℤ} (r : InRange block) {n : ℕ} → length block ≡ n → (S : ℕ → ℤ) → ((k : ℕ) → k < n / 2 + 1 → S k ≡ spectrum (level n) (word block) .sine k) → Sine n S
+sine : {block : List ℤ} (r : InRange block) {n : ℕ} → length block ≡ n → (S : ℕ → ℤ) →
+    ((k : ℕ) → k < n / 2 + 1 → S k ≡ spectrum (level n) (word block) .sine k) → Sine n S
 unfolding spectrum
 sine {block} r {n} e S is =
     let power : n ≡ 2 ^ level n = rw e at (is-power (length block) (r .length-ok)) in
@@ -72,7 +73,8 @@ module _ {a b w : List ℤ} (ka : Workable a w) (kb : Workable b w) (e : length 
       cosine-a k h = kept k (omega arith) ∙ A .cosineWords k h
 
       sine-a : (k : ℕ) → k < n / 2 + 1 → sineOfA n v k ≡ spectrum L (word a) .sine k
-      sine-a k h = kept (n / 2 + 1 + k) (omega arith) ∙ ap (word w₁) {x = n + (n / 2 + 1 + k)} {y = n + n / 2 + 1 + k} (omega arith) ∙ A .sineWords k h
+      sine-a k h = kept (n / 2 + 1 + k) (omega arith) ∙ ap (word w₁) {x = n + (n / 2 + 1 + k)} {y = n + n / 2 + 1 + k} (omega arith)
+          ∙ A .sineWords k h
 
       cosine-b : (k : ℕ) → k < n / 2 + 1 → cosineOfB n v k ≡ spectrum L (word b) .cosine k
       cosine-b k h =
@@ -81,7 +83,8 @@ module _ {a b w : List ℤ} (ka : Workable a w) (kb : Workable b w) (e : length 
 
       sine-b : (k : ℕ) → k < n / 2 + 1 → sineOfB n v k ≡ spectrum L (word b) .sine k
       sine-b k h =
-          part-at n w₂ (3 * (n / 2 + 1) + k) ∙ ap (word w₂) {x = n + (3 * (n / 2 + 1) + k)} {y = n + 2 * (n / 2 + 1) + n / 2 + 1 + k} (omega arith)
+          part-at n w₂ (3 * (n / 2 + 1) + k)
+          ∙ ap (word w₂) {x = n + (3 * (n / 2 + 1) + k)} {y = n + 2 * (n / 2 + 1) + n / 2 + 1 + k} (omega arith)
           ∙ (rw e at (B .sineWords)) k h
 
       pub parts-ready : {real imaginary : List ℤ} → (n ≤ length real) × (n ≤ length imaginary) → PartsReady n v real imaginary t₂
@@ -103,7 +106,8 @@ module _ {a b w : List ℤ} (ka : Workable a w) (kb : Workable b w) (e : length 
       pub tail-starts : n ≤ length w₂
       tail-starts = omega (arith, ka .room, A .len, B .len)
 
-      pub pair-made : {real imaginary real′ imaginary′ w′ : List ℤ} {t₃ : Tally} → PartsPut n v real imaginary real′ imaginary′ t₂ t₃ → Cleared w w′ →
+      pub pair-made : {real imaginary real′ imaginary′ w′ : List ℤ} {t₃ : Tally} → PartsPut n v real imaginary real′ imaginary′ t₂ t₃ →
+          Cleared w w′ →
           PairMade a b real imaginary w real′ imaginary′ w′ t₃
       unfolding pair
       pair-made p c =
@@ -111,7 +115,8 @@ module _ {a b w : List ℤ} (ka : Workable a w) (kb : Workable b w) (e : length 
           let tallied-b = rw e at (B .tallied) in
           record {
             realWords = written-same (p .realWords) refl (λ k h. joined _+ℤ_ power (cosineOfA n v) cosine-a (sineOfB n v) sine-b k h);
-            imaginaryWords = written-same (p .imaginaryWords) refl (λ k h. joined _-ℤ_ power (cosineOfB n v) cosine-b (sineOfA n v) sine-a k h);
+            imaginaryWords = written-same (p .imaginaryWords) refl
+                (λ k h. joined _-ℤ_ power (cosineOfB n v) cosine-b (sineOfA n v) sine-a k h);
             cleared = c;
             products = omega (arith, A .tallied, tallied-b, p .tallied);
             sums = omega (arith, A .tallied, tallied-b, p .tallied, power);
@@ -121,5 +126,6 @@ module _ {a b w : List ℤ} (ka : Workable a w) (kb : Workable b w) (e : length 
               ((j : ℕ) → j < n / 2 + 1 → S j ≡ S′ j) → (k : ℕ) → k < n →
               op (cosineBeyond n C k) (sineBeyond n S k) ≡ op (cosineBeyond (2 ^ L) C′ k) (sineBeyond (2 ^ L) S′ k)
           joined op power {C′} {S′} C c S s k h =
-              ap₂ op (cosine-beyond-same n C C′ k (omega arith) (λ j l. c j (omega arith))) (sine-beyond-same n S S′ k (omega arith) (λ j l. s j (omega arith)))
+              ap₂ op (cosine-beyond-same n C C′ k (omega arith) (λ j l. c j (omega arith)))
+              (sine-beyond-same n S S′ k (omega arith) (λ j l. s j (omega arith)))
               ∙ ap (λ N. op (cosineBeyond N C′ k) (sineBeyond N S′ k)) power

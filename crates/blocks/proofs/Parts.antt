@@ -1,4 +1,5 @@
--- A part of Pair: the cosine-DFT C of one block joined with the sine-DFT S of the other by an operation, + or -, at every k below n by (9) and (10).
+-- A part of Pair: the cosine-DFT C of one block joined with the sine-DFT S of the other by an operation, + or -, at every k below n by
+-- (9) and (10).
 --     part-first, part-half, part-front, part-back    coefficient by coefficient
 --     sum-put, ends-put                               two stores
 --     part-ends                                       after the loop and the stores where the sine-DFT is zero
@@ -62,7 +63,8 @@ sum-put {u = u} {v = v} {i = i} {j = j} {out = out} r e d t = record {
   tallied = t;
 }
 
-pub ends-put : {n : ℕ} {w out : List ℤ} {u v : ℤ} → n / 2 < length out → u ≡ word w 0 → v ≡ word w (n / 2) → EndsPut n w out (set (set out 0 u) (n / 2) v)
+pub ends-put : {n : ℕ} {w out : List ℤ} {u v : ℤ} → n / 2 < length out → u ≡ word w 0 → v ≡ word w (n / 2) →
+    EndsPut n w out (set (set out 0 u) (n / 2) v)
 ends-put {n} {w} {out} {u} {v} h e d = record {
   first = ⊎-elim
       (λ zeroth. rw zeroth (getD-set-same (set out 0 u) 0 v (pos 0) (simp length-set (omega arith)) ∙ rw zeroth at d))
@@ -89,7 +91,8 @@ part-ends {n} {a} {f} {w} {before} {between} {after} h whole run e first half = 
         let even = whole (omega arith) in
         let place : 1 + (k - 1) ≡ k = omega arith in
         e .others k z m
-        ∙ rw place at (⊎-elim {C = word between (1 + (k - 1)) ≡ f (1 + (k - 1))} (λ g. run .back (k - 1) (omega arith) (omega arith)) (run .front (k - 1)) (le-or-lt a (k - 1)))
+        ∙ rw place at (⊎-elim {C = word between (1 + (k - 1)) ≡ f (1 + (k - 1))} (λ g. run .back (k - 1) (omega arith) (omega arith))
+        (run .front (k - 1)) (le-or-lt a (k - 1)))
 
     at : (k : ℕ) → k < n → word after (0 + k) ≡ f k
     at k l =

@@ -1,5 +1,5 @@
--- What the functions on an accepted block ask and promise. The block's words are its samples; w are the words that a call lends for the work, all of which are cleared at
--- the end.
+-- What the functions on an accepted block ask and promise. The block's words are its samples; w are the words that a call lends for the
+-- work, all of which are cleared at the end.
 use mathlib.Core.Bool.{true}
 use mathlib.Core.List.{List}
 use mathlib.Core.Path.{_≡_}
@@ -26,8 +26,8 @@ pub record Workable (block w : List ℤ) : Type 0 where
 abbrev pub Cleared : List ℤ → List ℤ → Type 0
 Cleared w w′ = Written 0 (length w) (λ k. pos 0) w w′
 
--- both DFTs of a block, the cosine-DFT at `at`, behind the block's room, and the sine-DFT behind it; words between the block's room and `at` are as before. The words below and
--- behind are the program's choice; their number stays
+-- both DFTs of a block, the cosine-DFT at `at`, behind the block's room, and the sine-DFT behind it; words between the block's room and
+-- `at` are as before. The words below and behind are the program's choice; their number stays
 pub record DftsReady (block : List ℤ) (at : ℕ) (w : List ℤ) (spent : Tally) : Type 0 where
   pub block-ok : InRange block
   pub behind : length block ≤ at
@@ -36,9 +36,11 @@ pub record DftsReady (block : List ℤ) (at : ℕ) (w : List ℤ) (spent : Tally
 
 pub record DftsMade (block : List ℤ) (at : ℕ) (w w′ : List ℤ) (spent total : Tally) : Type 0 where
   pub cosineWords : (k : ℕ) → k < length block / 2 + 1 → word w′ (at + k) ≡ spectrumOf (level (length block)) (word block) .cosine k
-  pub sineWords : (k : ℕ) → k < length block / 2 + 1 → word w′ (at + length block / 2 + 1 + k) ≡ spectrumOf (level (length block)) (word block) .sine k
+  pub sineWords : (k : ℕ) → k < length block / 2 + 1 →
+      word w′ (at + length block / 2 + 1 + k) ≡ spectrumOf (level (length block)) (word block) .sine k
   pub between : (k : ℕ) → length block ≤ k → k < at → word w′ k ≡ word w k
-  pub tallied : Tallied (spectrumOf (level (length block)) (word block) .products) (spectrumOf (level (length block)) (word block) .sums) spent total
+  pub tallied : Tallied (spectrumOf (level (length block)) (word block) .products)
+      (spectrumOf (level (length block)) (word block) .sums) spent total
   pub len : length w′ ≡ length w
 
 pub record SpectrumMade (block cosine sine w cosine′ sine′ w′ : List ℤ) (spent : Tally) : Type 0 where

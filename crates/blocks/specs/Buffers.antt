@@ -12,7 +12,8 @@ use Rattle.ffct.specs.Transforms.{cosineBeyond, sineBeyond}
 use Rattle.counts.specs.declared.tally.Tally.{Tally}
 use Rattle.counts.specs.Tally.{Tallied, HasRoom}
 
--- a block of n samples in pairs: sample i at 2 i, and its mirror image, sample n - 1 - i, at 2 i + 1 (what `paired` of the crate transforms reads, with the stride 1)
+-- a block of n samples in pairs: sample i at 2 i, and its mirror image, sample n - 1 - i, at 2 i + 1 (what `paired` of the crate
+-- transforms reads, with the stride 1)
 unfoldable pub inPairs : ℕ → Samples → Samples
 inPairs n x p = cond (eqb (p % 2) 0) (x (p / 2)) (x (n - 1 - p / 2))
 
@@ -39,7 +40,8 @@ pub record EndsPut (n : ℕ) (w before after : List ℤ) : Type 0 where
   pub others : (k : ℕ) → (k ≡ 0 → ⊥) → (k ≡ n / 2 → ⊥) → word after k ≡ word before k
   pub len : length after ≡ length before
 
--- ---- the DFTs of two blocks a and b of n samples, n/2 + 1 words each, one behind another: the cosine-DFT of a, its sine-DFT, the cosine-DFT of b, its sine-DFT
+-- ---- the DFTs of two blocks a and b of n samples, n/2 + 1 words each, one behind another: the cosine-DFT of a, its sine-DFT, the
+-- cosine-DFT of b, its sine-DFT
 abbrev pub cosineOfA : ℕ → List ℤ → ℕ → ℤ
 cosineOfA n w k = word w k
 

@@ -25,7 +25,9 @@ pub fn load(block: &[i32], w: &mut [i64])
 // The block at the front of w, in pairs: each sample beside its mirror image.
 pub fn load_pairs(block: &[i32], w: &mut [i64])
     requires { ⌜ (isLength (length (now block)) ≡ true) × (length (now block) ≤ length (now w)) ⌝ }
-    ensures { λ _. ⌜ Written 0 (length (now (block .entry))) (inPairs (length (now (block .entry))) (word (now (block .entry)))) (now (w .entry)) (now (w .exit)) ⌝ }
+    ensures { λ _.
+        let n = length (now (block .entry)) in
+        ⌜ Written 0 n (inPairs n (word (now (block .entry)))) (now (w .entry)) (now (w .exit)) ⌝ }
 {
     let n = block.len();
     if n == 1 {
@@ -94,7 +96,8 @@ fn store_ends(w: &[i64], out: &mut [i32], n: usize)
     out[n / 2] = y;
 }
 
-// Both parts of Pair, from the DFTs of a and b that stand one behind another in w: by (9) and (10), what is added at k is subtracted at n - k.
+// Both parts of Pair, from the DFTs of a and b that stand one behind another in w: by (9) and (10), what is added at k is subtracted
+// at n - k.
 pub fn join_parts(
     w: &[i64],
     real: &mut [i32],
@@ -103,7 +106,8 @@ pub fn join_parts(
     spent: Tally,
 ) -> Tally
     requires { ⌜ PartsReady n (now w) (now real) (now imaginary) spent ⌝ }
-    ensures { λ r. ⌜ PartsPut n (now (w .entry)) (now (real .entry)) (now (imaginary .entry)) (now (real .exit)) (now (imaginary .exit)) spent r ⌝ }
+    ensures { λ r. ⌜ PartsPut n (now (w .entry)) (now (real .entry)) (now (imaginary .entry))
+        (now (real .exit)) (now (imaginary .exit)) spent r ⌝ }
 {
     let m = n / 2 + 1;
     let mut tally = spent;

@@ -29,7 +29,8 @@ fn both_dfts(wave: &[i32; 1025], block: &[i32], w: &mut [i64], at: usize, spent:
 }
 
 pub fn spectrum_of(block: &[i32], cosine: &mut [i32], sine: &mut [i32], w: &mut [i64]) -> Tally
-    requires { ⌜ Workable (now block) (now w) × (length (now block) / 2 + 1 ≤ length (now cosine)) × (length (now block) / 2 + 1 ≤ length (now sine)) ⌝ }
+    requires { ⌜ Workable (now block) (now w)
+        × (length (now block) / 2 + 1 ≤ length (now cosine)) × (length (now block) / 2 + 1 ≤ length (now sine)) ⌝ }
     ensures { λ r. ⌜ SpectrumMade (now (block .entry)) (now (cosine .entry)) (now (sine .entry)) (now (w .entry))
         (now (cosine .exit)) (now (sine .exit)) (now (w .exit)) r ⌝ }
 {
@@ -49,7 +50,8 @@ pub fn spectrum_of(block: &[i32], cosine: &mut [i32], sine: &mut [i32], w: &mut 
 
 pub fn cosine_of(block: &[i32], coefficients: &mut [i32], w: &mut [i64]) -> Tally
     requires { ⌜ Workable (now block) (now w) × (length (now block) ≤ length (now coefficients)) ⌝ }
-    ensures { λ r. ⌜ CosineMade (now (block .entry)) (now (coefficients .entry)) (now (w .entry)) (now (coefficients .exit)) (now (w .exit)) r ⌝ }
+    ensures { λ r. ⌜ CosineMade (now (block .entry)) (now (coefficients .entry)) (now (w .entry))
+        (now (coefficients .exit)) (now (w .exit)) r ⌝ }
 {
     let n = block.len();
     let wave = quarter_wave();

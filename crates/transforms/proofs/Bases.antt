@@ -45,7 +45,8 @@ module _ {s at : ℕ} {w : List ℤ} {spent : Tally} where
   unfolding level cosineDft
   cosine-one r e = gives (written-one (omega (arith, r .fits)) (e ∙ sym (paired-0 1 s (word w) (omega arith)))) (omega arith)
 
-  pub cosine-two : {u v : ℤ} {total : Tally} → DftReady cosineDft 2 s at w spent → u ≡ word w 0 +ℤ word w (2 * s - 1) → v ≡ word w 0 -ℤ word w (2 * s - 1) →
+  pub cosine-two : {u v : ℤ} {total : Tally} → DftReady cosineDft 2 s at w spent → u ≡ word w 0 +ℤ word w (2 * s - 1) →
+      v ≡ word w 0 -ℤ word w (2 * s - 1) →
       Tallied 0 2 spent total → DftDone cosineDft 2 s at w (set (set w at u) (at + 1) v) spent total
   unfolding level cosineDft
   cosine-two r e d t =
@@ -60,7 +61,8 @@ none zero x h = (λ k. refl, refl, refl)
 none (suc zero) x h = (λ k. refl, refl, refl)
 none (suc (suc L)) x h = absurd (omega (arith, len-pos L))
 
-pub sine-few : {n s at : ℕ} {w v : List ℤ} {spent : Tally} → DftReady sineDft n s at w spent → n ≤ 2 → Written at (n / 2 + 1) (λ k. pos 0) w v →
+pub sine-few : {n s at : ℕ} {w v : List ℤ} {spent : Tally} → DftReady sineDft n s at w spent → n ≤ 2 →
+    Written at (n / 2 + 1) (λ k. pos 0) w v →
     DftDone sineDft n s at w v spent spent
 sine-few {n} {s} {w = w} r h z =
     let e = none (level n) (paired n s (word w)) (omega (arith, as-len n (r .ready .length-ok))) in
@@ -86,7 +88,8 @@ dct-single {b} {w} = record {
 }
 
 -- ---- the DCT of two
-pub dct-two : {w : List ℤ} {u v : ℤ} {spent total : Tally} → DctReady 2 w spent → u ≡ word w 0 +ℤ word w 1 → v ≡ round (T 512 *ℤ (word w 0 -ℤ word w 1)) →
+pub dct-two : {w : List ℤ} {u v : ℤ} {spent total : Tally} → DctReady 2 w spent → u ≡ word w 0 +ℤ word w 1 →
+    v ≡ round (T 512 *ℤ (word w 0 -ℤ word w 1)) →
     Tallied 1 2 spent total → DctDone 2 w (set (set w 0 u) 1 v) spent total
 unfolding level dct dctBy cosineDft rotated rearranged
 dct-two r e d t = gives (written-more (written-one (omega (arith, r .fits)) e) (omega (arith, r .fits)) d) t
@@ -102,7 +105,8 @@ module _ {s b : ℕ} {w : List ℤ} {spent : Tally} (r : FoldReady 4 s b w spent
       rw here at (beside-ready r {i = 0} (omega arith) {f = λ k. pos 0} {c = 0} {m = 0} ends-none (r .room) (omega (arith, r .fits))
       (2 * s) (2 * s - 1) (omega (arith, r .stride)) (omega (arith, r .stride)))
 
-  pub four-folded : {v : List ℤ} {total : Tally} → DifferencePut (2 * s) (2 * s - 1) b w v spent total → Folded foldedDifferences 4 s b w v spent total
+  pub four-folded : {v : List ℤ} {total : Tally} → DifferencePut (2 * s) (2 * s - 1) b w v spent total →
+      Folded foldedDifferences 4 s b w v spent total
   unfolding alternate
   four-folded p = record {
     words = written-same (p .words) refl (λ k h. let zeroth : k ≡ 0 = omega arith in rw (zeroth, x, y));
@@ -127,11 +131,15 @@ pub dct-pair-small : {w : List ℤ} {spent : Tally} → DctReady 2 w spent →
     (natAbs (word w 0) ≤ largestSum) × (natAbs (word w 1) ≤ largestSum) × (natAbs (word w 0 -ℤ word w 1) ≤ largestSum + 128)
 dct-pair-small {w} r =
     let u = r .ready .samples 0 (omega arith) in
-    let v = r .ready .samples 1 (omega arith) in
-    (omega arith, omega arith, within-size (within-le (within-sub (size-within (word w 0) (le-refl _)) (size-within (word w 1) (le-refl _))) (omega arith)))
+    let v = r .ready .samples 1 (omega arith) in (
+      omega arith,
+      omega arith,
+      within-size (within-le (within-sub (size-within (word w 0) (le-refl _)) (size-within (word w 1) (le-refl _))) (omega arith)),
+    )
 
 -- ---- zeros at one or two places
-pub zeros : (w : List ℤ) (n at : ℕ) → n ≤ 2 → at + n / 2 < length w → Written at (n / 2 + 1) (λ k. pos 0) w (set (set w at (pos 0)) (at + n / 2) (pos 0))
+pub zeros : (w : List ℤ) (n at : ℕ) → n ≤ 2 → at + n / 2 < length w →
+    Written at (n / 2 + 1) (λ k. pos 0) w (set (set w at (pos 0)) (at + n / 2) (pos 0))
 zeros w n at h l = ⊎-elim (λ o. two (omega arith)) (λ o. one (omega arith)) (le-or-lt 2 n)
   where
     two : n / 2 ≡ 1 → Written at (n / 2 + 1) (λ k. pos 0) w (set (set w at (pos 0)) (at + n / 2) (pos 0))

@@ -144,4 +144,5 @@ module _ {n : ℕ} {w₀ : List ℤ} {spent : Tally} (start : DctReady n w₀ sp
 
           rotated-is : (k : ℕ) → k < n → rotated n (cosineAt n w₂) (sineAt n w₂) k ≡ rotated n (C .at) (S .at) k
           rotated-is k h = rw even at (rotated-same (n / 2) (per (level n)) _ _ _ _ per-is
-              (λ j o. cosine-word j o ∙ ap (λ t. t .at j) cosine-is) (λ j o. sine-word j o ∙ ap (λ t. t .at j) sine-is) k (omega (arith, even)))
+              (λ j o. cosine-word j o ∙ ap (λ t. t .at j) cosine-is) (λ j o. sine-word j o ∙ ap (λ t. t .at j) sine-is) k
+              (omega (arith, even)))

@@ -1,4 +1,5 @@
--- A run of a cosine- or sine-DFT of n samples, n at least 4: what its calls ask after each other, and what they come to. One record, `Kind`, has what differs between the two.
+-- A run of a cosine- or sine-DFT of n samples, n at least 4: what its calls ask after each other, and what they come to. One record,
+-- `Kind`, has what differs between the two.
 --     even-ready            the even samples may be transformed
 --     fold-ready            then the block may be folded
 --     odd-ready             then the DCT may be taken
@@ -27,7 +28,8 @@ use Rattle.ffct.proofs.Steps.{cosine-step, sine-step, cosine-products, cosine-s
 use Rattle.counts.specs.declared.tally.Tally.{Tally}
 use Rattle.counts.specs.Tally.{Tallied, HasRoom}
 use Rattle.transforms.specs.Pairs.{paired}
-use Rattle.transforms.specs.Steps.{Ready, Gives, DftReady, DftDone, DctReady, DctDone, FoldReady, Folded, evenAt, oddAt, cosineJoin, sineJoin, JoinReady, Joined}
+use Rattle.transforms.specs.Steps.{Ready, Gives, DftReady, DftDone, DctReady, DctDone, FoldReady, Folded}
+use Rattle.transforms.specs.Steps.{evenAt, oddAt, cosineJoin, sineJoin, JoinReady, Joined}
 use Rattle.transforms.proofs.Pairs.{paired-same, paired-evens}
 use Rattle.transforms.proofs.Levels.{inner, sample-le, lent}
 
@@ -38,7 +40,8 @@ quarter-le n u v z hu hv hz =
     omega (arith, mul-le-mul-left (n / 4) hz, mul-le-mul-right u k, mul-le-mul-right v k)
 
 -- what differs: the transform, its fold, its join, and the sums of the join of n coefficients; 4 m is n
-pub record Kind (transform : ℕ → Samples → Transform) (fold : ℕ → Samples → Samples) (join : ℕ → (ℕ → ℤ) → (ℕ → ℤ) → ℕ → ℤ) (joins : ℕ → ℕ) : Type 0 where
+pub record Kind (transform : ℕ → Samples → Transform) (fold : ℕ → Samples → Samples) (join : ℕ → (ℕ → ℤ) → (ℕ → ℤ) → ℕ → ℤ)
+    (joins : ℕ → ℕ) : Type 0 where
   same : (L : ℕ) (x y : Samples) → Same L x y → transform L x ≡ transform L y
   small : (L X : ℕ) (x : Samples) → Inner L x X → (k : ℕ) → 2 * k ≤ len L → natAbs (transform L x .at k) ≤ largestSum + 128
   fold-same : (n : ℕ) (x y : Samples) → ((i : ℕ) → i < n → x i ≡ y i) → (i : ℕ) → i < n / 4 → fold n x i ≡ fold n y i
@@ -47,7 +50,8 @@ pub record Kind (transform : ℕ → Samples → Transform) (fold : ℕ → Samp
       (k : ℕ) → k < n / 2 + 1 → join n E D k ≡ join n E′ D′ k
   step : (L : ℕ) (x : Samples) (k : ℕ) →
       transform (suc (suc L)) x .at k ≡ join (4 * len L) (transform (suc L) (evens x) .at) (dct L (fold (4 * len L) x) .at) k
-  products : (L : ℕ) (x : Samples) → transform (suc (suc L)) x .products ≡ transform (suc L) (evens x) .products + dct L (fold (4 * len L) x) .products
+  products : (L : ℕ) (x : Samples) →
+      transform (suc (suc L)) x .products ≡ transform (suc L) (evens x) .products + dct L (fold (4 * len L) x) .products
   sums : (L : ℕ) (x : Samples) →
       transform (suc (suc L)) x .sums ≡ transform (suc L) (evens x) .sums + dct L (fold (4 * len L) x) .sums + (len L + joins (4 * len L))
 
@@ -97,7 +101,8 @@ abbrev pub tail : ℕ → ℕ → ℕ
 tail at n = at + n / 2 + 1
 
 module _ {transform : ℕ → Samples → Transform} {fold : ℕ → Samples → Samples} {join : ℕ → (ℕ → ℤ) → (ℕ → ℤ) → ℕ → ℤ} {joins : ℕ → ℕ}
-    (K : Kind transform fold join joins) {n s at : ℕ} {w₀ : List ℤ} {spent : Tally} (start : DftReady transform n s at w₀ spent) (many : 4 ≤ n) where
+    (K : Kind transform fold join joins) {n s at : ℕ} {w₀ : List ℤ} {spent : Tally} (start : DftReady transform n s at w₀ spent)
+    (many : 4 ≤ n) where
   -- the block, and the levels of its parts
   abbrev x : Samples
   x = paired n s (word w₀)
@@ -257,7 +262,8 @@ module _ {transform : ℕ → Samples → Transform} {fold : ℕ → Samples →
         pub lent-join-ready : JoinReady (joins n) n at (back b w₂ p) t₃
         lent-join-ready = join-ready whole-odd
 
-        pub lent-ends : {w₄ : List ℤ} {t₄ : Tally} → Joined join (joins n) n at (back b w₂ p) w₄ t₃ t₄ → DftDone transform n s at w₀ w₄ spent t₄
+        pub lent-ends : {w₄ : List ℤ} {t₄ : Tally} → Joined join (joins n) n at (back b w₂ p) w₄ t₃ t₄ →
+            DftDone transform n s at w₀ w₄ spent t₄
         lent-ends = dft-ends whole-odd
 
 -- the even samples' sine-DFT is zero where the join takes it to be

@@ -1,4 +1,5 @@
--- One turn of a loop that folds (12), (15): sample 2 i + 1 and its mirror image, which are neighbours, read while a run behind the block is written.
+-- One turn of a loop that folds (12), (15): sample 2 i + 1 and its mirror image, which are neighbours, read while a run behind the block
+-- is written.
 -- Assumes nothing.
 use mathlib.Core.List.{List}
 use mathlib.Core.Path.{_≡_, sym, ap, _∙_}
@@ -84,4 +85,6 @@ module _ {n s b : ℕ} {before : List ℤ} {spent : Tally} (r : FoldReady n s b 
 
   pub odd-more : i % 2 ≡ 1 → Written (b + i) 1 (λ k. word after (place s i - 1) -ℤ word after (place s i)) after last →
       Ends (pos 0) b (i + 1) 0 (n / 4) (foldedDifferences n (paired n s (word before))) before last
-  odd-more e = ends-more (omega arith) (rw (first-is r h run, second-is r h run) (alternate-turned i (paired n s (word before) (2 * i + 1)) (paired n s (word before) (n - 2 * i - 1)) e)) run
+  odd-more e = ends-more (omega arith)
+      (rw (first-is r h run, second-is r h run)
+      (alternate-turned i (paired n s (word before) (2 * i + 1)) (paired n s (word before) (n - 2 * i - 1)) e)) run

@@ -1,4 +1,5 @@
--- The joins of (12) and (15), from the coefficients E of the even samples and D of the DCT: coefficient by coefficient, and what a turn of their loops computes.
+-- The joins of (12) and (15), from the coefficients E of the even samples and D of the DCT: coefficient by coefficient, and what a turn
+-- of their loops computes.
 -- Assumes nothing.
 use mathlib.Core.Path.{_≡_, refl, ap}
 use mathlib.Core.List.{List}
@@ -48,7 +49,8 @@ module _ (n : ℕ) (q : 4 * (n / 4) ≡ n) (E D : ℕ → ℤ) where
   sine-back k l h =
       let e : n / 2 - (n / 2 - k) ≡ k = omega arith in
       let d : n / 4 - (n / 2 - k) + (n / 2 - k - n / 4) ≡ n / 4 - k = omega arith in
-      rw (d, sine-high (n / 2) E (n / 2 - k) (omega arith), e, dct-low (n / 4) D (n / 4 - k) (omega arith)) (+ℤ-comm (D (n / 4 - k)) (negℤ (E k)))
+      rw (d, sine-high (n / 2) E (n / 2 - k) (omega arith), e, dct-low (n / 4) D (n / 4 - k) (omega arith))
+      (+ℤ-comm (D (n / 4 - k)) (negℤ (E k)))
 
   pub sine-middle : E (n / 4) ≡ pos 0 → 4 ≤ n → D 0 ≡ sineJoin n E D (n / 4)
   unfolding apart

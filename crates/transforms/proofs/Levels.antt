@@ -1,4 +1,5 @@
--- What follows of a block that is `Ready`: the sizes of its samples and coefficients, and that an equal block is ready too. A tail that is lent to a transform.
+-- What follows of a block that is `Ready`: the sizes of its samples and coefficients, and that an equal block is ready too. A tail that
+-- is lent to a transform.
 -- Assumes nothing.
 use mathlib.Core.Path.{_≡_, refl, sym, ap, _∙_}
 use mathlib.Core.List.{List}
@@ -32,7 +33,8 @@ module _ {n : ℕ} {x : Samples} (r : Ready n x) where
   ready-same e = record { length-ok = r .length-ok; samples = λ i h. rw (e i h) (r .samples i h) }
 
 -- a tail that is lent and transformed, seen from the whole
-pub lent : {t : Transform} {b m : ℕ} {before p : List ℤ} {spent total : Tally} → b ≤ length before → Gives t 0 m (part b before) p spent total →
+pub lent : {t : Transform} {b m : ℕ} {before p : List ℤ} {spent total : Tally} → b ≤ length before →
+    Gives t 0 m (part b before) p spent total →
     Gives t b m before (back b before p) spent total
 lent {b = b} {before = before} {p = p} h g = record {
   coefficients = λ k l. back-at b before p h k ∙ ap (word p) {x = k} {y = 0 + k} (omega arith) ∙ g .coefficients k l;

@@ -27,11 +27,16 @@ module _ (n s : ℕ) (z : Samples) (i : ℕ) where
 
 pub paired-source : (n s i : ℕ) → 1 ≤ s → i < n → (j : ℕ) × (j < s * n) × ((z : Samples) → paired n s z i ≡ z j)
 paired-source n s i h l = ⊎-elim
-    (λ o. (2 * s * (n - i) - 1, omega (arith, mul-le-mul-left {m = 2 * (n - i)} {n = n} s (omega arith), mul-le-mul-left s l), λ z. paired-far n s z i o))
+    (λ o. (
+      2 * s * (n - i) - 1,
+      omega (arith, mul-le-mul-left {m = 2 * (n - i)} {n = n} s (omega arith), mul-le-mul-left s l),
+      λ z. paired-far n s z i o,
+    ))
     (λ o. (2 * s * i, omega (arith, mul-le-mul-left {m = 2 * i + 1} {n = n} s (omega arith)), λ z. paired-near n s z i o))
     (le-or-lt n (2 * i))
 
-pub paired-same : (n s : ℕ) (z z′ : Samples) → 1 ≤ s → ((j : ℕ) → j < s * n → z j ≡ z′ j) → (i : ℕ) → i < n → paired n s z i ≡ paired n s z′ i
+pub paired-same : (n s : ℕ) (z z′ : Samples) → 1 ≤ s → ((j : ℕ) → j < s * n → z j ≡ z′ j) → (i : ℕ) → i < n →
+    paired n s z i ≡ paired n s z′ i
 paired-same n s z z′ h e i l =
     let o = paired-source n s i h l in
     o .2 z ∙ e (o .0) (o .1) ∙ sym (o .2 z′)
@@ -40,7 +45,8 @@ module _ (n s : ℕ) (z : Samples) (q : 4 * (n / 4) ≡ n) (i : ℕ) where
   pub paired-evens : i < n / 2 → paired (n / 2) (2 * s) z i ≡ evens (paired n s z) i
   paired-evens h = ⊎-elim
       (λ o. paired-far (n / 2) (2 * s) z i o ∙ ap z place ∙ sym (paired-far n s z (2 * i) (omega arith)))
-      (λ o. paired-near (n / 2) (2 * s) z i o ∙ ap z {x = 2 * (2 * s) * i} {y = 2 * s * (2 * i)} (omega arith) ∙ sym (paired-near n s z (2 * i) (omega arith)))
+      (λ o. paired-near (n / 2) (2 * s) z i o ∙ ap z {x = 2 * (2 * s) * i} {y = 2 * s * (2 * i)} (omega arith)
+      ∙ sym (paired-near n s z (2 * i) (omega arith)))
       (le-or-lt (n / 2) (2 * i))
     where
       twice : 2 * (n / 2 - i) ≡ n - 2 * i

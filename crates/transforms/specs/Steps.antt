@@ -1,5 +1,5 @@
--- What the functions of this crate ask and promise: each step its values and its counts together, by the definitions of the crate ffct. `spent` is the tally that a
--- function is handed, `total` the one that it gives back.
+-- What the functions of this crate ask and promise: each step its values and its counts together, by the definitions of the crate ffct.
+-- `spent` is the tally that a function is handed, `total` the one that it gives back.
 use mathlib.Core.Bool.{true}
 use mathlib.Core.List.{List}
 use mathlib.Core.Path.{_≡_}
@@ -15,21 +15,22 @@ use Rattle.transforms.specs.Pairs.{paired}
 
 -- ---- the transforms
 
--- a block of n samples, n one of the eleven lengths, and n times the size of each sample at most 1,024 times 1,000,000: that holds of an accepted block and of the samples of
--- every step
+-- a block of n samples, n one of the eleven lengths, and n times the size of each sample at most 1,024 times 1,000,000: that holds of an
+-- accepted block and of the samples of every step
 pub record Ready (n : ℕ) (x : Samples) : Type 0 where
   pub length-ok : isLength n ≡ true
   pub samples : (i : ℕ) → i < n → n * natAbs (x i) ≤ largestSum
 
--- what a transform t leaves: its first m coefficients from place `at` on, and its counts; the words below `at` are as before. What stands in the words behind the
--- coefficients is the program's choice. The length stays
+-- what a transform t leaves: its first m coefficients from place `at` on, and its counts; the words below `at` are as before. What stands
+-- in the words behind the coefficients is the program's choice. The length stays
 pub record Gives (t : Transform) (at m : ℕ) (before after : List ℤ) (spent total : Tally) : Type 0 where
   pub coefficients : (k : ℕ) → k < m → word after (at + k) ≡ t .at k
   pub front : (k : ℕ) → k < at → word after k ≡ word before k
   pub tallied : Tallied (t .products) (t .sums) spent total
   pub len : length after ≡ length before
 
--- the words that a DCT of n samples works in: the samples, which its coefficients replace, and its two DFTs, 3 n words in all; for one sample that one word
+-- the words that a DCT of n samples works in: the samples, which its coefficients replace, and its two DFTs, 3 n words in all; for one
+-- sample that one word
 abbrev pub dctRoom : ℕ → ℕ
 dctRoom n = min (3 * n) (5 * n - 4)
 
@@ -88,8 +89,8 @@ pub record DifferencePut (x y place : ℕ) (before after : List ℤ) (spent tota
   pub words : Written place 1 (λ k. word before x -ℤ word before y) before after
   pub tallied : Tallied 0 1 spent total
 
--- ---- the joins of (12) and (15): the coefficients E of the even samples stand at `at` .. at + n/4, those of the DCT, D, from at + n/2 + 1 on; what they make stands at
--- `at` .. at + n/2
+-- ---- the joins of (12) and (15): the coefficients E of the even samples stand at `at` .. at + n/4, those of the DCT, D, from at + n/2 +
+-- 1 on; what they make stands at `at` .. at + n/2
 abbrev pub evenAt : ℕ → List ℤ → ℕ → ℤ
 evenAt at words k = word words (at + k)
 

@@ -1,4 +1,5 @@
-// The samples of which the steps of (12) and (15) take a DCT, made of a block in pairs and put behind it. In pairs, sample 2 i + 1 and its mirror image are neighbours.
+// The samples of which the steps of (12) and (15) take a DCT, made of a block in pairs and put behind it. In pairs, sample 2 i + 1 and
+// its mirror image are neighbours.
 use counts::tally::Tally;
 ghost use Prim.Native.Nat.{_+_, _*_, _/_};
 ghost use mathlib.Core.Path.{_≡_};

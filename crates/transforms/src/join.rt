@@ -1,5 +1,5 @@
-// The joins: the coefficients of a cosine- or sine-DFT of n samples at `at`, from those of its even samples, E, at the same place and those of the DCT, D, behind the result.
-// A sum with a term that is zero for every block is not made.
+// The joins: the coefficients of a cosine- or sine-DFT of n samples at `at`, from those of its even samples, E, at the same place and
+// those of the DCT, D, behind the result. A sum with a term that is zero for every block is not made.
 use counts::tally::Tally;
 ghost use mathlib.Core.Path.{_≡_};
 ghost use Prim.Native.Nat.{_-_, _/_};
@@ -30,7 +30,8 @@ pub fn join_cosine(w: &mut [i64], n: usize, at: usize, spent: Tally) -> Tally
     }
 }
 
-// (15): E(k) + D(n / 4 - k) at k and D(n / 4 - k) - E(k) at n / 2 - k. The coefficients 0 and n / 2 are zero, and E has no part in the coefficient n / 4.
+// (15): E(k) + D(n / 4 - k) at k and D(n / 4 - k) - E(k) at n / 2 - k. The coefficients 0 and n / 2 are zero, and E has no part in the
+// coefficient n / 4.
 pub fn join_sine(w: &mut [i64], n: usize, at: usize, spent: Tally) -> Tally
     requires { ⌜ JoinReady (n / 2 - 2) n at (now w) spent × (evenAt at (now w) 0 ≡ pos 0) × (evenAt at (now w) (n / 4) ≡ pos 0) ⌝ }
     ensures { λ r. ⌜ Joined sineJoin (n / 2 - 2) n at (now (w .entry)) (now (w .exit)) spent r ⌝ }

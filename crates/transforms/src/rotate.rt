@@ -1,5 +1,5 @@
-// The rotation (18), (19) of a cosine-DFT and a sine-DFT to the DCT, in the form of (20): three products and three sums for each pair k, n - k. Each whole expression is
-// rounded once.
+// The rotation (18), (19) of a cosine-DFT and a sine-DFT to the DCT, in the form of (20): three products and three sums for each pair k,
+// n - k. Each whole expression is rounded once.
 use circle::wave_at;
 use counts::tally::Tally;
 use whole::round;

@@ -1,4 +1,5 @@
-// Short blocks: one and two samples written out, then the bodies of the cycle at the lengths 4 to 32, with literals for n and calls of each other, which the compiler unrolls.
+// Short blocks: one and two samples written out, then the bodies of the cycle at the lengths 4 to 32, with literals for n and calls of
+// each other, which the compiler unrolls.
 use crate::fold::put_difference;
 use crate::fold::put_folded_differences;
 use crate::fold::put_folded_sums;

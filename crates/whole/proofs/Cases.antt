@@ -16,7 +16,8 @@ le-or-lt m n = from (decLe m n)
     from (no l) = inr (omega arith)
 
 pub same-or-not : (m n : ℕ) → (m ≡ n) ⊎ (m ≡ n → ⊥)
-same-or-not m n = ⊎-elim (λ l. ⊎-elim (λ g. inl (omega arith)) (λ g. inr (λ e. omega arith)) (le-or-lt n m)) (λ l. inr (λ e. omega arith)) (le-or-lt m n)
+same-or-not m n = ⊎-elim (λ l. ⊎-elim (λ g. inl (omega arith)) (λ g. inr (λ e. omega arith)) (le-or-lt n m))
+    (λ l. inr (λ e. omega arith)) (le-or-lt m n)
 
 -- ---- tests that the checker computes
 -- (shut, unlike the library's `_&&_`, so that the two tests are inferred from a hypothesis)

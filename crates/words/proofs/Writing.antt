@@ -60,7 +60,8 @@ ends-join {b = b} w h e p = record {
 
 -- one element more at the front, which a call has written
 pub ends-more : {A : Type 0} {d : A} {b a c m i : ℕ} {f g : ℕ → A} {before between after : List A}
-    → (i ≡ b + a) × (a + c < m) → g 0 ≡ f a → Ends d b a c m f before between → WrittenOf d i 1 g between after → Ends d b (a + 1) c m f before after
+    → (i ≡ b + a) × (a + c < m) → g 0 ≡ f a → Ends d b a c m f before between → WrittenOf d i 1 g between after →
+    Ends d b (a + 1) c m f before after
 ends-more {d = d} {b = b} {a = a} {i = i} {after = after} h e p w = record {
   front = below-more _ _
       (λ k l. w .low (b + k) (omega arith) ∙ p .front k l)
@@ -147,13 +148,15 @@ ends-both {d = d} {b = b} {a = a} {c = c} {m = m} {f = f} {after = after} e {p} 
 }
 
 -- a turn that stores at both ends
-pub ends-turn : {A : Type 0} {d : A} {b a c m : ℕ} {f : ℕ → A} {before after : List A} → Ends d b a c m f before after → {x y : A} {i i′ a′ c′ : ℕ} (j : ℕ)
+pub ends-turn : {A : Type 0} {d : A} {b a c m : ℕ} {f : ℕ → A} {before after : List A} → Ends d b a c m f before after →
+    {x y : A} {i i′ a′ c′ : ℕ} (j : ℕ)
     → (a′ ≡ a + 1) × (c′ ≡ c + 1) × (i ≡ b + a) × (i′ ≡ b + j) × (a < j) × (j + c′ ≡ m) × (b + m ≤ length before) → x ≡ f a → y ≡ f j
     → Ends d b a′ c′ m f before (set (set after i x) i′ y)
 ends-turn p j h e g = rw (h .0) (ends-back (ends-front p (omega arith) e) j (omega arith) g)
 
 -- a run of one element
-pub written-one : {A : Type 0} {d : A} {b : ℕ} {f : ℕ → A} {words : List A} {v : A} → b < length words → v ≡ f 0 → WrittenOf d b 1 f words (set words b v)
+pub written-one : {A : Type 0} {d : A} {b : ℕ} {f : ℕ → A} {words : List A} {v : A} → b < length words → v ≡ f 0 →
+    WrittenOf d b 1 f words (set words b v)
 written-one h e = ends-all (ends-front ends-none (omega arith) e) (omega arith)
 
 module _ {A : Type 0} {d : A} {b m : ℕ} {f : ℕ → A} {before after : List A} (w : WrittenOf d b m f before after) where
@@ -187,10 +190,12 @@ module _ {A : Type 0} {d : A} {m : ℕ} {f : ℕ → A} {before after : List A} 
   beyond k h = w .high k (omega arith)
 
 -- the first element, after those behind it
-pub written-first : {A : Type 0} {d : A} {m n : ℕ} {f : ℕ → A} {before after : List A} {x : A} → WrittenOf d 1 m (λ i. f (1 + i)) before after
+pub written-first : {A : Type 0} {d : A} {m n : ℕ} {f : ℕ → A} {before after : List A} {x : A} →
+    WrittenOf d 1 m (λ i. f (1 + i)) before after
     → (n ≡ 1 + m) × (0 < length before) → x ≡ f 0 → WrittenOf d 0 n f before (set after 0 x)
 written-first {A} {d} {m} {n} {f} {before} {after} {x} w h e = record {
-  new = λ k l. ⊎-elim (λ o. behind k l o) (λ o. let zeroth : k ≡ 0 = omega arith in rw zeroth (getD-set-same after 0 x d (omega (arith, w .len)) ∙ e)) (le-or-lt 1 k);
+  new = λ k l. ⊎-elim (λ o. behind k l o)
+      (λ o. let zeroth : k ≡ 0 = omega arith in rw zeroth (getD-set-same after 0 x d (omega (arith, w .len)) ∙ e)) (le-or-lt 1 k);
   low = λ k l. absurd (omega arith);
   high = λ k l. getD-set-other after 0 k x d (λ e. omega arith) ∙ w .high k (omega arith);
   len = length-set after 0 x ∙ w .len;

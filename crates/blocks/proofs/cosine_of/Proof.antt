@@ -27,7 +27,8 @@ dct-requires c κs =
 made : (d : tie.After-dct) →
     let s = d .before .before .before .before .before .before .before in
     let n = length (s .args .block .now) in
-    Gives (dct (level n) (word (s .args .block .now))) 0 n (s .args .w .now) (d .dct .last .1 .0) record { products = 0; sums = 0 } (d .dct .result)
+    Gives (dct (level n) (word (s .args .block .now))) 0 n (s .args .w .now) (d .dct .last .1 .0) record { products = 0; sums = 0 }
+    (d .dct .result)
 made d =
     let l = d .before .before .before .before in
     dct-made (l .before .before .before .pre .0 .block-ok) (l .load .ensures) (d .dct .ensures)

@@ -30,7 +30,8 @@ join-parts-requires c κs =
     parts-ready (p .0 .0) (p .0 .1) (p .0 .2) (d .both-dfts .ensures) (f .both-dfts2 .ensures) (omega (arith, p .1), omega (arith, p .1))
 
 -- the DFTs begin inside the words
-starts : (f : tie.After-both-dfts2) → length (f .before .before .before .before .before .before .before .before .args .a .now) ≤ length (f .both-dfts2 .last .1 .1 .0)
+starts : (f : tie.After-both-dfts2) →
+    length (f .before .before .before .before .before .before .before .before .args .a .now) ≤ length (f .both-dfts2 .last .1 .1 .0)
 starts f =
     let d = f .before .before .before .before in
     let p = d .before .before .before .before .pre .0 in

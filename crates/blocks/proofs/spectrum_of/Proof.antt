@@ -37,7 +37,8 @@ store-requires-2 c κs =
     let s = d .before .before .before .before in
     let n = length (s .args .block .now) in (
       (omega (arith, inside d, part-length (n + n / 2 + 1) (d .both-dfts .last .1 .1 .0)), s .pre .2),
-      part-sized (n + n / 2 + 1) (d .both-dfts .last .1 .1 .0) (d .both-dfts .ensures .sineWords) (omega arith) (sine-small (s .pre .0 .block-ok)),
+      part-sized (n + n / 2 + 1) (d .both-dfts .last .1 .1 .0) (d .both-dfts .ensures .sineWords) (omega arith)
+          (sine-small (s .pre .0 .block-ok)),
     )
 
 returns : tie.Need-returns

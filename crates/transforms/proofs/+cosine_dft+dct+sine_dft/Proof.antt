@@ -136,8 +136,10 @@ cosine-dft-dct-requires : (t : ℕ) →
 cosine-dft-dct-requires t c κs =
     let f = c .before .before in
     let e = f .before .before .before in
-    let s = e .before .before .before in
-    (omega (arith, s .pre .0), (s .pre .1 .0, odd-ready cosine-kind (s .pre .1 .1) (omega arith) (e .cosine-dft .ensures) (f .put-folded-sums .ensures)))
+    let s = e .before .before .before in (
+      omega (arith, s .pre .0),
+      (s .pre .1 .0, odd-ready cosine-kind (s .pre .1 .1) (omega arith) (e .cosine-dft .ensures) (f .put-folded-sums .ensures)),
+    )
 
 cosine-dft-join-cosine-requires : (t : ℕ) →
     cosine-dft-lts.Need-join-cosine-requires (cosine-dft-calls t) (cosine-dft-at t) cosine-dft.Post
@@ -155,7 +157,8 @@ cosine-dft-returns-2 t c =
     let f = d .before .before .before in
     let e = f .before .before .before in
     let s = e .before .before .before in
-    lent-ends cosine-kind (s .pre .1 .1) (omega arith) (e .cosine-dft .ensures) (f .put-folded-sums .ensures) (d .dct .ensures) (c .before .join-cosine .ensures)
+    lent-ends cosine-kind (s .pre .1 .1) (omega arith) (e .cosine-dft .ensures) (f .put-folded-sums .ensures) (d .dct .ensures)
+    (c .before .join-cosine .ensures)
 
 -- ---- `sine_dft`: the tail that it lends begins inside the words
 sine-starts : (t : ℕ) (f : sine-dft-lts.After-put-folded-differences (sine-dft-calls t) (sine-dft-at t) sine-dft.Post) →
@@ -194,8 +197,10 @@ sine-dft-dct-requires : (t : ℕ) →
 sine-dft-dct-requires t c κs =
     let f = c .before .before in
     let e = f .before .before .before in
-    let s = e .before .before .before in
-    (omega (arith, s .pre .0), (s .pre .1 .0, odd-ready sine-kind (s .pre .1 .1) (omega arith) (e .sine-dft .ensures) (f .put-folded-differences .ensures)))
+    let s = e .before .before .before in (
+      omega (arith, s .pre .0),
+      (s .pre .1 .0, odd-ready sine-kind (s .pre .1 .1) (omega arith) (e .sine-dft .ensures) (f .put-folded-differences .ensures)),
+    )
 
 sine-dft-join-sine-requires : (t : ℕ) →
     sine-dft-lts.Need-join-sine-requires (sine-dft-calls t) (sine-dft-at t) sine-dft.Post
@@ -213,7 +218,8 @@ sine-dft-returns-2 t c =
     let f = d .before .before .before in
     let e = f .before .before .before in
     let s = e .before .before .before in
-    lent-ends sine-kind (s .pre .1 .1) (omega arith) (e .sine-dft .ensures) (f .put-folded-differences .ensures) (d .dct .ensures) (c .before .join-sine .ensures)
+    lent-ends sine-kind (s .pre .1 .1) (omega arith) (e .sine-dft .ensures) (f .put-folded-differences .ensures) (d .dct .ensures)
+    (c .before .join-sine .ensures)
 
 -- ---- `dct`
 dct-dct-short-requires : (t : ℕ) →

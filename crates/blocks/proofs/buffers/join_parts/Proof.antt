@@ -1,4 +1,5 @@
--- `blocks::buffers::join_parts` meets its contract: when the loop comes to k, the words from 1 up to k and the last k - 1 of both parts are made. Assumes nothing.
+-- `blocks::buffers::join_parts` meets its contract: when the loop comes to k, the words from 1 up to k and the last k - 1 of both parts
+-- are made. Assumes nothing.
 use mathlib.Core.Path.{_≡_, _∙_}
 use Prim.Native.Nat.{_+_, _-_, _*_, _/_, _≤_, _<_}
 use native.Mathlib.Omega.{arith}
@@ -20,7 +21,8 @@ abbrev Inv-loop : tie.InvT-loop
 Inv-loop w real₀ imaginary₀ n m tally₀ k₀ real imaginary tally k =
     ((1 ≤ k) × (k ≤ n - n / 2) × Tallied 0 (4 * (k - 1)) tally₀ tally)
     × Ends (pos 0) 1 (k - 1) (k - 1) (n - 1) (λ i. cosineBeyond n (cosineOfA n w) (1 + i) +ℤ sineBeyond n (sineOfB n w) (1 + i)) real₀ real
-    × Ends (pos 0) 1 (k - 1) (k - 1) (n - 1) (λ i. cosineBeyond n (cosineOfB n w) (1 + i) -ℤ sineBeyond n (sineOfA n w) (1 + i)) imaginary₀ imaginary
+    × Ends (pos 0) 1 (k - 1) (k - 1) (n - 1)
+    (λ i. cosineBeyond n (cosineOfB n w) (1 + i) -ℤ sineBeyond n (sineOfA n w) (1 + i)) imaginary₀ imaginary
 
 abbrev μ-loop : tie.MeasureT-loop
 μ-loop w real₀ imaginary₀ n m tally₀ k₀ real imaginary tally k = n - n / 2 - k
@@ -145,7 +147,8 @@ returns c =
     let B = cosineOfB n w in
     let done : l .loop .k - 1 ≡ n - n / 2 - 1 = omega arith in
     record {
-      realWords = part-ends (s .some, done) (s .whole) (l .loop .inv .1) (f .store-ends .ensures) (part-first adding A (s .sine-b)) (part-half adding A (s .sine-b));
+      realWords = part-ends (s .some, done) (s .whole) (l .loop .inv .1) (f .store-ends .ensures) (part-first adding A (s .sine-b))
+          (part-half adding A (s .sine-b));
       imaginaryWords = part-ends (s .some, done) (s .whole) (l .loop .inv .2) (c .before .store-ends2 .ensures)
           (part-at b w 0 ∙ part-first subtracting B (s .sine-a)) (part-at b w (n / 2) ∙ part-half subtracting B (s .sine-a));
       tallied = rw (parts-sums n (l .loop .k) (s .whole) (omega arith)) at (l .loop .inv .0 .2);

@@ -48,7 +48,8 @@ loop-again c =
     let two : 2 * i + 1 + 1 ≡ 2 * (i + 1) = omega arith in (
       omega arith,
       rw (sym two) (ends-front
-          (ends-front (l .loop .inv .1) (omega (arith, l .before .before .pre)) (sample-widened (x i) (c .before .x2 .given) ∙ sym (pairs-even n x i)))
+          (ends-front (l .loop .inv .1) (omega (arith, l .before .before .pre))
+          (sample-widened (x i) (c .before .x2 .given) ∙ sym (pairs-even n x i)))
           (omega (arith, l .before .before .pre)) (sample-widened (x (n - 1 - i)) (c .y .given) ∙ sym (pairs-odd n x i))),
     )
 

@@ -20,7 +20,8 @@ cast-y c =
 returns : tie.Need-returns
 returns c =
     let s = c .before .before in
-    ends-put (s .pre .0 .1) (coefficient-narrowed _ (s .pre .1 0 (omega arith))) (coefficient-narrowed _ (s .pre .1 (s .args .n / 2) (omega arith)))
+    ends-put (s .pre .0 .1) (coefficient-narrowed _ (s .pre .1 0 (omega arith)))
+    (coefficient-narrowed _ (s .pre .1 (s .args .n / 2) (omega arith)))
 
 pub store-ends-spec : {M : Type 1} → statement M
 store-ends-spec =

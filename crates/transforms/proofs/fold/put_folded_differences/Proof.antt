@@ -1,4 +1,5 @@
--- `transforms::fold::put_folded_differences` meets its contract: after i turns i differences are put and tallied, and the block is as it was. Assumes nothing.
+-- `transforms::fold::put_folded_differences` meets its contract: after i turns i differences are put and tallied, and the block is as it
+-- was. Assumes nothing.
 use mathlib.Core.Path.{_≡_, _∙_}
 use Prim.Native.Nat.{ℕ, _+_, _-_, _*_, _/_, _%_, _≤_, _<_}
 use native.Mathlib.Omega.{arith}
@@ -15,7 +16,8 @@ use Rattle.transforms.proofs.fold.put_folded_differences.Tie as tie
 
 abbrev Inv-loop : tie.InvT-loop
 Inv-loop w₀ n stride b tally₀ i₀ w tally i =
-    ((i ≤ n / 4) × (i % 2 ≡ 0) × Tallied 0 i tally₀ tally) × Ends (pos 0) b i 0 (n / 4) (foldedDifferences n (paired n stride (word w₀))) w₀ w
+    ((i ≤ n / 4) × (i % 2 ≡ 0) × Tallied 0 i tally₀ tally)
+    × Ends (pos 0) b i 0 (n / 4) (foldedDifferences n (paired n stride (word w₀))) w₀ w
 
 abbrev μ-loop : tie.MeasureT-loop
 μ-loop w₀ n stride b tally₀ i₀ w tally i = n / 4 - i
@@ -44,7 +46,8 @@ even : (c : tie.After-put-difference Inv-loop μ-loop) →
     let l = c .before .before .before in
     let n = l .before .args .n in
     let w = l .before .args .w .now in
-    Ends (pos 0) (l .before .args .b) (l .loop .i + 1) 0 (n / 4) (foldedDifferences n (paired n (l .before .args .stride) (word w))) w (c .put-difference .last .0)
+    Ends (pos 0) (l .before .args .b) (l .loop .i + 1) 0 (n / 4) (foldedDifferences n (paired n (l .before .args .stride) (word w))) w
+    (c .put-difference .last .0)
 even c =
     let l = c .before .before .before in
     even-more (l .before .pre .0) (omega arith) (l .loop .inv .1) (omega arith) (c .put-difference .ensures .words)
@@ -53,7 +56,8 @@ put-difference-requires : tie.Need-put-difference-requires Inv-loop μ-loop
 put-difference-requires c κs =
     let l = c .before .before in
     let r = l .before .pre .0 in
-    beside-ready r {i = l .loop .i} (omega arith) (l .loop .inv .1) (omega (arith, r .room)) (omega (arith, r .fits)) _ _ (omega arith) (omega arith)
+    beside-ready r {i = l .loop .i} (omega arith) (l .loop .inv .1) (omega (arith, r .room)) (omega (arith, r .fits)) _ _ (omega arith)
+    (omega arith)
 
 put-difference-requires-2 : tie.Need-put-difference-requires-2 Inv-loop μ-loop
 put-difference-requires-2 c κs =
@@ -61,7 +65,8 @@ put-difference-requires-2 c κs =
     let l = d .before .before .before in
     let r = l .before .pre .0 in
     let h = follows (d .before .before) in
-    beside-ready r {i = l .loop .i + 1} h (even d) (omega (arith, r .room, d .put-difference .ensures .tallied)) (omega (arith, r .fits)) _ _ (omega arith) (omega arith)
+    beside-ready r {i = l .loop .i + 1} h (even d) (omega (arith, r .room, d .put-difference .ensures .tallied))
+    (omega (arith, r .fits)) _ _ (omega arith) (omega arith)
 
 loop-again : tie.Need-loop-again Inv-loop μ-loop
 loop-again c =

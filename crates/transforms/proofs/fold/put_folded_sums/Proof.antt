@@ -1,4 +1,5 @@
--- `transforms::fold::put_folded_sums` meets its contract: after i turns i sums are put and tallied, and the block is as it was. Assumes nothing.
+-- `transforms::fold::put_folded_sums` meets its contract: after i turns i sums are put and tallied, and the block is as it was. Assumes
+-- nothing.
 use mathlib.Core.Path.{_≡_, _∙_}
 use Prim.Native.Nat.{_+_, _-_, _*_, _/_, _≤_, _<_}
 use native.Mathlib.Omega.{arith}
@@ -38,7 +39,8 @@ sum : (c : tie.After-y Inv-loop μ-loop) →
     let s = l .before .args .stride in
     let x = paired n s (word (l .before .args .w .now)) in
     let p = place s (l .loop .i) in
-    Computes _+ℤ_ (ofZ w64 (word (l .loop .w) p)) (ofZ w64 (word (l .loop .w) (p - 1))) (x (2 * l .loop .i + 1)) (x (n - 2 * l .loop .i - 1))
+    Computes _+ℤ_ (ofZ w64 (word (l .loop .w) p)) (ofZ w64 (word (l .loop .w) (p - 1))) (x (2 * l .loop .i + 1))
+    (x (n - 2 * l .loop .i - 1))
 sum c = let l = c .before .before .before in folded-sum (l .before .pre) (omega arith) (l .loop .inv .2) (c .before .x .given) (c .y .given)
 
 add-w : tie.Need-add-w Inv-loop μ-loop

@@ -1,4 +1,5 @@
--- `transforms::join::join_cosine` meets its contract: when the loop comes to k, the first k and the last k coefficients are made, at two sums a turn. Assumes nothing.
+-- `transforms::join::join_cosine` meets its contract: when the loop comes to k, the first k and the last k coefficients are made, at two
+-- sums a turn. Assumes nothing.
 use mathlib.Core.Path.{_≡_, _∙_}
 use Prim.Native.Nat.{_+_, _-_, _*_, _/_, _≤_}
 use native.Mathlib.Omega.{arith}

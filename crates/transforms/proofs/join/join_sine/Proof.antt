@@ -1,4 +1,5 @@
--- `transforms::join::join_sine` meets its contract: when the loop comes to k, of the first n / 2 coefficients the first k and the last k - 1 are made, at two sums a turn.
+-- `transforms::join::join_sine` meets its contract: when the loop comes to k, of the first n / 2 coefficients the first k and the last
+-- k - 1 are made, at two sums a turn.
 -- Assumes nothing.
 use mathlib.Core.Path.{_≡_, _∙_}
 use Prim.Native.Nat.{_+_, _-_, _*_, _/_, _≤_}
@@ -15,7 +16,8 @@ use Rattle.transforms.proofs.join.join_sine.Tie as tie
 
 abbrev Inv-loop : tie.InvT-loop
 Inv-loop w₀ n at spent q h b sums₀ k₀ w sums k =
-    ((1 ≤ k) × (k ≤ n / 4) × (sums ≡ spent .sums + 2 * (k - 1))) × Ends (pos 0) at k (k - 1) (n / 2) (sineJoin n (evenAt at w₀) (oddAt n at w₀)) w₀ w
+    ((1 ≤ k) × (k ≤ n / 4) × (sums ≡ spent .sums + 2 * (k - 1)))
+    × Ends (pos 0) at k (k - 1) (n / 2) (sineJoin n (evenAt at w₀) (oddAt n at w₀)) w₀ w
 
 abbrev μ-loop : tie.MeasureT-loop
 μ-loop w₀ n at spent q h b sums₀ k₀ w sums k = n / 4 - k
@@ -25,7 +27,8 @@ loop-holds c =
     let w = c .args .w .now in
     let r = c .pre .0 in (
       omega (arith, r .some),
-      ends-pass ends-none (omega (arith, r .some)) (sine-first (c .args .n) (r .quarters) (evenAt (c .args .at) w) (oddAt (c .args .n) (c .args .at) w)),
+      ends-pass ends-none (omega (arith, r .some))
+          (sine-first (c .args .n) (r .quarters) (evenAt (c .args .at) w) (oddAt (c .args .n) (c .args .at) w)),
     )
 
 -- what a turn makes of E(k) and D(n / 4 - k)
@@ -54,7 +57,8 @@ loop-again c =
     let q = l .before .pre .0 .quarters in (
       omega arith,
       ends-turn (l .loop .inv .1) (n / 2 - k) (omega (arith, l .before .pre .0 .fits))
-          (turn c .sum .made ∙ sine-front n q E D k (omega arith) (omega arith)) (turn c .reversed .made ∙ sine-back n q E D k (omega arith) (omega arith)),
+          (turn c .sum .made ∙ sine-front n q E D k (omega arith) (omega arith))
+          (turn c .reversed .made ∙ sine-back n q E D k (omega arith) (omega arith)),
     )
 
 returns : tie.Need-returns Inv-loop μ-loop
@@ -67,12 +71,14 @@ returns c =
     let E = evenAt at w in
     let D = oddAt n at w in
     let middle : c .before .before .loop .k ≡ n / 4 = omega arith in
-    let run : Ends (pos 0) at (n / 4) (n / 4 - 1) (n / 2) (sineJoin n E D) w (c .before .before .loop .w) = rw middle at (c .before .before .loop .inv .1) in
+    let run : Ends (pos 0) at (n / 4) (n / 4 - 1) (n / 2) (sineJoin n E D) w (c .before .before .loop .w) =
+    rw middle at (c .before .before .loop .inv .1) in
     let zeroth : at + n / 2 + 1 + 0 ≡ at + n / 2 + 1 = omega arith in
     let d = rw zeroth at (sine-middle n (r .quarters) E D (s .pre .2) (r .some)) in
     record {
       words = written-more
-          (ends-all (ends-front run (omega (arith, r .fits)) (held (c .d2 .given) (run .high _ (omega arith)) .is ∙ d)) (omega (arith, r .quarters, r .some)))
+          (ends-all (ends-front run (omega (arith, r .fits)) (held (c .d2 .given) (run .high _ (omega arith)) .is ∙ d))
+          (omega (arith, r .quarters, r .some)))
           (omega (arith, r .fits)) (sine-last n (r .quarters) E D (s .pre .1) (r .some));
       tallied = omega (arith, r .quarters, r .some);
     }

@@ -1,5 +1,5 @@
--- `transforms::rotate::rotate` meets its contract: when the loop comes to k, the words from 1 up to k and the last k - 1 of the n are made, at three products and three sums a
--- turn. Assumes nothing.
+-- `transforms::rotate::rotate` meets its contract: when the loop comes to k, the words from 1 up to k and the last k - 1 of the n are
+-- made, at three products and three sums a turn. Assumes nothing.
 use mathlib.Core.Path.{_≡_, _∙_, ap}
 use Prim.Native.Nat.{_+_, _-_, _*_, _/_, _≤_}
 use native.Mathlib.Omega.{arith}
@@ -41,7 +41,8 @@ reads c =
     let l = c .before .before .before .before .before in
     let v = c .before .before .before .wave-at in
     let v2 = c .before .before .wave-at2 in
-    turn (l .before .pre .1) (l .loop .inv .1) (omega (arith, l .before .pre .1 .some)) _ (omega arith) (c .before .x .given) (c .y .given) (v .ok) (v .ensures) (v2 .ok) (v2 .ensures)
+    turn (l .before .pre .1) (l .loop .inv .1) (omega (arith, l .before .pre .1 .some)) _ (omega arith) (c .before .x .given)
+    (c .y .given) (v .ok) (v .ensures) (v2 .ok) (v2 .ensures)
 
 rotate-pair-requires : tie.Need-rotate-pair-requires Inv-loop μ-loop
 rotate-pair-requires c κs = let t = reads c in rw (t .cosine, t .sine, t .entry, t .mirror) (t .coefficients, t .entries)
@@ -86,7 +87,8 @@ returns c =
     record {
       words = written-first
           (ends-all (ends-front run (omega (arith, s .fits)) (rw up value)) (omega (arith, even s)))
-          (omega (arith, s .fits)) (rw zeroth at (read s run some 0 (rw zeroth (m .before .before .first .given))) ∙ rw zeroth at (first s));
+          (omega (arith, s .fits))
+          (rw zeroth at (read s run some 0 (rw zeroth (m .before .before .first .given))) ∙ rw zeroth at (first s));
       tallied = omega (arith, m .rotate-middle .ensures .one-product);
     }
 

@@ -1,4 +1,5 @@
--- `transforms::rotate::rotate_pair` meets its contract: each step of (20) fits a word (ffct/proofs/Sizes), and what is rounded is (19). Assumes nothing.
+-- `transforms::rotate::rotate_pair` meets its contract: each step of (20) fits a word (ffct/proofs/Sizes), and what is rounded is (19).
+-- Assumes nothing.
 use mathlib.Core.Path.{refl, _∙_, ap}
 use Prim.Native.Nat.{ℕ}
 use lib.IntN.{ℤ, _+ℤ_, _-ℤ_, _*ℤ_}

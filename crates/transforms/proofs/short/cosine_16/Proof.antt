@@ -8,7 +8,8 @@ use Rattle.transforms.proofs.short.cosine_16.Statement.{statement}
 use Rattle.transforms.proofs.short.cosine_16.Tie as tie
 
 -- the tail that is lent begins inside the words
-starts : (f : tie.After-put-folded-sums) → tail (f .before .before .before .before .before .args .at) 16 ≤ length (f .put-folded-sums .last .0)
+starts : (f : tie.After-put-folded-sums) →
+    tail (f .before .before .before .before .before .args .at) 16 ≤ length (f .put-folded-sums .last .0)
 starts f =
     let e = f .before .before .before in
     tail-starts cosine-kind (e .before .before .pre .1) (lit≤ tt) (e .cosine-8 .ensures) (f .put-folded-sums .ensures)
@@ -33,7 +34,8 @@ join-cosine-requires c κs =
     let d = c .before .before in
     let f = d .before .before .before in
     let e = f .before .before .before in
-    lent-join-ready cosine-kind (e .before .before .pre .1) (lit≤ tt) (e .cosine-8 .ensures) (f .put-folded-sums .ensures) (d .dct-4 .ensures)
+    lent-join-ready cosine-kind (e .before .before .pre .1) (lit≤ tt) (e .cosine-8 .ensures) (f .put-folded-sums .ensures)
+    (d .dct-4 .ensures)
 
 returns : tie.Need-returns
 returns c =
@@ -41,7 +43,8 @@ returns c =
     let f = d .before .before .before in
     let e = f .before .before .before in
     let s = e .before .before in
-    lent-ends cosine-kind (s .pre .1) (lit≤ tt) (e .cosine-8 .ensures) (f .put-folded-sums .ensures) (d .dct-4 .ensures) (c .before .join-cosine .ensures)
+    lent-ends cosine-kind (s .pre .1) (lit≤ tt) (e .cosine-8 .ensures) (f .put-folded-sums .ensures) (d .dct-4 .ensures)
+    (c .before .join-cosine .ensures)
 
 pub cosine-16-spec : {M : Type 1} → statement M
 cosine-16-spec =

@@ -20,10 +20,17 @@ module _ (c : tie.After-y) where
   s = c .before .before
 
   sum : let z = word (s .args .w .now) in let j = 2 * s .args .stride - 1 in Computes _+ℤ_ (ofZ w64 (z 0)) (ofZ w64 (z j)) (z 0) (z j)
-  sum = let b = dft-pair-small (s .pre) in added (held (c .before .x .given) refl) (held (c .y .given) refl) (omega (arith, b)) (omega (arith, b))
+  sum =
+      let b = dft-pair-small (s .pre) in
+      added (held (c .before .x .given) refl) (held (c .y .given) refl) (omega (arith, b)) (omega (arith, b))
 
-  difference : let z = word (s .args .w .now) in let j = 2 * s .args .stride - 1 in Computes _-ℤ_ (ofZ w64 (z 0)) (ofZ w64 (z j)) (z 0) (z j)
-  difference = let b = dft-pair-small (s .pre) in subtracted (held (c .before .x .given) refl) (held (c .y .given) refl) (omega (arith, b)) (omega (arith, b))
+  difference :
+      let z = word (s .args .w .now) in
+      let j = 2 * s .args .stride - 1 in
+      Computes _-ℤ_ (ofZ w64 (z 0)) (ofZ w64 (z j)) (z 0) (z j)
+  difference =
+      let b = dft-pair-small (s .pre) in
+      subtracted (held (c .before .x .given) refl) (held (c .y .given) refl) (omega (arith, b)) (omega (arith, b))
 
 add-w : tie.Need-add-w
 add-w c = sum c .asked

@@ -25,7 +25,8 @@ returns c =
     let f = c .before .before .before .before in
     let e = f .before .before .before in
     let s = e .before .before in
-    dft-ends cosine-kind (s .pre) (lit≤ tt) (e .cosine-2 .ensures) (f .put-folded-sums .ensures) dct-single (c .before .join-cosine .ensures)
+    dft-ends cosine-kind (s .pre) (lit≤ tt) (e .cosine-2 .ensures) (f .put-folded-sums .ensures) dct-single
+    (c .before .join-cosine .ensures)
 
 pub cosine-4-spec : {M : Type 1} → statement M
 cosine-4-spec =

@@ -43,7 +43,9 @@ returns-4 : tie.Need-returns-4
 returns-4 c = rw (is-8 (c .before .before)) (c .before .cosine-8 .ensures)
 
 is-16 : (c : tie.After-cosine-16-arg) → c .before .before .before .before .before .before .args .n ≡ 16
-is-16 c = let s = c .before .before .before .before .before .before in next-length 3 _ (s .pre .1 .ready .length-ok) (omega arith) (omega arith)
+is-16 c =
+    let s = c .before .before .before .before .before .before in
+    next-length 3 _ (s .pre .1 .ready .length-ok) (omega arith) (omega arith)
 
 cosine-16-requires : tie.Need-cosine-16-requires
 cosine-16-requires c κs = let s = c .before .before .before .before .before .before in (s .pre .0, rw (is-16 c) at (s .pre .1))
@@ -52,7 +54,9 @@ returns-5 : tie.Need-returns-5
 returns-5 c = rw (is-16 (c .before .before)) (c .before .cosine-16 .ensures)
 
 is-32 : (c : tie.After-cosine-32-arg) → c .before .before .before .before .before .before .args .n ≡ 32
-is-32 c = let s = c .before .before .before .before .before .before in next-length 4 _ (s .pre .1 .ready .length-ok) (omega arith) (omega arith)
+is-32 c =
+    let s = c .before .before .before .before .before .before in
+    next-length 4 _ (s .pre .1 .ready .length-ok) (omega arith) (omega arith)
 
 cosine-32-requires : tie.Need-cosine-32-requires
 cosine-32-requires c κs = let s = c .before .before .before .before .before .before in (s .pre .0, rw (is-32 c) at (s .pre .1))

@@ -21,10 +21,14 @@ module _ (c : tie.After-y) where
   s = c .before .before
 
   sum : let z = word (s .args .w .now) in Computes _+ℤ_ (ofZ w64 (z 0)) (ofZ w64 (z 1)) (z 0) (z 1)
-  sum = let b = dct-pair-small (s .pre .1) in added (held (c .before .x .given) refl) (held (c .y .given) refl) (omega (arith, b)) (omega (arith, b))
+  sum =
+      let b = dct-pair-small (s .pre .1) in
+      added (held (c .before .x .given) refl) (held (c .y .given) refl) (omega (arith, b)) (omega (arith, b))
 
   difference : let z = word (s .args .w .now) in Computes _-ℤ_ (ofZ w64 (z 0)) (ofZ w64 (z 1)) (z 0) (z 1)
-  difference = let b = dct-pair-small (s .pre .1) in subtracted (held (c .before .x .given) refl) (held (c .y .given) refl) (omega (arith, b)) (omega (arith, b))
+  difference =
+      let b = dct-pair-small (s .pre .1) in
+      subtracted (held (c .before .x .given) refl) (held (c .y .given) refl) (omega (arith, b)) (omega (arith, b))
 
 add-w : tie.Need-add-w
 add-w c = sum c .asked
@@ -40,7 +44,8 @@ returns c =
     let m = c .before .before .before in
     let y = m .before in
     dct-two (s y .pre .1) (sum y .made)
-    (held (c .before .before .struct-told .given .0 .1) (m .rotate-middle .ensures .middle) .is ∙ ap (λ z. round (T 512 *ℤ z)) (difference y .made))
+    (held (c .before .before .struct-told .given .0 .1) (m .rotate-middle .ensures .middle) .is
+    ∙ ap (λ z. round (T 512 *ℤ z)) (difference y .made))
     (omega (arith, m .rotate-middle .ensures .one-product))
 
 pub dct-2-spec : {M : Type 1} → statement M

@@ -9,7 +9,8 @@ use Rattle.transforms.proofs.short.sine_16.Statement.{statement}
 use Rattle.transforms.proofs.short.sine_16.Tie as tie
 
 -- the tail that is lent begins inside the words
-starts : (f : tie.After-put-folded-differences) → tail (f .before .before .before .before .before .args .at) 16 ≤ length (f .put-folded-differences .last .0)
+starts : (f : tie.After-put-folded-differences) →
+    tail (f .before .before .before .before .before .args .at) 16 ≤ length (f .put-folded-differences .last .0)
 starts f =
     let e = f .before .before .before in
     tail-starts sine-kind (e .before .before .pre .1) (lit≤ tt) (e .sine-8 .ensures) (f .put-folded-differences .ensures)
@@ -42,7 +43,8 @@ returns c =
     let f = d .before .before .before in
     let e = f .before .before .before in
     let s = e .before .before in
-    lent-ends sine-kind (s .pre .1) (lit≤ tt) (e .sine-8 .ensures) (f .put-folded-differences .ensures) (d .dct-4 .ensures) (c .before .join-sine .ensures)
+    lent-ends sine-kind (s .pre .1) (lit≤ tt) (e .sine-8 .ensures) (f .put-folded-differences .ensures) (d .dct-4 .ensures)
+    (c .before .join-sine .ensures)
 
 pub sine-16-spec : {M : Type 1} → statement M
 sine-16-spec =
