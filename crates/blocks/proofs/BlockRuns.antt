@@ -8,7 +8,7 @@
 -- Assumes nothing.
 use mathlib.Core.Path.{_≡_, refl, sym, ap, _∙_, subst}
 use mathlib.Core.List.{List}
-use Prim.Native.Nat.{ℕ, _+_, _*_, _/_, _^_, _≤_, _<_}
+use Prim.Native.Nat.{ℕ, _+_, _/_, _^_, _≤_, _<_}
 use native.Mathlib.Nat.{mul-le-mul}
 use native.Mathlib.Omega.{arith}
 use lib.IntN.{ℤ, pos, natAbs}
@@ -29,7 +29,7 @@ use Rattle.transforms.specs.Pairs.{paired}
 use Rattle.transforms.specs.Steps.{Ready, Gives, DftReady, DftDone, DctReady, DctDone, dftRoom, dctRoom}
 use Rattle.transforms.proofs.Pairs.{paired-same}
 use Rattle.blocks.specs.Buffers.{inPairs}
-use Rattle.blocks.specs.Blocks.{InRange, Workable, Cleared, DftsReady, DftsMade}
+use Rattle.blocks.specs.Blocks.{InRange, Cleared, DftsReady, DftsMade}
 use Rattle.blocks.proofs.Pairing.{paired-back}
 
 module _ {block : List ℤ} (r : InRange block) where

@@ -1,15 +1,15 @@
 -- Pair: the DFTs of both blocks stand one behind another, and are joined. Assumes nothing.
 use mathlib.Core.Path.{_≡_, refl, ap, ap₂, _∙_}
 use mathlib.Core.List.{List}
-use Prim.Native.Nat.{ℕ, zero, suc, _+_, _-_, _*_, _/_, _^_, _≤_, _<_}
+use Prim.Native.Nat.{ℕ, zero, suc, _+_, _*_, _/_, _^_, _≤_, _<_}
 use native.Mathlib.Nat.{le-trans}
 use native.Mathlib.Omega.{arith}
-use lib.IntN.{ℤ, pos, natAbs, _+ℤ_, _-ℤ_}
+use lib.IntN.{ℤ, pos, _+ℤ_, _-ℤ_}
 use lib.ListN.{length}
-use Rattle.words.specs.Words.{Samples, word, Written}
+use Rattle.words.specs.Words.{Samples, word}
 use Rattle.words.proofs.Writing.{written-same}
 use Rattle.words.proofs.Parts.{part, part-length, part-at}
-use Rattle.ffct.specs.Block.{level, largestSum}
+use Rattle.ffct.specs.Block.{level}
 use Rattle.ffct.specs.Transforms.{cosineBeyond, sineBeyond, sineDft, spectrum, pair}
 use Rattle.ffct.proofs.Lengths.{pow-len}
 use Rattle.ffct.proofs.ElevenLengths.{is-power, length-pos, length-le, half}

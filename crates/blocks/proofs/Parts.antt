@@ -1,10 +1,11 @@
 -- A part of Pair: the cosine-DFT C of one block joined with the sine-DFT S of the other by an operation, + or -, at every k below n by
 -- (9) and (10).
 --     part-first, part-half, part-front, part-back    coefficient by coefficient
+--     part-turn                                       a turn of the loop
 --     sum-put, ends-put                               two stores
 --     part-ends                                       after the loop and the stores where the sine-DFT is zero
 -- Assumes nothing.
-use mathlib.Core.Path.{_≡_, refl, sym, ap, ap₂, _∙_}
+use mathlib.Core.Path.{_≡_, refl, sym, ap, _∙_}
 use mathlib.Core.List.{List}
 use mathlib.Core.Logic.{⊎-elim}
 use Prim.Native.Nat.{ℕ, _+_, _-_, _*_, _/_, _≤_, _<_}
@@ -16,7 +17,7 @@ use Rattle.whole.proofs.Cases.{le-or-lt, same-or-not}
 use Rattle.whole.proofs.Difference.{parts, diff}
 use Rattle.whole.proofs.Size.{near}
 use Rattle.words.specs.Words.{word, Written}
-use Rattle.words.proofs.Writing.{Ends}
+use Rattle.words.proofs.Writing.{Ends, ends-both}
 use Rattle.ffct.specs.Transforms.{cosineBeyond, sineBeyond}
 use Rattle.ffct.proofs.Steps.{cosine-low, cosine-high, sine-low, sine-high}
 use Rattle.counts.specs.declared.tally.Tally.{Tally}
@@ -51,6 +52,18 @@ module _ {op rev : ℤ → ℤ → ℤ} (o : Opposite op rev) {n : ℕ} (C : ℕ
   part-back k l h =
       let e : n - (n - k) ≡ k = omega arith in
       rw (cosine-high n C (n - k) h, sine-high n S (n - k) h, e) (sym (o .turned (C k) (S k)))
+
+  -- a turn of the loop, at k and n - k
+  pub part-turn : {k : ℕ} {before between after : List ℤ} → (2 * (n / 2) ≡ n) × (1 ≤ k) × (k < n / 2) →
+      Ends (pos 0) 1 (k - 1) (k - 1) (n - 1) (λ i. part (1 + i)) before between → length after ≡ length between →
+      ((j : ℕ) → (j ≡ k → ⊥) → (j ≡ n - k → ⊥) → word after j ≡ word between j) →
+      word after k ≡ op (C k) (S k) → word after (n - k) ≡ rev (C k) (S k) →
+      Ends (pos 0) 1 (k + 1 - 1) (k + 1 - 1) (n - 1) (λ i. part (1 + i)) before after
+  part-turn {k} e run len others front back =
+      let up : 1 + (k - 1) ≡ k = omega arith in
+      let down : 1 + (n - k - 1) ≡ n - k = omega arith in
+      ends-both run (n - k - 1) (omega arith) len others
+      (front ∙ rw up (part-front k (omega arith))) (back ∙ rw down (part-back k (omega arith) (omega arith)))
 
 -- ---- two stores to a buffer
 pub sum-put : {x y u v : ℤ} {i j : ℕ} {out : List ℤ} {spent total : Tally} → SumReady x y i j out spent → u ≡ x +ℤ y → v ≡ x -ℤ y →

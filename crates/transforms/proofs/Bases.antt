@@ -1,6 +1,6 @@
 -- Where the recursion ends: the transforms of one and two samples, and what four samples need of them.
 -- Assumes nothing.
-use mathlib.Core.Path.{_≡_, refl, sym, ap, ap₂, _∙_}
+use mathlib.Core.Path.{_≡_, refl, sym, ap, _∙_}
 use mathlib.Core.List.{List}
 use mathlib.Core.Logic.{⊎-elim}
 use Prim.Native.Nat.{ℕ, zero, suc, _+_, _-_, _*_, _/_, _≤_, _<_}
@@ -21,7 +21,7 @@ use Rattle.ffct.specs.Transforms.{Transform, dctBy, cosineDft, sineDft, dct, al
 use Rattle.ffct.proofs.Lengths.{len, len-pos}
 use Rattle.ffct.proofs.ElevenLengths.{as-len}
 use Rattle.counts.specs.declared.tally.Tally.{Tally}
-use Rattle.counts.specs.Tally.{Tallied, HasRoom}
+use Rattle.counts.specs.Tally.{Tallied}
 use Rattle.transforms.specs.Pairs.{paired}
 use Rattle.transforms.specs.Steps.{Gives, DftReady, DftDone, DctReady, DctDone, FoldReady, Folded, DifferenceReady, DifferencePut}
 use Rattle.transforms.proofs.Pairs.{paired-near, paired-far, paired-odd, paired-mirror}
@@ -41,9 +41,10 @@ paired-1 : (s : ℕ) (z : Samples) → paired 2 s z 1 ≡ z (2 * s - 1)
 paired-1 s z = paired-far 2 s z 1 (omega arith) ∙ ap z (omega arith)
 
 module _ {s at : ℕ} {w : List ℤ} {spent : Tally} where
-  pub cosine-one : {v : ℤ} → DftReady cosineDft 1 s at w spent → v ≡ word w 0 → DftDone cosineDft 1 s at w (set w at v) spent spent
+  pub cosine-one : {n : ℕ} {v : ℤ} → DftReady cosineDft n s at w spent → n ≡ 1 → v ≡ word w 0 →
+      DftDone cosineDft n s at w (set w at v) spent spent
   unfolding level cosineDft
-  cosine-one r e = gives (written-one (omega (arith, r .fits)) (e ∙ sym (paired-0 1 s (word w) (omega arith)))) (omega arith)
+  cosine-one r e d = rw e (gives (written-one (omega (arith, r .fits)) (d ∙ sym (paired-0 1 s (word w) (omega arith)))) (omega arith))
 
   pub cosine-two : {u v : ℤ} {total : Tally} → DftReady cosineDft 2 s at w spent → u ≡ word w 0 +ℤ word w (2 * s - 1) →
       v ≡ word w 0 -ℤ word w (2 * s - 1) →

@@ -4,17 +4,16 @@
 --     rotation-ready     then both may be rotated
 --     dct-ends           what the rotation leaves is the transform
 -- Assumes nothing.
-use mathlib.Core.Path.{_≡_, refl, sym, ap, _∙_, subst}
+use mathlib.Core.Path.{_≡_, sym, ap, _∙_, subst}
 use mathlib.Core.List.{List}
-use Prim.Native.Nat.{ℕ, suc, _+_, _-_, _*_, _/_, _≤_, _<_}
+use Prim.Native.Nat.{ℕ, _+_, _-_, _*_, _/_, _≤_, _<_}
 use native.Mathlib.Omega.{arith}
-use lib.IntN.{ℤ, natAbs}
-use lib.ListN.{length}
+use lib.IntN.{ℤ}
 use Rattle.whole.proofs.Size.{within-size}
 use Rattle.words.specs.Words.{Samples, word}
-use Rattle.ffct.specs.Block.{level, largestSum}
+use Rattle.ffct.specs.Block.{level}
 use Rattle.ffct.specs.Transforms.{Transform, rearranged, rotated, cosineDft, sineDft, dct}
-use Rattle.ffct.proofs.Lengths.{len, len-pos, per, len-per}
+use Rattle.ffct.proofs.Lengths.{len, per, len-per}
 use Rattle.ffct.proofs.ElevenLengths.{as-len, level-le, Half, half}
 use Rattle.ffct.proofs.Sizes.{dft-size}
 use Rattle.ffct.proofs.Blocks.{Same, dft-same, rotated-same}
@@ -22,7 +21,7 @@ use Rattle.ffct.proofs.Steps.{dct-step, dct-products, dct-sums}
 use Rattle.counts.specs.declared.tally.Tally.{Tally}
 use Rattle.counts.specs.Tally.{Tallied}
 use Rattle.transforms.specs.Pairs.{paired}
-use Rattle.transforms.specs.Steps.{Ready, Gives, DftReady, DftDone, DctReady, DctDone, cosineAt, sineAt, RotationReady, Rotated}
+use Rattle.transforms.specs.Steps.{Ready, DftReady, DftDone, DctReady, DctDone, cosineAt, sineAt, RotationReady, Rotated}
 use Rattle.transforms.proofs.Pairs.{paired-source, paired-same, paired-rearranged}
 use Rattle.transforms.proofs.Levels.{inner, ready-same}
 

@@ -7,7 +7,7 @@
 --     dft-ends              what the join leaves is the transform
 --     lent-..               the same where the DCT was taken of a tail that was lent
 -- Assumes nothing.
-use mathlib.Core.Path.{_≡_, refl, sym, ap, ap₂, _∙_, subst}
+use mathlib.Core.Path.{_≡_, sym, ap, ap₂, _∙_, subst}
 use mathlib.Core.List.{List}
 use Prim.Native.Nat.{ℕ, suc, _+_, _-_, _*_, _/_, _≤_, _<_}
 use native.Mathlib.Nat.{le-refl, mul-le-mul-left, mul-le-mul-right}
@@ -19,14 +19,14 @@ use Rattle.words.specs.Words.{Samples, word}
 use Rattle.words.proofs.Parts.{part, back, part-length, part-at}
 use Rattle.ffct.specs.Block.{level, largestSum}
 use Rattle.ffct.specs.Transforms.{Transform, evens, foldedSums, foldedDifferences, alternate, cosineDft, sineDft, dct}
-use Rattle.ffct.proofs.Lengths.{len, len-pos}
+use Rattle.ffct.proofs.Lengths.{len}
 use Rattle.ffct.proofs.ElevenLengths.{as-len, half, Quarter, quarter}
 use Rattle.ffct.proofs.Near.{alternate-within, apart-le}
 use Rattle.ffct.proofs.Sizes.{Inner, dft-size, dct-within}
 use Rattle.ffct.proofs.Blocks.{Same, dft-same, dct-same, sine-first, sine-last, cosine-beyond-same, sine-beyond-same, dct-beyond-same}
 use Rattle.ffct.proofs.Steps.{cosine-step, sine-step, cosine-products, cosine-sums, sine-products, sine-sums}
 use Rattle.counts.specs.declared.tally.Tally.{Tally}
-use Rattle.counts.specs.Tally.{Tallied, HasRoom}
+use Rattle.counts.specs.Tally.{Tallied}
 use Rattle.transforms.specs.Pairs.{paired}
 use Rattle.transforms.specs.Steps.{Ready, Gives, DftReady, DftDone, DctReady, DctDone, FoldReady, Folded}
 use Rattle.transforms.specs.Steps.{evenAt, oddAt, cosineJoin, sineJoin, JoinReady, Joined}

@@ -18,7 +18,7 @@ use Rattle.whole.proofs.Operations.{Computes}
 use Rattle.words.specs.Words.{Samples, word, Written}
 use Rattle.words.proofs.Writing.{Ends, ends-more}
 use Rattle.ffct.specs.Block.{largestSum}
-use Rattle.ffct.specs.Transforms.{foldedSums, foldedDifferences}
+use Rattle.ffct.specs.Transforms.{foldedDifferences}
 use Rattle.ffct.proofs.Sizes.{added}
 use Rattle.ffct.proofs.Alternate.{alternate-even, alternate-turned}
 use Rattle.counts.specs.declared.tally.Tally.{Tally}

@@ -1,7 +1,7 @@
 -- The joins of (12) and (15), from the coefficients E of the even samples and D of the DCT: coefficient by coefficient, and what a turn
 -- of their loops computes.
 -- Assumes nothing.
-use mathlib.Core.Path.{_≡_, refl, ap}
+use mathlib.Core.Path.{_≡_, refl}
 use mathlib.Core.List.{List}
 use Prim.Native.Nat.{ℕ, _+_, _-_, _*_, _/_, _^_, _≤_, _<_}
 use native.Mathlib.Omega.{arith}
@@ -11,7 +11,6 @@ use mir.Syntax.{w64}
 use mir.Val.{ofZ}
 use Rattle.whole.proofs.Words.{held}
 use Rattle.whole.proofs.Operations.{Computes}
-use Rattle.words.specs.Words.{word}
 use Rattle.words.proofs.Writing.{Ends}
 use Rattle.ffct.specs.Transforms.{apart}
 use Rattle.ffct.proofs.Sizes.{added, subtracted}

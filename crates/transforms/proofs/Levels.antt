@@ -1,16 +1,16 @@
 -- What follows of a block that is `Ready`: the sizes of its samples and coefficients, and that an equal block is ready too. A tail that
 -- is lent to a transform.
 -- Assumes nothing.
-use mathlib.Core.Path.{_≡_, refl, sym, ap, _∙_}
+use mathlib.Core.Path.{_≡_, sym, ap, _∙_}
 use mathlib.Core.List.{List}
-use Prim.Native.Nat.{ℕ, _+_, _*_, _/_, _≤_, _<_}
+use Prim.Native.Nat.{ℕ, _+_, _/_, _≤_, _<_}
 use native.Mathlib.Nat.{mul-le-mul-right}
 use native.Mathlib.Omega.{arith}
 use lib.IntN.{ℤ, natAbs}
 use lib.ListN.{length}
 use Rattle.words.specs.Words.{Samples, word}
 use Rattle.words.proofs.Parts.{part, back, back-length, back-front, back-at}
-use Rattle.ffct.specs.Block.{isLength, level, largestSum}
+use Rattle.ffct.specs.Block.{level, largestSum}
 use Rattle.ffct.specs.Transforms.{Transform}
 use Rattle.ffct.proofs.Lengths.{len}
 use Rattle.ffct.proofs.ElevenLengths.{as-len, level-le, length-pos}

@@ -11,11 +11,11 @@ use mir.Syntax.{w64}
 use mir.Val.{toZ, ofZ}
 use Rattle.whole.specs.Round.{round}
 use Rattle.whole.proofs.Size.{within-size}
-use Rattle.whole.proofs.Words.{Word, held}
+use Rattle.whole.proofs.Words.{held}
 use Rattle.words.specs.Words.{word}
 use Rattle.words.proofs.Writing.{Ends}
 use Rattle.circle.specs.Circle.{T}
-use Rattle.ffct.specs.Block.{largestSum, isLength}
+use Rattle.ffct.specs.Block.{largestSum}
 use Rattle.ffct.specs.Transforms.{rotated}
 use Rattle.ffct.proofs.Lengths.{len-per, per, quotient}
 use Rattle.ffct.proofs.ElevenLengths.{as-len, level-le, half}

@@ -4,7 +4,7 @@ use mathlib.Core.Bool.{true}
 use mathlib.Core.List.{List}
 use mathlib.Core.Path.{_≡_}
 use Prim.Native.Nat.{ℕ, _+_, _-_, _*_, _/_, _≤_, _<_, min}
-use lib.IntN.{ℤ, pos, natAbs, _+ℤ_, _-ℤ_}
+use lib.IntN.{ℤ, natAbs, _+ℤ_, _-ℤ_}
 use lib.ListN.{length}
 use Rattle.words.specs.Words.{Samples, word, Written}
 use Rattle.ffct.specs.Block.{isLength, level, largestSum}

@@ -18,15 +18,6 @@ ghost use Rattle.transforms.specs.Steps.{DftReady, DftDone, DctReady, Dc
 
 // ---- one and two samples
 
-fn cosine_1(w: &mut [i64], stride: usize, at: usize, spent: Tally) -> Tally
-    requires { ⌜ DftReady cosineDft 1 stride at (now w) spent ⌝ }
-    ensures { λ r. ⌜ DftDone cosineDft 1 stride at (now (w .entry)) (now (w .exit)) spent r ⌝ }
-{
-    let x = w[0];
-    w[at] = x;
-    spent
-}
-
 fn cosine_2(w: &mut [i64], stride: usize, at: usize, spent: Tally) -> Tally
     requires { ⌜ DftReady cosineDft 2 stride at (now w) spent ⌝ }
     ensures { λ r. ⌜ DftDone cosineDft 2 stride at (now (w .entry)) (now (w .exit)) spent r ⌝ }
@@ -207,7 +198,9 @@ pub fn cosine_short(
     ensures { λ r. ⌜ DftDone cosineDft n stride at (now (w .entry)) (now (w .exit)) spent r ⌝ }
 {
     if n <= 1 {
-        return cosine_1(w, stride, at, spent);
+        let x = w[0];
+        w[at] = x;
+        return spent;
     }
     if n <= 2 {
         return cosine_2(w, stride, at, spent);

@@ -6,7 +6,6 @@
 --     ends-both       one element more at each end, which a call has written
 --     ends-more       one element more at the front, which a call has written
 --     ends-pass       one element more at the front, which held what it is to hold
---     ends-join       the back, after a call that wrote the front
 --     ends-all        when all are stored
 -- And of what is written:
 --     front, beyond   by place, where b is 0
@@ -43,19 +42,6 @@ ends-none = record {
   low = λ k h. refl;
   high = λ k h. refl;
   len = refl;
-}
-
--- the back after the front, which a call has written
-pub ends-join : {A : Type 0} {d : A} {b a c m : ℕ} {f g : ℕ → A} {before between after : List A}
-    → WrittenOf d b a g before between → a + c ≤ m → ((k : ℕ) → k < a → g k ≡ f k) → Ends d b 0 c m f between after
-    → Ends d b a c m f before after
-ends-join {b = b} w h e p = record {
-  front = λ k l. p .between k (omega arith) (omega arith) ∙ w .new k l ∙ e k l;
-  back = p .back;
-  between = λ k l o. p .between k (omega arith) o ∙ w .high (b + k) (omega arith);
-  low = λ k l. p .low k l ∙ w .low k l;
-  high = λ k l. p .high k l ∙ w .high k (omega arith);
-  len = p .len ∙ w .len;
 }
 
 -- one element more at the front, which a call has written

@@ -1,5 +1,4 @@
 -- `blocks::spectrum_of` meets its contract: both DFTs stand behind the block, and are stored from there. Assumes nothing.
-use mathlib.Core.Path.{_≡_, _∙_}
 use Prim.Native.Nat.{_+_, _/_, _≤_}
 use native.Mathlib.Omega.{arith}
 use borrow.Author.Needs.{needs}

@@ -1,5 +1,5 @@
 -- `whole::round` meets its contract: v and the half fit a word together, and the shift is the floor division. Assumes nothing.
-use mathlib.Core.Path.{refl, _∙_}
+use mathlib.Core.Path.{refl}
 use lib.Dec.{lit<}
 use lib.IntN.{_+ℤ_}
 use mir.Syntax.{w64}

@@ -4,16 +4,14 @@ use mathlib.Core.Path.{_≡_, _∙_}
 use Prim.Native.Nat.{_+_, _-_, _*_, _/_, _≤_, _<_}
 use native.Mathlib.Omega.{arith}
 use lib.IntN.{pos, _+ℤ_, _-ℤ_}
-use lib.ListN.{length}
 use borrow.Author.Needs.{needs}
-use Rattle.words.specs.Words.{word}
-use Rattle.words.proofs.Writing.{Ends, ends-none, ends-both}
+use Rattle.words.proofs.Writing.{Ends, ends-none}
 use Rattle.words.proofs.Parts.{part-length, part-at}
 use Rattle.ffct.specs.Transforms.{cosineBeyond, sineBeyond}
 use Rattle.counts.specs.Tally.{Tallied}
-use Rattle.blocks.specs.Buffers.{cosineOfA, sineOfA, cosineOfB, sineOfB, SumReady}
+use Rattle.blocks.specs.Buffers.{cosineOfA, sineOfA, cosineOfB, sineOfB}
 use Rattle.blocks.proofs.Casting.{read}
-use Rattle.blocks.proofs.Parts.{adding, subtracting, part-front, part-first, part-half, part-back, part-ends, parts-sums}
+use Rattle.blocks.proofs.Parts.{adding, subtracting, part-first, part-half, part-turn, part-ends, parts-sums}
 use Rattle.blocks.proofs.buffers.join_parts.Statement.{statement}
 use Rattle.blocks.proofs.buffers.join_parts.Tie as tie
 
@@ -35,29 +33,6 @@ even : (c : tie.In-loop Inv-loop μ-loop) →
     let n = c .before .before .args .n in
     (2 * (n / 2) ≡ n) × (1 ≤ c .before .loop .k) × (c .before .loop .k < n / 2)
 even c = let e = c .before .before .pre .whole (λ e. omega arith) in (e, omega arith, omega arith)
-
--- the real part after a turn's stores
-real : (c : tie.After-put-sum-and-difference Inv-loop μ-loop) →
-    let l = c .before .before .before .before .before in
-    let n = l .before .args .n in
-    let w = l .before .args .w .now in
-    Ends (pos 0) 1 (l .loop .k) (l .loop .k) (n - 1) (λ i. cosineBeyond n (cosineOfA n w) (1 + i) +ℤ sineBeyond n (sineOfB n w) (1 + i))
-    (l .before .args .real .now) (c .put-sum-and-difference .last .0)
-real c =
-    let l = c .before .before .before .before .before in
-    let s = l .before in
-    let n = s .args .n in
-    let k = l .loop .k in
-    let e = even (c .before .before .before .before) in
-    let C = cosineOfA n (s .args .w .now) in
-    let up : 1 + (k - 1) ≡ k = omega arith in
-    let down : 1 + (n - k - 1) ≡ n - k = omega arith in
-    let x = read (C k) (c .before .before .before .cosine-a .given) in
-    let y = read (sineOfB n (s .args .w .now) k) (c .before .before .sine-b .given) in
-    let put = rw (x, y) at (c .put-sum-and-difference .ensures) in
-    ends-both (l .loop .inv .1) (n - k - 1) (omega arith) (put .len) (λ j a b. put .others j (omega arith) (omega arith))
-    (put .sum ∙ rw up (part-front adding C (s .pre .sine-b) k (omega arith)))
-    (put .difference ∙ rw down (part-back adding C (s .pre .sine-b) k (omega arith) (omega arith)))
 
 put-sum-and-difference-requires : tie.Need-put-sum-and-difference-requires Inv-loop μ-loop
 put-sum-and-difference-requires c κs =
@@ -103,20 +78,20 @@ loop-again c =
     let l = p .before .before .before .before .before in
     let s = l .before in
     let n = s .args .n in
+    let w = s .args .w .now in
     let k = l .loop .k in
     let e = even (p .before .before .before .before) in
-    let C = cosineOfB n (s .args .w .now) in
-    let up : 1 + (k - 1) ≡ k = omega arith in
-    let down : 1 + (n - k - 1) ≡ n - k = omega arith in
-    let next : k + 1 - 1 ≡ k = omega arith in
-    let x = read (C k) (q .before .before .before .cosine-b .given) in
-    let y = read (sineOfA n (s .args .w .now) k) (q .before .before .sine-a .given) in
-    let put = rw (x, y) at (q .put-sum-and-difference2 .ensures) in (
-      omega (arith, l .loop .inv .0 .2, p .put-sum-and-difference .ensures .tallied, put .tallied),
-      rw next (real p),
-      ends-both (l .loop .inv .2) (n - k - 1) (omega arith) (put .len) (λ j a b. put .others j (omega arith) (omega arith))
-          (put .difference ∙ rw up (part-front subtracting C (s .pre .sine-a) k (omega arith)))
-          (put .sum ∙ rw down (part-back subtracting C (s .pre .sine-a) k (omega arith) (omega arith))),
+    let ca = read (cosineOfA n w k) (p .before .before .before .cosine-a .given) in
+    let sb = read (sineOfB n w k) (p .before .before .sine-b .given) in
+    let cb = read (cosineOfB n w k) (q .before .before .before .cosine-b .given) in
+    let sa = read (sineOfA n w k) (q .before .before .sine-a .given) in
+    let real = rw (ca, sb) at (p .put-sum-and-difference .ensures) in
+    let imaginary = rw (cb, sa) at (q .put-sum-and-difference2 .ensures) in (
+      omega (arith, l .loop .inv .0 .2, real .tallied, imaginary .tallied),
+      part-turn adding (cosineOfA n w) (s .pre .sine-b) e (l .loop .inv .1) (real .len)
+          (λ j a b. real .others j (omega arith) (omega arith)) (real .sum) (real .difference),
+      part-turn subtracting (cosineOfB n w) (s .pre .sine-a) e (l .loop .inv .2) (imaginary .len)
+          (λ j a b. imaginary .others j (omega arith) (omega arith)) (imaginary .difference) (imaginary .sum),
     )
 
 store-ends-requires : tie.Need-store-ends-requires Inv-loop μ-loop

@@ -1,6 +1,6 @@
 -- `transforms::fold::put_folded_differences` meets its contract: after i turns i differences are put and tallied, and the block is as it
 -- was. Assumes nothing.
-use mathlib.Core.Path.{_≡_, _∙_}
+use mathlib.Core.Path.{_≡_}
 use Prim.Native.Nat.{ℕ, _+_, _-_, _*_, _/_, _%_, _≤_, _<_}
 use native.Mathlib.Omega.{arith}
 use borrow.Author.Needs.{needs}

@@ -1,19 +1,17 @@
 -- `transforms::short::cosine_short` meets its contract: each branch has one length. Assumes nothing.
-use mathlib.Core.Path.{_≡_}
+use mathlib.Core.Path.{_≡_, refl}
 use native.Mathlib.Omega.{arith}
 use borrow.Author.Needs.{needs}
+use Rattle.whole.proofs.Words.{held}
 use Rattle.ffct.proofs.ElevenLengths.{length-pos, next-length}
+use Rattle.transforms.proofs.Bases.{cosine-one}
 use Rattle.transforms.proofs.short.cosine_short.Statement.{statement}
 use Rattle.transforms.proofs.short.cosine_short.Tie as tie
 
-is-1 : (c : tie.After-cosine-1-arg) → c .before .before .args .n ≡ 1
-is-1 c = let s = c .before .before in omega (arith, length-pos _ (s .pre .1 .ready .length-ok))
-
-cosine-1-requires : tie.Need-cosine-1-requires
-cosine-1-requires c κs = let s = c .before .before in rw (is-1 c) at (s .pre .1)
-
 returns : tie.Need-returns
-returns c = rw (is-1 (c .before .before)) (c .before .cosine-1 .ensures)
+returns c =
+    let r = c .before .before .pre .1 in
+    cosine-one r (omega (arith, length-pos _ (r .ready .length-ok))) (held (c .x .given) refl .is)
 
 is-2 : (c : tie.After-cosine-2-arg) → c .before .before .before .args .n ≡ 2
 is-2 c = let s = c .before .before .before in next-length 0 _ (s .pre .1 .ready .length-ok) (omega arith) (omega arith)
@@ -68,7 +66,9 @@ pub cosine-short-spec : {M : Type 1} → statement M
 cosine-short-spec =
     tie.close
     (tie.spec
-    cosine-1-requires
+    (λ c. search needs)  -- slice-copy-out-x
+    (λ c. search needs)  -- mul-x
+    (λ c. search needs)  -- slice-set-from-x
     (λ c. search needs)  -- same-length
     returns
     cosine-2-requires

@@ -1,7 +1,5 @@
 -- `transforms::short::put_zeros` meets its contract. Assumes nothing.
-use native.Mathlib.Omega.{arith}
 use borrow.Author.Needs.{needs}
-use lib.ListN.{length-set}
 use Rattle.transforms.proofs.Bases.{zeros}
 use Rattle.transforms.proofs.short.put_zeros.Statement.{statement}
 use Rattle.transforms.proofs.short.put_zeros.Tie as tie
