@@ -1,5 +1,6 @@
 #!/usr/bin/env python3
-"""Holds docs/MAP.md to the documents that it maps and to the files that it names; and every document to the files that it names and to a width.
+"""Holds docs/MAP.md to the documents that it maps and to the files that it names; and every document to the files that it names and, with the
+files of crates/, to a width.
 
     python3 tests/documents.py [FOLDER]        the repository, where it is not the one that this file is in
 
@@ -21,7 +22,7 @@ from pathlib import Path
 
 ROOT = Path(sys.argv[1] if len(sys.argv) > 1 else Path(__file__).parent.parent)
 MAP = ROOT / "docs/MAP.md"
-NARROW = ("README.md", "docs/MAP.md", "docs/DEMANDS.md")  # lines of at most WIDTH columns outside of tables
+NARROW = ("README.md", "docs/MAP.md", "docs/DEMANDS.md", "docs/DECISIONS.md", "docs/PROVING.md", "docs/BENCHMARKS.md", "docs/DISTANCES.md")
 WIDTH = 140
 SENTENCE_END = re.compile(r"(?<=[^.][.?!])\s+(?=[^a-z.])")
 FILE = re.compile(r"[\w+]+(?:/[\w+.-]+)+")
@@ -257,10 +258,15 @@ def check_files(results):
 
 
 def check_widths(results):
-    for name in NARROW:
-        for number, line in enumerate((ROOT / name).read_text().splitlines(), 1):
-            if not line.startswith("|"):
-                results.add(len(line) <= WIDTH, "%s:%d: %d columns" % (name, number, len(line)))
+    """The lines of the documents, outside of tables, and of the files of crates/."""
+    documents = [ROOT / name for name in NARROW]
+    for path in documents + sorted(p for p in (ROOT / "crates").rglob("*") if p.suffix in (".rt", ".antt")):
+        wide = [
+            (number, len(line))
+            for number, line in enumerate(path.read_text().splitlines(), 1)
+            if len(line) > WIDTH and not line.startswith("|")
+        ]
+        results.add(not wide, "%s: lines of more than %d columns: %s" % (path.relative_to(ROOT), WIDTH, wide))
 
 
 def main():
