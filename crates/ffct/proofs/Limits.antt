@@ -53,16 +53,16 @@ bounded L x a i h = size-within (x i) (a .range i (omega (arith, pow-len L)))
 pub limits : (L : ℕ) (x : Samples) → AcceptedBlock L x → Limits L x
 limits L x a = record {
   cosine = λ k h. rw (pow-len L, cos-exact (per L) (len L) x k w)
-      (near-within (eighth (len L)) (dft k (omega (arith, pow-len L)) .0) (dft-small L (a .length)));
+      (near-within (eighth (len L)) (dft k (omega (arith, pow-len L)) .0) (dft-small L (a .level-ok)));
   sine = λ k h. rw (pow-len L, sin-exact (per L) (len L) x k w)
-      (near-within (eighth (len L)) (dft k (omega (arith, pow-len L)) .1) (dft-small L (a .length)));
+      (near-within (eighth (len L)) (dft k (omega (arith, pow-len L)) .1) (dft-small L (a .level-ok)));
   dct = λ k h.
       let near = dct-near L (per L) x largestSample w (bounded L x a) k (omega (arith, pow-len L)) in
-      rw (pow-len L, dct-exact (per L) (len L) x k w) (near-within (quarterOfNext (len L)) near (dct-small L (a .length)));
+      rw (pow-len L, dct-exact (per L) (len L) x k w) (near-within (quarterOfNext (len L)) near (dct-small L (a .level-ok)));
 }
   where
     w : len L * per L ≡ 1024
-    w = len-per L (a .length)
+    w = len-per L (a .level-ok)
 
     dft : (k : ℕ) → 2 * k ≤ len L → BothNear L (per L) x k (dftError L largestSample)
     dft = dft-near L (per L) x largestSample w (bounded L x a)
@@ -88,14 +88,14 @@ unfolding pair spectrum
 pair-limits L a b A B = record {
   real = λ k h.
       let sum = near-add (near a A k (omega (arith, pow-len L)) .0) (near b B k (omega (arith, pow-len L)) .1) in
-      rw (pow-len L, real-exact (per L) (len L) a b k w) (near-within (quarter (len L)) sum (pair-small L (A .length)));
+      rw (pow-len L, real-exact (per L) (len L) a b k w) (near-within (quarter (len L)) sum (pair-small L (A .level-ok)));
   imaginary = λ k h.
       let difference = near-add (near b B k (omega (arith, pow-len L)) .0) (near-neg (near a A k (omega (arith, pow-len L)) .1)) in
-      rw (pow-len L, imaginary-exact (per L) (len L) a b k w) (near-within (quarter (len L)) difference (pair-small L (A .length)));
+      rw (pow-len L, imaginary-exact (per L) (len L) a b k w) (near-within (quarter (len L)) difference (pair-small L (A .level-ok)));
 }
   where
     w : len L * per L ≡ 1024
-    w = len-per L (A .length)
+    w = len-per L (A .level-ok)
 
     near : (x : Samples) → AcceptedBlock L x → (k : ℕ) → k < len L → BeyondNear L (per L) x k (dftError L largestSample)
     near x X = everywhere L (per L) x largestSample w (bounded L x X)

@@ -150,8 +150,8 @@ rotation-fits hC hS hc hs =
 pub accepted-inner : {L : ℕ} {x : Samples} → AcceptedBlock L x → Inner L x largestSample
 unfolding both below
 accepted-inner {L} {x} a = record {
-  level = a .length;
-  small = leb→le _ _ (below-at 11 (λ L. leb (len L * largestSample) largestSum) tt L (omega (arith, a .length)));
+  level = a .level-ok;
+  small = leb→le _ _ (below-at 11 (λ L. leb (len L * largestSample) largestSum) tt L (omega (arith, a .level-ok)));
   bounded = λ i h. size-within (x i) (a .range i (omega (arith, pow-len L)));
 }
 

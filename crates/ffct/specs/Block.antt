@@ -39,5 +39,5 @@ largestSum = 1024000000
 
 -- "an accepted block": N is one of the eleven lengths, and each of its samples is in range
 pub record AcceptedBlock (L : ℕ) (x : Samples) : Type 0 where
-  pub length : L ≤ topLevel
+  pub level-ok : L ≤ topLevel
   pub range : (n : ℕ) → n < 2 ^ L → natAbs (x n) ≤ largestSample

@@ -75,14 +75,14 @@ pub record CountsTold (N dctP′ dctS′ spectrumP′ spectrumS′ pairP′ pair
 -- ---- reading a file
 
 -- The answer of the reader in four plain numbers. The sizes are 0 in every refusal, and the place is 0 in every answer but refusal 6.
-pub record FileTold (answer : FileAnswer) (samples length place number : ℕ) : Type 0 where
+pub record FileTold (answer : FileAnswer) (m N place number : ℕ) : Type 0 where
   pub number-is : number ≡ numberOf (file.verdictOf answer)
-  pub samples-is : samples ≡ file.samples answer
-  pub length-is : length ≡ file.length answer
-  pub place-is : place ≡ file.place answer
+  pub samples-is : m ≡ file.sampleCountOf answer
+  pub length-is : N ≡ file.blockLengthOf answer
+  pub place-is : place ≡ file.placeOf answer
 
 -- There is an answer of which the promise of the reader holds, with these recordings before and after, and it is the answer told.
-pub record ReadTold (bytes : List ℕ) (a b a′ b′ : List ℤ) (samples′ length′ place′ number : ℕ) : Type 0 where
+pub record ReadTold (bytes : List ℕ) (a b a′ b′ : List ℤ) (m′ N′ place′ number : ℕ) : Type 0 where
   pub answer : FileAnswer
   pub promise : ReadPromise bytes a b a′ b′ answer
-  pub told : FileTold answer samples′ length′ place′ number
+  pub told : FileTold answer m′ N′ place′ number

@@ -18,8 +18,8 @@ use Rattle.pairfile.proofs.Verdicts.{Passed9, accepted-9}
 
 -- the files f and g read as the same m, N and samples
 pub record SameReading (f g : List ℕ) : Type 0 where
-  pub samples : sampleCount f ≡ sampleCount g
-  pub length : blockLength f ≡ blockLength g
+  pub same-count : sampleCount f ≡ sampleCount g
+  pub same-length : blockLength f ≡ blockLength g
   pub ofA : (n : ℕ) → n < sampleCount f → samplesOfA f n ≡ samplesOfA g n
   pub ofB : (n : ℕ) → n < sampleCount f → samplesOfB f n ≡ samplesOfB g n
 
@@ -31,7 +31,7 @@ OneFile =
 
 module _ (f g : List ℕ) (hf : AreBytes f) (hg : AreBytes g) (p : Passed9 f) (q : Passed9 g) (same : SameReading f g) where
   as-long : length f ≡ length g
-  as-long = omega (arith, p .bytes, q .bytes, same .samples)
+  as-long = omega (arith, p .bytes, q .bytes, same .same-count)
 
   -- equal samples, at the place of number w
   sample-once : (w i j : ℕ) → w < 2 + 2 * sampleCount f → i ≡ 4 * w → j ≡ 4 * w
@@ -44,10 +44,10 @@ module _ (f g : List ℕ) (hf : AreBytes f) (hg : AreBytes g) (p : Passed9 f) (q
 
   -- number w of the file: m, N, a sample of a or a sample of b
   number : (w : ℕ) → w < 2 + 2 * sampleCount f → unsigned f (4 * w) ≡ unsigned g (4 * w)
-  number zero h = same .samples
-  number (suc zero) h = same .length
+  number zero h = same .same-count
+  number (suc zero) h = same .same-length
   number (suc (suc n)) h = ⊎-elim
-      (λ l. sample-once (suc (suc n)) _ _ h (omega arith) (omega (arith, same .samples)) (same .ofB (n - sampleCount f) (omega arith)))
+      (λ l. sample-once (suc (suc n)) _ _ h (omega arith) (omega (arith, same .same-count)) (same .ofB (n - sampleCount f) (omega arith)))
       (λ l. sample-once (suc (suc n)) _ _ h (omega arith) (omega arith) (same .ofA n l))
       (le-or-lt (sampleCount f) n)
 

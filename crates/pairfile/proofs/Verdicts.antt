@@ -143,8 +143,8 @@ module _ {file : List ℕ} {a b : List ℤ} where
     verdict = sym (is-accepted p);
     unchanged = λ n. absurd (n refl);
     done = λ _. record {
-      samples = e;
-      length = l;
+      samples-is = e;
+      length-is = l;
       wordsOfA = v;
       wordsOfB = subst (λ m. Written 0 (sizes .samples) (samplesAt file (startOfB m)) b b′) e w;
       some = omega (arith, counted .some);

@@ -14,31 +14,31 @@ verdictOf RecordingTooShort = refused 3
 verdictOf (OutOfRange place) = refusedAt 6 place
 verdictOf (Read sizes) = accepted
 
--- the sizes of a file that was read: m and N
-abbrev pub samples : FileAnswer → ℕ
-samples BelowHeader = 0
-samples BadCount = 0
-samples BadFileLength = 0
-samples BadLength = 0
-samples RecordingTooShort = 0
-samples (OutOfRange place) = 0
-samples (Read sizes) = sizes .samples
+-- the sizes of a file that was read, m and N; 0 in every refusal
+abbrev pub sampleCountOf : FileAnswer → ℕ
+sampleCountOf BelowHeader = 0
+sampleCountOf BadCount = 0
+sampleCountOf BadFileLength = 0
+sampleCountOf BadLength = 0
+sampleCountOf RecordingTooShort = 0
+sampleCountOf (OutOfRange place) = 0
+sampleCountOf (Read sizes) = sizes .samples
 
-abbrev pub length : FileAnswer → ℕ
-length BelowHeader = 0
-length BadCount = 0
-length BadFileLength = 0
-length BadLength = 0
-length RecordingTooShort = 0
-length (OutOfRange place) = 0
-length (Read sizes) = sizes .length
+abbrev pub blockLengthOf : FileAnswer → ℕ
+blockLengthOf BelowHeader = 0
+blockLengthOf BadCount = 0
+blockLengthOf BadFileLength = 0
+blockLengthOf BadLength = 0
+blockLengthOf RecordingTooShort = 0
+blockLengthOf (OutOfRange place) = 0
+blockLengthOf (Read sizes) = sizes .length
 
 -- the place of refusal 6, in the recording of its sample; 0 in every other answer
-abbrev pub place : FileAnswer → ℕ
-place BelowHeader = 0
-place BadCount = 0
-place BadFileLength = 0
-place BadLength = 0
-place RecordingTooShort = 0
-place (OutOfRange i) = i
-place (Read sizes) = 0
+abbrev pub placeOf : FileAnswer → ℕ
+placeOf BelowHeader = 0
+placeOf BadCount = 0
+placeOf BadFileLength = 0
+placeOf BadLength = 0
+placeOf RecordingTooShort = 0
+placeOf (OutOfRange i) = i
+placeOf (Read sizes) = 0

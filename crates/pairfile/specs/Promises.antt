@@ -10,13 +10,12 @@ use Rattle.ffct.specs.Block.{isLength, largestSample}
 use Rattle.refusals.specs.Refusals.{accepted}
 use Rattle.pairfile.specs.declared.FileAnswer.{FileAnswer}
 use Rattle.pairfile.specs.File.{sampleCount, blockLength, samplesOfA, samplesOfB, mostSamples, fileVerdict}
-use Rattle.pairfile.specs.Answers.{verdictOf, samples}
-use Rattle.pairfile.specs.Answers as Answers
+use Rattle.pairfile.specs.Answers.{verdictOf, sampleCountOf, blockLengthOf}
 
 -- "Reading a file writes its samples to two lent recordings, m words each, and returns m and N; words beyond m stay."
 pub record ReadDone (file : List ℕ) (a b a′ b′ : List ℤ) (m N : ℕ) : Type 0 where
-  pub samples : m ≡ sampleCount file
-  pub length : N ≡ blockLength file
+  pub samples-is : m ≡ sampleCount file
+  pub length-is : N ≡ blockLength file
   pub wordsOfA : Written 0 m (samplesOfA file) a a′
   pub wordsOfB : Written 0 m (samplesOfB file) b b′
   -- what acceptance says of them
@@ -29,4 +28,4 @@ pub record ReadDone (file : List ℕ) (a b a′ b′ : List ℤ) (m N : ℕ) : T
 pub record ReadPromise (file : List ℕ) (a b a′ b′ : List ℤ) (answer : FileAnswer) : Type 0 where
   pub verdict : verdictOf answer ≡ fileVerdict file (length a ∷ length b ∷ [])
   pub unchanged : (verdictOf answer ≡ accepted → ⊥) → (a′ ≡ a) × (b′ ≡ b)
-  pub done : verdictOf answer ≡ accepted → ReadDone file a b a′ b′ (samples answer) (Answers.length answer)
+  pub done : verdictOf answer ≡ accepted → ReadDone file a b a′ b′ (sampleCountOf answer) (blockLengthOf answer)

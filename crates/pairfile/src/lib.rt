@@ -10,8 +10,7 @@ ghost use lib.ListN.{length};
 ghost use Rattle.words.specs.Words.{Written};
 ghost use Rattle.refusals.specs.Refusals.{firstOut, number};
 ghost use Rattle.pairfile.specs.File.{samplesAt};
-ghost use Rattle.pairfile.specs.Answers.{verdictOf, samples, place};
-ghost use Rattle.pairfile.specs.Answers.{length as Answers·length};
+ghost use Rattle.pairfile.specs.Answers.{verdictOf, sampleCountOf, blockLengthOf, placeOf};
 ghost use Rattle.pairfile.specs.Promises.{ReadPromise};
 
 // The sizes of a file: m samples of each recording, in blocks of N.
@@ -120,7 +119,7 @@ pub fn number_of(answer: FileAnswer) -> u64
 
 // The sizes of a file that was read; else 0 and 0.
 pub fn sizes_of(answer: FileAnswer) -> Sizes
-    ensures { λ r. ⌜ (r .samples ≡ samples answer) × (r .length ≡ Answers·length answer) ⌝ }
+    ensures { λ r. ⌜ (r .samples ≡ sampleCountOf answer) × (r .length ≡ blockLengthOf answer) ⌝ }
 {
     let none = Sizes {
         samples: 0,
@@ -139,7 +138,7 @@ pub fn sizes_of(answer: FileAnswer) -> Sizes
 
 // The place of the first sample out of range, of refusal 6; else 0.
 pub fn place_of(answer: FileAnswer) -> usize
-    ensures { λ r. ⌜ r ≡ place answer ⌝ }
+    ensures { λ r. ⌜ r ≡ placeOf answer ⌝ }
 {
     match answer {
         FileAnswer::OutOfRange(place) => place,

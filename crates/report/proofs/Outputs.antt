@@ -87,7 +87,7 @@ module _ {file : List ℕ} {a b a′ b′ : List ℤ} {m N : ℕ} (r : ReadDone 
       let ok = r .length-ok in
       let same = same-blocks N ok (word a′) (samplesOfA file) (word b′) (samplesOfB file) (front (r .wordsOfA)) (front (r .wordsOfB)) in
       ap (λ l. heading ++ l) (same (m / N) (whole-blocks (m / N) m N ok (omega arith)))
-      ∙ ap₂ (λ m N. spectra m N (samplesOfA file) (samplesOfB file)) (r .samples) (r .length)
+      ∙ ap₂ (λ m N. spectra m N (samplesOfA file) (samplesOfB file)) (r .samples-is) (r .length-is)
 
   pub read-printable : {real imaginary scratch : List ℤ} → mostSamples ≤ length a → mostSamples ≤ length b
       → 1024 ≤ length real → 1024 ≤ length imaginary → 8256 ≤ length scratch → Printable m N a′ b′ real imaginary scratch
