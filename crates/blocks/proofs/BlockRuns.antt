@@ -43,7 +43,7 @@ module _ {block : List ℤ} (r : InRange block) where
   x = word block
 
   accepted : AcceptedBlock L x
-  accepted = record { length = level-le n (r .length-ok); range = λ i h. r .range i (omega (arith, is-power n (r .length-ok))) }
+  accepted = record { level-ok = level-le n (r .length-ok); range = λ i h. r .range i (omega (arith, is-power n (r .length-ok))) }
 
   -- no count overflows
   pub few : FewOperations L x

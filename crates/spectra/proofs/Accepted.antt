@@ -54,7 +54,7 @@ fits {call} p =
 module _ {recording : List ℤ} {start N : ℕ} (f : Fit recording start N) where
   fit-block : AcceptedBlock (level N) (block recording start)
   fit-block = record {
-    length = level-le N (f .length-ok);
+    level-ok = level-le N (f .length-ok);
     range = λ n h. all-in (word recording) start N (f .range) n (omega (arith, is-power N (f .length-ok)));
   }
 
