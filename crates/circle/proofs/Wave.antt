@@ -11,12 +11,12 @@ use lib.IntN.{ℤ, pos, negℤ}
 use borrow.Author.Tests.{lt-ltb, le-ltb}
 use Rattle.whole.proofs.Cases.{le-or-lt, both}
 use Rattle.whole.proofs.Size.{_within_, within-neg}
-use Rattle.circle.specs.Circle.{B, rootOf, halved, Pair, unitStep, step, stepped, quarter, K}
+use Rattle.circle.specs.Circle.{B, rootOf, halved, Point, unitStep, step, stepped, firstQuarter, K}
 use Rattle.circle.proofs.Tests.{small, entry, allSmall, all-small}
 use Rattle.circle.proofs.Places.{K-cases, K-quarter}
 
 -- the unit step in digits
-abbrev pub unit : Pair
+abbrev pub unit : Point
 unit = record { c = pos 1208924397255013589970077; s = pos 1854468253976911811195 }
 
 unit-is : unitStep ≡ unit
@@ -24,7 +24,7 @@ unfolding rootOf halved unitStep
 unit-is = refl
 
 -- the cosines of n places from the pair p on, each a step further, and a zero
-unfoldable pub cosines : Pair → ℕ → Pair → List ℤ
+unfoldable pub cosines : Point → ℕ → Point → List ℤ
 cosines one zero p = pos 0 ∷ []
 cosines one (suc n) p = p .c ∷ cosines one n (step one p)
 
@@ -39,7 +39,7 @@ cosines-at (suc n) i zero h = ap (λ k. stepped k .c) {x = i} {y = i + 0} (omega
 cosines-at (suc n) i (suc j) h =
     cosines-at n (suc i) j (omega arith) ∙ ap (λ k. stepped k .c) {x = suc i + j} {y = i + suc j} (omega arith)
 
-cosines-end : (n j : ℕ) (p : Pair) → n ≤ j → getD (cosines unitStep n p) j (pos 0) ≡ pos 0
+cosines-end : (n j : ℕ) (p : Point) → n ≤ j → getD (cosines unitStep n p) j (pos 0) ≡ pos 0
 unfolding cosines
 cosines-end zero zero p h = refl
 cosines-end zero (suc j) p h = refl
@@ -50,8 +50,8 @@ wave-is : wave ≡ cosines unitStep 1024 (stepped 0)
 unfolding wave stepped
 wave-is = rw unit-is
 
-quarter-at : (j : ℕ) → quarter j ≡ getD wave j (pos 0)
-unfolding quarter
+quarter-at : (j : ℕ) → firstQuarter j ≡ getD wave j (pos 0)
+unfolding firstQuarter
 quarter-at j = ⊎-elim
     (λ l. rw (le-ltb j 1024 l, wave-is) (sym (cosines-end 1024 j (stepped 0) l)))
     (λ l. rw (lt-ltb j 1024 l, wave-is) (sym (cosines-at 1024 0 j l ∙ ap (λ k. stepped k .c) {x = 0 + j} {y = j} (omega arith))))
@@ -70,14 +70,14 @@ wave-small : T (allSmall B wave)
 unfolding allSmall both small wave cosines step
 wave-small = tt
 
-quarter-within : (j : ℕ) → quarter j within B
+quarter-within : (j : ℕ) → firstQuarter j within B
 unfolding entry
 quarter-within j = rw (quarter-at j) (all-small B wave wave-small j)
 
 pub K-within : (p : ℕ) → K p within B
 K-within p = go (K-cases p)
   where
-    go : (j : ℕ) × ((K p ≡ quarter j) ⊎ (K p ≡ negℤ (quarter j))) → K p within B
+    go : (j : ℕ) × ((K p ≡ firstQuarter j) ⊎ (K p ≡ negℤ (firstQuarter j))) → K p within B
     go c = ⊎-elim (λ e. rw e (quarter-within (c .0))) (λ e. rw e (within-neg (quarter-within (c .0)))) (c .1)
 
 pub K-start : K 0 ≡ pos B

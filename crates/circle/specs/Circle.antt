@@ -32,17 +32,17 @@ halved (suc times) =
     let c = halved times .0 in
     (root (B * (B + c) / 2), root (B * (B - c) / 2))
 
--- a place's cosine and sine, times B
-pub record Pair : Type 0 where
+-- a point of the circle with radius B: the cosine and the sine of its place, times B
+pub record Point : Type 0 where
   pub c : ℤ
   pub s : ℤ
 
 -- "The last pair is the unit step."
-unfoldable pub unitStep : Pair
+unfoldable pub unitStep : Point
 unitStep = record { c = pos (halved 10 .0); s = pos (halved 10 .1) }
 
 -- "the new pair is (c·c1 − s·s1)/B and (s·c1 + c·s1)/B, where (c1, s1) is the unit step"
-unfoldable pub step : Pair → Pair → Pair
+unfoldable pub step : Point → Point → Point
 step one old =
     record {
       c = shrZ (old .c *ℤ one .c -ℤ old .s *ℤ one .s) B;
@@ -50,23 +50,23 @@ step one old =
     }
 
 -- "From (B, 0), step j times"
-unfoldable pub stepped : ℕ → Pair
+unfoldable pub stepped : ℕ → Point
 stepped zero = record { c = pos B; s = pos 0 }
 stepped (suc j) = step unitStep (stepped j)
 
 -- "K(j) is the c reached, for j = 0 .. 1,023, and K(1024) is 0."
-unfoldable pub quarter : ℕ → ℤ
-quarter j = cond (ltb j 1024) (stepped j .c) (pos 0)
+unfoldable pub firstQuarter : ℕ → ℤ
+firstQuarter j = cond (ltb j 1024) (stepped j .c) (pos 0)
 
 -- "For the other places K(2048 − j) = −K(j) ..": the places 0 .. 2,048
-unfoldable pub half : ℕ → ℤ
-half j = cond (leb j 1024) (quarter j) (negℤ (quarter (2048 - j)))
+unfoldable pub firstHalf : ℕ → ℤ
+firstHalf j = cond (leb j 1024) (firstQuarter j) (negℤ (firstQuarter (2048 - j)))
 
 -- ".. and K(4096 − j) = K(j). Places are taken modulo 4,096."
 unfoldable pub K : ℕ → ℤ
 K place =
     let j = place % 4096 in
-    cond (leb j 2048) (half j) (half (4096 - j))
+    cond (leb j 2048) (firstHalf j) (firstHalf (4096 - j))
 
 -- the sine's place is p − 1,024: modulo 4,096 that is p + 3,072 (p - 1024 on natural numbers would stop at 0)
 abbrev pub sineAt : ℕ → ℤ

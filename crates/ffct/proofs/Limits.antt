@@ -85,17 +85,17 @@ everywhere (suc L) w x X q b k h = (
 
 pub pair-limits : (L : ℕ) (a b : Samples) → AcceptedBlock L a → AcceptedBlock L b → PairLimits L a b
 unfolding pair spectrum
-pair-limits L a b A B = record {
+pair-limits L a b okA okB = record {
   real = λ k h.
-      let sum = near-add (near a A k (omega (arith, pow-len L)) .0) (near b B k (omega (arith, pow-len L)) .1) in
-      rw (pow-len L, real-exact (per L) (len L) a b k w) (near-within (quarter (len L)) sum (pair-small L (A .level-ok)));
+      let sum = near-add (near a okA k (omega (arith, pow-len L)) .0) (near b okB k (omega (arith, pow-len L)) .1) in
+      rw (pow-len L, real-exact (per L) (len L) a b k w) (near-within (quarter (len L)) sum (pair-small L (okA .level-ok)));
   imaginary = λ k h.
-      let difference = near-add (near b B k (omega (arith, pow-len L)) .0) (near-neg (near a A k (omega (arith, pow-len L)) .1)) in
-      rw (pow-len L, imaginary-exact (per L) (len L) a b k w) (near-within (quarter (len L)) difference (pair-small L (A .level-ok)));
+      let difference = near-add (near b okB k (omega (arith, pow-len L)) .0) (near-neg (near a okA k (omega (arith, pow-len L)) .1)) in
+      rw (pow-len L, imaginary-exact (per L) (len L) a b k w) (near-within (quarter (len L)) difference (pair-small L (okA .level-ok)));
 }
   where
     w : len L * per L ≡ 1024
-    w = len-per L (A .level-ok)
+    w = len-per L (okA .level-ok)
 
     near : (x : Samples) → AcceptedBlock L x → (k : ℕ) → k < len L → BeyondNear L (per L) x k (dftError L largestSample)
     near x X = everywhere L (per L) x largestSample w (bounded L x X)

@@ -177,9 +177,9 @@ pub record PairFits (L : ℕ) (a b : Samples) : Type 0 where
 
 pub pair-fits : (L : ℕ) (a b : Samples) → AcceptedBlock L a → AcceptedBlock L b → PairFits L a b
 unfolding pair spectrum
-pair-fits L a b A B = record {
-  real = λ k h. within-fits (within-add (cosine-part (accepted-inner A) k h) (sine-part (accepted-inner B) k h)) (lit< tt);
-  imaginary = λ k h. within-fits (within-sub (cosine-part (accepted-inner B) k h) (sine-part (accepted-inner A) k h)) (lit< tt);
+pair-fits L a b okA okB = record {
+  real = λ k h. within-fits (within-add (cosine-part (accepted-inner okA) k h) (sine-part (accepted-inner okB) k h)) (lit< tt);
+  imaginary = λ k h. within-fits (within-sub (cosine-part (accepted-inner okB) k h) (sine-part (accepted-inner okA) k h)) (lit< tt);
 }
   where
     cosine-part : {x : Samples} → Inner L x largestSample → (k : ℕ) → k < 2 ^ L

@@ -4,8 +4,7 @@ use mathlib.Core.Path.{_≡_}
 use mathlib.Core.List.{List, [], _∷_}
 use Prim.Native.Nat.{ℕ, zero, suc, _/_, _+_, _^_}
 use lib.IntN.{ℤ, pos, negsuc}
-use lib.ListN.{getD}
-use Rattle.words.specs.Words.{Samples}
+use Rattle.words.specs.Words.{Samples, word}
 use Rattle.ffct.specs.Transforms.{dct, spectrum}
 
 -- an example: a block of 2 ^ L samples with what Spectrum or the DCT gives, or what every block of 2 ^ L samples costs
@@ -15,10 +14,6 @@ pub data Example : Type 0 where
   dctCosts : (L products sums : ℕ) → Example
   spectrumCosts : (L products sums : ℕ) → Example
 
--- the samples of a block that is written as a list
-abbrev pub samples : List ℤ → Samples
-samples block n = getD block n (pos 0)
-
 -- f 0, f 1, .. f (n - 1) stand before rest
 unfoldable pub values : ℕ → (ℕ → ℤ) → List ℤ → List ℤ
 values zero f rest = rest
@@ -26,9 +21,9 @@ values (suc n) f rest = values n f (f n ∷ rest)
 
 abbrev pub Holds : Example → Type 0
 Holds (spectrumGives L block cosine sine) =
-    (values (2 ^ L / 2 + 1) (spectrum L (samples block) .cosine) [] ≡ cosine)
-    × (values (2 ^ L / 2 + 1) (spectrum L (samples block) .sine) [] ≡ sine)
-Holds (dctGives L block coefficients) = values (2 ^ L) (dct L (samples block) .at) [] ≡ coefficients
+    (values (2 ^ L / 2 + 1) (spectrum L (word block) .cosine) [] ≡ cosine)
+    × (values (2 ^ L / 2 + 1) (spectrum L (word block) .sine) [] ≡ sine)
+Holds (dctGives L block coefficients) = values (2 ^ L) (dct L (word block) .at) [] ≡ coefficients
 Holds (dctCosts L products sums) = (x : Samples) → (dct L x .products ≡ products) × (dct L x .sums ≡ sums)
 Holds (spectrumCosts L products sums) = (x : Samples) → (spectrum L x .products ≡ products) × (spectrum L x .sums ≡ sums)
 

@@ -93,9 +93,9 @@ dctBy (suc L) cosine sine x =
 -- ---- cosine-DFT and sine-DFT: "From N = 4, cosine-DFT by (12) .. Sine-DFT by (15) .."
 
 unfoldable mutual
-  -- "N = 1: cosine-DFT(0) = x(0)"; "N = 2: cosine-DFT is x(0) + x(1), x(0) − x(1)", two sums by (26); from N = 4 (12): "that of N/2 on the
-  -- even samples plus the DCT of N/4 on x(2n+1) + x(N−2n−1)". (24): N/4 sums of samples and N/2 sums of coefficients, for k = 0 .. N/2
-  -- without k = N/4, where (6) makes a term zero
+  -- "N = 1: cosine-DFT(0) = .. x(0)"; "N = 2: cosine-DFT is x(0) + x(1), x(0) − x(1)", two sums by (26); from N = 4 (12): "that of N/2 on
+  -- the even samples plus the DCT of N/4 on x(2n+1) + x(N−2n−1)". (24): N/4 sums of samples and N/2 sums of coefficients, for
+  -- k = 0 .. N/2 without k = N/4, where (6) makes a term zero
   pub cosineDft : ℕ → Samples → Transform
   cosineDft zero x = record { at = λ k. x 0; products = 0; sums = 0 }
   cosineDft (suc zero) x = record { at = λ k. cond (eqb k 0) (x 0 +ℤ x 1) (x 0 -ℤ x 1); products = 0; sums = 2 }
@@ -154,11 +154,11 @@ pub record PairSpectrum : Type 0 where
 unfoldable pub pair : ℕ → Samples → Samples → PairSpectrum
 pair L a b =
     let N = 2 ^ L in
-    let A = spectrum L a in
-    let B = spectrum L b in
+    let ofA = spectrum L a in
+    let ofB = spectrum L b in
     record {
-      real = λ k. cosineBeyond N (A .cosine) k +ℤ sineBeyond N (B .sine) k;
-      imaginary = λ k. cosineBeyond N (B .cosine) k -ℤ sineBeyond N (A .sine) k;
-      products = A .products + B .products;
-      sums = A .sums + B .sums + 2 * (N - 2);
+      real = λ k. cosineBeyond N (ofA .cosine) k +ℤ sineBeyond N (ofB .sine) k;
+      imaginary = λ k. cosineBeyond N (ofB .cosine) k -ℤ sineBeyond N (ofA .sine) k;
+      products = ofA .products + ofB .products;
+      sums = ofA .sums + ofB .sums + 2 * (N - 2);
     }

@@ -1,4 +1,4 @@
--- "Two different accepted files never read as the same m, N and samples": a file is the list of its numbers of four bytes, and each of
+-- Two accepted files that read as the same m, N and samples are one file: a file is the list of its numbers of four bytes, and each of
 -- them is read.
 -- Assumes nothing.
 use mathlib.Core.List.{List}

@@ -17,7 +17,7 @@ spelled (suc k) n = cond (ltb n 10) (digit n ∷ []) (spelled k (n / 10) ++ (dig
 unfoldable pub number : ℕ → List ℕ
 number n = spelled 19 n
 
--- "a minus sign for negatives"
+-- a negative number begins with the minus sign
 unfoldable pub decimal : ℤ → List ℕ
 decimal (pos n) = number n
 decimal (negsuc n) = 45 ∷ number (suc n)
