@@ -10,7 +10,7 @@ use Rattle.ffct.specs.Block.{topLevel, isLength, level}
 use Rattle.ffct.specs.Transforms.{evens, foldedSums, foldedDifferences, rearranged, cosineDft, sineDft, dct, spectrum, pair}
 use Rattle.ffct.proofs.Lengths.{len, pow-len, len-injective}
 use Rattle.ffct.proofs.Steps.{cosine-products, cosine-sums, sine-products, sine-sums, dct-products, dct-sums}
-use Rattle.ffct.proofs.Counts.{few-operations, published, nothing-at-one}
+use Rattle.ffct.proofs.Counts.{few-operations, published}
 use Rattle.ffct.proofs.ElevenLengths.{is-power, one-level, some-level, exponent-lt}
 use Rattle.counts.specs.Counts.{Costs, LevelCosts, SixCounts, SixPublished}
 use Rattle.counts.specs.declared.tally.Tally.{Tally}
@@ -112,11 +112,11 @@ six-published {N} h c =
           let (products, sums) = c .ofPair zeros zeros in
           (ap pos products ∙ forms .pairP zeros zeros some, ap pos sums ∙ forms .pairS zeros zeros some);
       nothingAtOne = λ e.
-          let c′ = rw (one-level N e) at c in
-          let none = nothing-at-one zeros zeros in (
-            c′ .ofSpectrum zeros .0 ∙ none .0,
-            c′ .ofSpectrum zeros .1 ∙ none .1,
-            c′ .ofPair zeros zeros .0 ∙ none .2,
-            c′ .ofPair zeros zeros .1 ∙ none .3,
+          let spectrumNone = forms .spectrumAtOne zeros (one-level N e) in
+          let pairNone = forms .pairAtOne zeros zeros (one-level N e) in (
+            c .ofSpectrum zeros .0 ∙ spectrumNone .0,
+            c .ofSpectrum zeros .1 ∙ spectrumNone .1,
+            c .ofPair zeros zeros .0 ∙ pairNone .0,
+            c .ofPair zeros zeros .1 ∙ pairNone .1,
           );
     }

@@ -18,7 +18,7 @@ use Rattle.words.specs.Words.{Samples}
 use Rattle.ffct.specs.Block.{topLevel}
 use Rattle.ffct.specs.Transforms.{evens, foldedSums, foldedDifferences, rearranged, dctBy, cosineDft, sineDft, dct, spectrum, pair}
 use Rattle.ffct.specs.Counts.{dctProducts, dctSums, spectrumProducts, spectrumSums, pairProducts, pairSums}
-use Rattle.ffct.specs.Limits.{PublishedCounts}
+use Rattle.ffct.specs.Limits.{SameCounts, PublishedCounts}
 
 -- ---- the closed forms over ℕ: doubled and with the negative terms on the other side, so that nothing is halved or subtracted
 
@@ -55,17 +55,32 @@ closed-spectrum zero x h = omega arith
 closed-spectrum (suc L) x h = omega (arith, closed L x, next L)
 
 -- ---- "The length alone decides the counts": the closed forms do not mention the samples
-pub record SameCounts (L : ℕ) (x y : Samples) : Type 0 where
-  pub cosineP : cosineDft L x .products ≡ cosineDft L y .products
-  pub cosineS : cosineDft L x .sums ≡ cosineDft L y .sums
-  pub sineP : sineDft L x .products ≡ sineDft L y .products
-  pub sineS : sineDft L x .sums ≡ sineDft L y .sums
-  pub dctP : dct L x .products ≡ dct L y .products
-  pub dctS : dct L x .sums ≡ dct L y .sums
+record SameParts (L : ℕ) (x y : Samples) : Type 0 where
+  cosineP : cosineDft L x .products ≡ cosineDft L y .products
+  cosineS : cosineDft L x .sums ≡ cosineDft L y .sums
+  sineP : sineDft L x .products ≡ sineDft L y .products
+  sineS : sineDft L x .sums ≡ sineDft L y .sums
+  dctP : dct L x .products ≡ dct L y .products
+  dctS : dct L x .sums ≡ dct L y .sums
+
+same-parts : (L : ℕ) (x y : Samples) → SameParts L x y
+same-parts zero x y = unfold dctBy cosineDft dct in omega arith
+same-parts (suc L) x y = omega (arith, closed L x, closed L y, closed (suc L) x, closed (suc L) y)
 
 pub same-counts : (L : ℕ) (x y : Samples) → SameCounts L x y
-same-counts zero x y = unfold dctBy cosineDft dct in omega arith
-same-counts (suc L) x y = omega (arith, closed L x, closed L y, closed (suc L) x, closed (suc L) y)
+unfolding spectrum pair
+same-counts L x y = let s = same-parts L x y in record {
+  cosineP = s .cosineP;
+  cosineS = s .cosineS;
+  sineP = s .sineP;
+  sineS = s .sineS;
+  dctP = s .dctP;
+  dctS = s .dctS;
+  spectrumP = omega arith;
+  spectrumS = omega arith;
+  pairP = λ a b. omega (arith, same-parts L a b);
+  pairS = λ a b. omega (arith, same-parts L a b);
+}
 
 -- ---- the closed forms as published, over ℤ: a count d that is N (a - b) + c, or N (a - b) / 2 + c
 module _ (N a b c d : ℕ) where
@@ -81,6 +96,14 @@ module _ (N a b c d : ℕ) where
           let l = f .below in
           rw (parts q) (simp diff (omega near))
 
+spectrum-at-one : (x : Samples) → (spectrum 0 x .products ≡ 0) × (spectrum 0 x .sums ≡ 0)
+unfolding cosineDft spectrum
+spectrum-at-one x = (refl, refl)
+
+pair-at-one : (a b : Samples) → (pair 0 a b .products ≡ 0) × (pair 0 a b .sums ≡ 0)
+unfolding cosineDft spectrum pair
+pair-at-one a b = (refl, refl)
+
 pub published : (L : ℕ) → PublishedCounts L
 unfolding int pair dctProducts dctSums spectrumProducts spectrumSums pairProducts pairSums
 published L = record {
@@ -91,13 +114,9 @@ published L = record {
   pairP = λ a b h. signed (2 ^ L) L 3 4 _ (omega (arith, closed-spectrum L a h, closed-spectrum L b h));
   pairS = λ a b h.
       signed (3 * 2 ^ L) L 1 4 _ (omega (arith, closed-spectrum L a h, closed-spectrum L b h, pow-le-pow-right {n = 2} (lit< tt) h));
+  spectrumAtOne = λ x e. rw e (spectrum-at-one x);
+  pairAtOne = λ a b e. rw e (pair-at-one a b);
 }
-
--- "N = 1 costs nothing": here the published forms of Spectrum and Pair are wrong
-pub nothing-at-one : (a b : Samples) →
-    (spectrum 0 a .products ≡ 0) × (spectrum 0 a .sums ≡ 0) × (pair 0 a b .products ≡ 0) × (pair 0 a b .sums ≡ 0)
-unfolding cosineDft spectrum pair
-nothing-at-one a b = (refl, refl, refl, refl)
 
 -- ---- no count of an accepted length overflows a word: a computed test at one block, which says it of all
 pub record FewOperations (L : ℕ) (x : Samples) : Type 0 where

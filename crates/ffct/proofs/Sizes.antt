@@ -9,7 +9,7 @@ use native.Mathlib.Nat.{le-trans, mul-le-mul-left, mul-div-le, le-div-iff-mul-le
 use native.Mathlib.Omega.{arith}
 use lib.Dec.{T, leb, leb→le, lit<, lit≤}
 use lib.IntN.{ℤ, natAbs, _+ℤ_, _-ℤ_, _*ℤ_}
-use mir.Syntax.{w32, w64}
+use mir.Syntax.{w64}
 use mir.Val.{SFits}
 use Rattle.whole.proofs.Cases.{le-or-lt, both, below, below-at}
 use Rattle.whole.proofs.Difference.{int, parts, diff}
@@ -24,6 +24,7 @@ use Rattle.circle.proofs.Stored.{at-entry}
 use Rattle.words.specs.Words.{Samples}
 use Rattle.ffct.specs.Block.{topLevel, largestSample, AcceptedBlock, largestSum}
 use Rattle.ffct.specs.Transforms.{cosineBeyond, sineBeyond, cosineDft, sineDft, dct, spectrum, pair}
+use Rattle.ffct.specs.Limits.{CoefficientsFit, PairFits}
 use Rattle.ffct.proofs.Lengths.{len, pow-len, len-pos, per, len-per}
 use Rattle.ffct.proofs.Steps.{cosine-low, cosine-high, sine-low, sine-high}
 use Rattle.ffct.proofs.Sums.{cos-size, sin-size, dct-size}
@@ -155,11 +156,6 @@ accepted-inner {L} {x} a = record {
   bounded = λ i h. size-within (x i) (a .range i (omega (arith, pow-len L)));
 }
 
-pub record CoefficientsFit (L : ℕ) (x : Samples) : Type 0 where
-  pub cosine : (k : ℕ) → k ≤ 2 ^ L / 2 → SFits w32 (cosineDft L x .at k)
-  pub sine : (k : ℕ) → k ≤ 2 ^ L / 2 → SFits w32 (sineDft L x .at k)
-  pub dct : (k : ℕ) → k < 2 ^ L → SFits w32 (dct L x .at k)
-
 pub coefficients-fit : (L : ℕ) (x : Samples) → AcceptedBlock L x → CoefficientsFit L x
 coefficients-fit L x a = record {
   cosine = λ k h. within-fits (dft-size inner k (omega (arith, pow-len L)) .0) (lit< tt);
@@ -171,10 +167,6 @@ coefficients-fit L x a = record {
     inner = accepted-inner a
 
 -- Pair's parts, each a sum of two coefficients
-pub record PairFits (L : ℕ) (a b : Samples) : Type 0 where
-  pub real : (k : ℕ) → k < 2 ^ L → SFits w32 (pair L a b .real k)
-  pub imaginary : (k : ℕ) → k < 2 ^ L → SFits w32 (pair L a b .imaginary k)
-
 pub pair-fits : (L : ℕ) (a b : Samples) → AcceptedBlock L a → AcceptedBlock L b → PairFits L a b
 unfolding pair spectrum
 pair-fits L a b okA okB = record {

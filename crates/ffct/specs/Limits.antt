@@ -1,7 +1,10 @@
--- Demand 3 and the published counts, as statements about the definitions: proved for every accepted block in proofs/.
+-- What is proved of the definitions, as statements: demand 3 and the sizes of coefficients for every accepted block (proofs/Limits, Sizes),
+-- the counts for every block (proofs/Counts).
 use mathlib.Core.Path.{_≡_}
 use Prim.Native.Nat.{ℕ, _/_, _^_, _≤_, _<_}
 use lib.IntN.{pos}
+use mir.Syntax.{w32}
+use mir.Val.{SFits}
 use Rattle.words.specs.Words.{Samples}
 use Rattle.ffct.specs.Exact.{exactCosine, exactSine, exactDct, exactReal, exactImaginary, eighth, quarterOfNext, quarter, Within}
 use Rattle.ffct.specs.Transforms.{cosineDft, sineDft, dct, spectrum, pair}
@@ -17,8 +20,31 @@ pub record PairLimits (L : ℕ) (a b : Samples) : Type 0 where
   pub real : (k : ℕ) → k < 2 ^ L → Within (quarter (2 ^ L)) (pair L a b .real k) (exactReal (2 ^ L) a b k)
   pub imaginary : (k : ℕ) → k < 2 ^ L → Within (quarter (2 ^ L)) (pair L a b .imaginary k) (exactImaginary (2 ^ L) a b k)
 
--- the counts that the recursion carries are the published ones: the DCT's from N = 1, Spectrum's and Pair's from N = 2; "N = 1 costs
--- nothing"
+-- "Samples and coefficients are signed 32-bit.": every coefficient fits such a word
+pub record CoefficientsFit (L : ℕ) (x : Samples) : Type 0 where
+  pub cosine : (k : ℕ) → k ≤ 2 ^ L / 2 → SFits w32 (cosineDft L x .at k)
+  pub sine : (k : ℕ) → k ≤ 2 ^ L / 2 → SFits w32 (sineDft L x .at k)
+  pub dct : (k : ℕ) → k < 2 ^ L → SFits w32 (dct L x .at k)
+
+pub record PairFits (L : ℕ) (a b : Samples) : Type 0 where
+  pub real : (k : ℕ) → k < 2 ^ L → SFits w32 (pair L a b .real k)
+  pub imaginary : (k : ℕ) → k < 2 ^ L → SFits w32 (pair L a b .imaginary k)
+
+-- "The length alone decides the counts.": two blocks of 2 ^ L samples cost the same, and in Pair two blocks with any two others
+pub record SameCounts (L : ℕ) (x y : Samples) : Type 0 where
+  pub cosineP : cosineDft L x .products ≡ cosineDft L y .products
+  pub cosineS : cosineDft L x .sums ≡ cosineDft L y .sums
+  pub sineP : sineDft L x .products ≡ sineDft L y .products
+  pub sineS : sineDft L x .sums ≡ sineDft L y .sums
+  pub dctP : dct L x .products ≡ dct L y .products
+  pub dctS : dct L x .sums ≡ dct L y .sums
+  pub spectrumP : spectrum L x .products ≡ spectrum L y .products
+  pub spectrumS : spectrum L x .sums ≡ spectrum L y .sums
+  pub pairP : (a b : Samples) → pair L x a .products ≡ pair L y b .products
+  pub pairS : (a b : Samples) → pair L x a .sums ≡ pair L y b .sums
+
+-- the counts that the recursion carries are the published ones: the DCT's from N = 1, Spectrum's and Pair's from N = 2. "N = 1 costs
+-- nothing": there the published forms of Spectrum and Pair are wrong
 pub record PublishedCounts (L : ℕ) : Type 0 where
   pub dctP : (x : Samples) → pos (dct L x .products) ≡ dctProducts L
   pub dctS : (x : Samples) → pos (dct L x .sums) ≡ dctSums L
@@ -26,3 +52,5 @@ pub record PublishedCounts (L : ℕ) : Type 0 where
   pub spectrumS : (x : Samples) → 1 ≤ L → pos (spectrum L x .sums) ≡ spectrumSums L
   pub pairP : (a b : Samples) → 1 ≤ L → pos (pair L a b .products) ≡ pairProducts L
   pub pairS : (a b : Samples) → 1 ≤ L → pos (pair L a b .sums) ≡ pairSums L
+  pub spectrumAtOne : (x : Samples) → L ≡ 0 → (spectrum L x .products ≡ 0) × (spectrum L x .sums ≡ 0)
+  pub pairAtOne : (a b : Samples) → L ≡ 0 → (pair L a b .products ≡ 0) × (pair L a b .sums ≡ 0)

@@ -7,11 +7,7 @@ use native.Mathlib.Nat.{add-zero}
 use native.Mathlib.Omega.{arith}
 use lib.ListN.{length}
 use borrow.Author.Count.{below-none, below-more}
-use Rattle.little_endian.specs.Numbers.{byte, unsigned}
-
--- a list of bytes
-abbrev pub AreBytes : List ℕ → Type 0
-AreBytes file = (k : ℕ) → k < length file → byte file k < 256
+use Rattle.little_endian.specs.Numbers.{byte, AreBytes, unsigned}
 
 -- the four bytes of the number at a place
 record Four (file : List ℕ) (at : ℕ) : Type 0 where

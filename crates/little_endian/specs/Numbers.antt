@@ -1,14 +1,18 @@
 -- Document 01, "The pair file": "Little-endian." The numbers of 32 bits that stand in the bytes of a file.
 use mathlib.Core.Bool.{cond}
 use mathlib.Core.List.{List}
-use Prim.Native.Nat.{ℕ, _+_, _*_, _^_}
+use Prim.Native.Nat.{ℕ, _+_, _*_, _^_, _<_}
 use lib.Dec.{ltb}
 use lib.IntN.{ℤ, pos, _-ℤ_}
-use lib.ListN.{getD}
+use lib.ListN.{length, getD}
 
 -- byte k, and 0 past the end
 abbrev pub byte : List ℕ → ℕ → ℕ
 byte file k = getD file k 0
+
+-- a list of bytes, as every file is
+abbrev pub AreBytes : List ℕ → Type 0
+AreBytes file = (k : ℕ) → k < length file → byte file k < 256
 
 -- the unsigned number in the four bytes from `at` on, the lowest byte first
 abbrev pub unsigned : List ℕ → ℕ → ℕ

@@ -9,16 +9,11 @@ use native.Mathlib.Omega.{arith}
 use lib.ListN.{length, take}
 use lib.Seq.{take-all, length-take-le, getD-take}
 use Rattle.whole.proofs.Cases.{le-or-lt}
-use Rattle.refusals.specs.Refusals.{accepted}
 use Rattle.little_endian.specs.Numbers.{byte}
 use Rattle.pairfile.specs.File.{sampleCount, mostSamples, fileBytes, fileVerdict}
+use Rattle.pairfile.specs.Laws.{AnswersAsItsFirst, firstBytes, LongerFile}
 use Rattle.pairfile.specs.declared.FileAnswer.{FileAnswer}
 use Rattle.pairfile.proofs.Verdicts.{Passed7, Passed8, TurnedDown, refused-8, refused-9, accepted-9}
-
--- the first n bytes have the file's verdict, and where it is acceptance they are the whole file
-pub record AnswersAsItsFirst (n : ℕ) (file lent : List ℕ) : Type 0 where
-  pub verdict : fileVerdict (take n file) lent ≡ fileVerdict file lent
-  pub whole : fileVerdict file lent ≡ accepted → take n file ≡ file
 
 module _ (n : ℕ) (enough : fileBytes mostSamples < n) (file lent : List ℕ) where
   -- a file of more than n bytes is refused with 8, by m, or else with 9; so are its first n bytes
@@ -57,19 +52,16 @@ module _ (n : ℕ) (enough : fileBytes mostSamples < n) (file lent : List ℕ) w
         (λ l. bad-count (inl (omega arith)))
         (le-or-lt 1 (sampleCount file))
 
-  pub answers-as-its-first : AnswersAsItsFirst n file lent
+  answers-as-its-first : AnswersAsItsFirst n file lent
   answers-as-its-first = record {
     verdict = ⊎-elim (λ l. ap (λ f. fileVerdict f lent) (take-all n file l)) both-refused (le-or-lt (length file) n);
     whole = λ ok. let p = accepted-9 file lent ok in take-all n file (omega arith);
   }
 
 -- ---- the law, with the number
-unfoldable pub firstBytes : ℕ
-firstBytes = fileBytes mostSamples + 1
-
-pub first-bytes : firstBytes ≡ 32777
+first-bytes : firstBytes ≡ 32777
 unfolding firstBytes
 first-bytes = refl
 
-pub longer : (file lent : List ℕ) → AnswersAsItsFirst firstBytes file lent
+pub longer : LongerFile
 longer = answers-as-its-first firstBytes (omega (arith, first-bytes))

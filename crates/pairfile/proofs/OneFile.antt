@@ -9,25 +9,12 @@ use native.Mathlib.Omega.{arith}
 use lib.ListN.{length}
 use lib.Seq.{ext-getD}
 use Rattle.whole.proofs.Cases.{le-or-lt}
-use Rattle.refusals.specs.Refusals.{accepted}
-use Rattle.little_endian.specs.Numbers.{byte, unsigned, signed}
-use Rattle.little_endian.proofs.Bytes.{AreBytes, unsigned-fits, unsigned-once}
+use Rattle.little_endian.specs.Numbers.{byte, AreBytes, unsigned, signed}
+use Rattle.little_endian.proofs.Bytes.{unsigned-fits, unsigned-once}
 use Rattle.little_endian.proofs.Signs.{signed-once}
-use Rattle.pairfile.specs.File.{sampleCount, blockLength, samplesOfA, samplesOfB, fileVerdict}
+use Rattle.pairfile.specs.File.{sampleCount}
+use Rattle.pairfile.specs.Laws.{SameReading, OneFile}
 use Rattle.pairfile.proofs.Verdicts.{Passed9, accepted-9}
-
--- the files f and g read as the same m, N and samples
-pub record SameReading (f g : List ℕ) : Type 0 where
-  pub same-count : sampleCount f ≡ sampleCount g
-  pub same-length : blockLength f ≡ blockLength g
-  pub ofA : (n : ℕ) → n < sampleCount f → samplesOfA f n ≡ samplesOfA g n
-  pub ofB : (n : ℕ) → n < sampleCount f → samplesOfB f n ≡ samplesOfB g n
-
--- two accepted files that do so are one file, whatever recordings are lent for each
-abbrev pub OneFile : Type 0
-OneFile =
-    (f g lent lent′ : List ℕ) → AreBytes f → AreBytes g → fileVerdict f lent ≡ accepted → fileVerdict g lent′ ≡ accepted
-    → SameReading f g → f ≡ g
 
 module _ (f g : List ℕ) (hf : AreBytes f) (hg : AreBytes g) (p : Passed9 f) (q : Passed9 g) (same : SameReading f g) where
   as-long : length f ≡ length g

@@ -1,3 +1,4 @@
 pub mod File
 pub mod Answers
 pub mod Promises
+pub mod Laws

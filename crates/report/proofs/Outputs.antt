@@ -21,8 +21,9 @@ use Rattle.pairfile.specs.declared.FileAnswer.the-variants.{RecordingTooShort, 
 use Rattle.pairfile.specs.File.{sampleCount, blockLength, samplesOfA, samplesOfB, mostSamples, fileVerdict}
 use Rattle.pairfile.specs.Answers.{verdictOf}
 use Rattle.pairfile.specs.Promises.{ReadDone}
-use Rattle.pairfile.proofs.Longer.{firstBytes, longer}
-use Rattle.report.specs.Output.{pairAt, blockLines, spectra, printed, output}
+use Rattle.pairfile.specs.Laws.{firstBytes}
+use Rattle.pairfile.proofs.Longer.{longer}
+use Rattle.report.specs.Output.{pairAt, blockLines, spectra, printed, output, LongerOutput}
 use Rattle.report.specs.Puts.{Printable}
 use Rattle.report.proofs.Printing.{whole-blocks, next-block}
 
@@ -111,7 +112,7 @@ same-print (refused n) f g e = refl
 same-print (refusedAt n place) f g e = refl
 same-print accepted f g e = ap (λ f. printed f accepted) (e refl)
 
-pub longer-output : (file : List ℕ) → output (take firstBytes file) ≡ output file
+pub longer-output : LongerOutput
 unfolding output
 longer-output file =
     let lent = mostSamples ∷ mostSamples ∷ [] in

@@ -1,12 +1,15 @@
 -- Document 01, "The pair file": all that `pairspec` prints, as bytes, from the bytes of the file.
 use mathlib.Core.List.{List, [], _∷_, _++_}
+use mathlib.Core.Path.{_≡_}
 use Prim.Native.Nat.{ℕ, zero, suc, _+_, _*_, _/_}
+use lib.ListN.{take}
 use Rattle.words.specs.Words.{Samples}
 use Rattle.ffct.specs.Block.{level}
 use Rattle.ffct.specs.Transforms.{PairSpectrum, pair}
 use Rattle.refusals.specs.Refusals.{Verdict, refused, refusedAt, accepted}
 use Rattle.text.specs.Lines.{heading, refusal, lines}
 use Rattle.pairfile.specs.File.{sampleCount, blockLength, samplesOfA, samplesOfB, mostSamples, fileVerdict}
+use Rattle.pairfile.specs.Laws.{firstBytes}
 
 -- block number i of two recordings, by Pair
 abbrev pub pairAt : ℕ → Samples → Samples → ℕ → PairSpectrum
@@ -36,3 +39,7 @@ printed file accepted = spectra (sampleCount file) (blockLength file) (samplesOf
 -- `pairspec` lends the reader two recordings of 4,096 words, so that 3 never holds
 unfoldable pub output : List ℕ → List ℕ
 output file = printed file (fileVerdict file (mostSamples ∷ mostSamples ∷ []))
+
+-- proved in proofs/Outputs: for a longer file it prints what it prints for the first 32,777 bytes, which is all that it reads
+abbrev pub LongerOutput : Type 0
+LongerOutput = (file : List ℕ) → output (take firstBytes file) ≡ output file

@@ -27,13 +27,13 @@ floor (negsuc a) m h =
     record { rest = m - 1 - a % m; below = omega arith; split = below-zero a m (a / m) (m - 1 - a % m) (omega (arith, div-add-mod' a m)) }
 
 -- ---- q (2 h) is the multiple of 2 h nearest to v, a tie going to the larger
-pub record Nearest (h : ℕ) (v q : ℤ) : Type 0 where
+pub record NearestMultiple (h : ℕ) (v q : ℤ) : Type 0 where
   pub low : negℤ (int h) ≤ℤ (v -ℤ int (2 * h) *ℤ q)
   pub high : (v -ℤ int (2 * h) *ℤ q) <ℤ int h
 
 module _ (h : ℕ) (v : ℤ) where
   -- that fixes q
-  pub nearest-only : (p q : ℤ) → Nearest h v p → Nearest h v q → p ≡ q
+  pub nearest-only : (p q : ℤ) → NearestMultiple h v p → NearestMultiple h v q → p ≡ q
   nearest-only p q s t = within-same p q (within-less (2 * h) some off)
     where
       some : 0 < 2 * h
@@ -50,17 +50,17 @@ module _ (h : ℕ) (v : ℤ) where
           let t₂ = lt-⊖ _ _ _ _ (simp diff at (rw (parts v, parts q) at (t .high))) in
           rw (parts p, parts q) (simp diff (omega near))
 
-  pub nearest-within : (q : ℤ) → Nearest h v q → q *ℤ int (2 * h) -ℤ v within h
+  pub nearest-within : (q : ℤ) → NearestMultiple h v q → q *ℤ int (2 * h) -ℤ v within h
   nearest-within q s =
       let l = le-⊖ _ _ _ _ (simp diff at (rw (parts v, parts q) at (s .low))) in
       let u = lt-⊖ _ _ _ _ (simp diff at (rw (parts v, parts q) at (s .high))) in
       rw (parts v, parts q) (simp diff (omega near))
 
   -- and q is the floor of (v + h) / 2 h
-  pub nearest-floor : 0 < h → Nearest h v (shrZ (v +ℤ int h) (2 * h))
+  pub nearest-floor : 0 < h → NearestMultiple h v (shrZ (v +ℤ int h) (2 * h))
   nearest-floor l = go (shrZ (v +ℤ int h) (2 * h)) (floor (v +ℤ int h) (2 * h) (omega arith))
     where
-      go : (q : ℤ) → Floor (v +ℤ int h) (2 * h) q → Nearest h v q
+      go : (q : ℤ) → Floor (v +ℤ int h) (2 * h) q → NearestMultiple h v q
       go q f =
           let e = ⊖-same _ _ _ _ (simp diff at (rw (parts v, parts q) at (f .split))) in
           let b = f .below in
