@@ -9,6 +9,7 @@ use Rattle.words.specs.Words.{word}
 use Rattle.ffct.specs.Block.{isLength, largestSample}
 use Rattle.refusals.specs.Refusals.{scratchWords}
 use Rattle.text.specs.Put.{Put}
+use Rattle.report.specs.Output.{output}
 
 -- two recordings with m samples in range, in blocks of N, and words to work in
 pub record Printable (m N : ℕ) (a b real imaginary scratch : List ℤ) : Type 0 where
@@ -27,6 +28,17 @@ pub record PutFrom (page : List ℕ) (at : ℕ) (text : List ℕ) (most next : �
     (real imaginary scratch real′ imaginary′ scratch′ : List ℤ) : Type 0 where
   pub put : Put page at text next page′
   pub fits : next ≤ at + most
+  pub realWords : length real′ ≡ length real
+  pub imaginaryWords : length imaginary′ ≡ length imaginary
+  pub scratchWords : length scratch′ ≡ length scratch
+
+-- the whole output is put at the front of the page; the words of the recordings a and b and those to work in are the program's choice,
+-- and keep their number
+pub record OutputPut (file page : List ℕ) (next : ℕ) (page′ : List ℕ)
+    (a b real imaginary scratch a′ b′ real′ imaginary′ scratch′ : List ℤ) : Type 0 where
+  pub put : Put page 0 (output file) next page′
+  pub wordsOfA : length a′ ≡ length a
+  pub wordsOfB : length b′ ≡ length b
   pub realWords : length real′ ≡ length real
   pub imaginaryWords : length imaginary′ ≡ length imaginary
   pub scratchWords : length scratch′ ≡ length scratch

@@ -16,8 +16,8 @@ ghost use Rattle.words.specs.Words.{Samples, word};
 ghost use Rattle.ffct.specs.Block.{isLength, level};
 ghost use Rattle.ffct.specs.Transforms.{pair as pairOf};
 ghost use Rattle.text.specs.Put.{Put};
-ghost use Rattle.report.specs.Output.{linesAt, spectra, output};
-ghost use Rattle.report.specs.Puts.{Printable, PutFrom};
+ghost use Rattle.report.specs.Output.{linesAt, spectra};
+ghost use Rattle.report.specs.Puts.{Printable, PutFrom, OutputPut};
 
 // Just Pair's products, for one block of n samples.
 fn pair_products(n: usize) -> u64
@@ -95,7 +95,9 @@ pub fn put_output(
     requires { ⌜ (length (now a) ≡ 4096) × (length (now b) ≡ 4096)
         × (1024 ≤ length (now real)) × (1024 ≤ length (now imaginary)) × (8256 ≤ length (now scratch))
         × (139278 ≤ length (now page)) ⌝ }
-    ensures { λ r. ⌜ Put (now (page .entry)) 0 (output (now (file .entry))) r (now (page .exit)) ⌝ }
+    ensures { λ r. ⌜ OutputPut (now (file .entry)) (now (page .entry)) r (now (page .exit))
+        (now (a .entry)) (now (b .entry)) (now (real .entry)) (now (imaginary .entry)) (now (scratch .entry))
+        (now (a .exit)) (now (b .exit)) (now (real .exit)) (now (imaginary .exit)) (now (scratch .exit)) ⌝ }
 {
     let answer = read(file, a, b);
     let number = number_of(answer);

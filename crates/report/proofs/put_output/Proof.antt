@@ -28,8 +28,15 @@ returns c =
     let p = c .before .before in
     let n = p .before .before .before in
     let r = n .before .before .before in
-    rw (refused-output _ (r .read .result) (verdict r) (λ z. omega (arith, n .number-of .ensures)))
-    (rw (n .number-of .ensures) at (p .put-refusal .ensures))
+    record {
+      put = rw (refused-output _ (r .read .result) (verdict r) (λ z. omega (arith, n .number-of .ensures)))
+          (rw (n .number-of .ensures) at (p .put-refusal .ensures));
+      wordsOfA = omega arith;
+      wordsOfB = omega arith;
+      realWords = omega arith;
+      imaginaryWords = omega arith;
+      scratchWords = omega arith;
+    }
 
 -- and once it is accepted, the recordings hold the file's samples
 accepts : (c : tie.Else1) → verdictOf (c .before .before .before .before .read .result) ≡ accepted
@@ -54,7 +61,15 @@ returns-2 c =
     let p = c .before .before .before .before .before in
     let z = p .before .before .before .before .before .before .before in
     let r = z .before .before .before .before .before in
-    rw (read-output _ (r .read .result) (verdict r) (accepts (z .before)) ∙ sym (read-spectra (done z))) (p .put-spectra .ensures .put)
+    let q = p .put-spectra .ensures in
+    record {
+      put = rw (read-output _ (r .read .result) (verdict r) (accepts (z .before)) ∙ sym (read-spectra (done z))) (q .put);
+      wordsOfA = omega arith;
+      wordsOfB = omega arith;
+      realWords = q .realWords;
+      imaginaryWords = q .imaginaryWords;
+      scratchWords = q .scratchWords;
+    }
 
 pub put-output-spec : {M : Type 1} → statement M
 put-output-spec =
