@@ -1,6 +1,6 @@
 -- Document 01, "The transforms": rounding.
 use mathlib.Core.Path.{_≡_}
-use Prim.Native.Nat.{_^_}
+use Prim.Native.Nat.{_+_, _-_, _^_}
 use lib.IntN.{ℤ, pos, negℤ, _+ℤ_, _-ℤ_, _*ℤ_}
 use lib.Signed.{shrZ, _≤ℤ_, _<ℤ_}
 
@@ -18,3 +18,10 @@ pub record Nearest (v q : ℤ) : Type 0 where
 pub record RoundsToNearest (v : ℤ) : Type 0 where
   pub nearest : Nearest v (round v)
   pub only : (q : ℤ) → Nearest v q → q ≡ round v
+
+-- "exact around zero and at ties": the two ties nearest to zero and the numbers just below them
+pub record KnownRounds : Type 0 where
+  pub tie : round (pos (2 ^ 29)) ≡ pos 1
+  pub below : round (pos (2 ^ 29 - 1)) ≡ pos 0
+  pub negativeTie : round (negℤ (pos (2 ^ 29))) ≡ pos 0
+  pub negativeBelow : round (negℤ (pos (2 ^ 29 + 1))) ≡ negℤ (pos 1)

@@ -1,5 +1,6 @@
 -- `whole::round` meets its contract: v and the half fit a word together, and the shift is the floor division. Assumes nothing.
 use mathlib.Core.Path.{refl}
+use Prim.Native.Nat.{ℕ}
 use lib.Dec.{lit<}
 use lib.IntN.{_+ℤ_}
 use mir.Syntax.{w64}
@@ -12,12 +13,16 @@ use Rattle.whole.proofs.Words.{Word, word, asked, made, shifted}
 use Rattle.whole.proofs.round.Statement.{statement}
 use Rattle.whole.proofs.round.Tie as tie
 
-half : Word w64 536870912 (int 536870912)
+-- the half, as the code has it
+abbrev added : ℕ
+added = 536870912
+
+half : Word w64 added (int added)
 unfolding int
 half = record { is = refl; fits = sfits-lit tt }
 
-sum-fits : (c : tie.Start) → SFits w64 (c .args .v +ℤ int 536870912)
-sum-fits c = within-fits (within-add (size-within (c .args .v) (c .pre)) (within-int 536870912)) (lit< tt)
+sum-fits : (c : tie.Start) → SFits w64 (c .args .v +ℤ int added)
+sum-fits c = within-fits (within-add (size-within (c .args .v) (c .pre)) (within-int added)) (lit< tt)
 
 add-result : tie.Need-add-result
 add-result c = asked _+ℤ_ (word (c .fits .v)) half (sum-fits c)
