@@ -76,7 +76,7 @@ dft-same (suc (suc L)) x y e =
     sum-same i h = ap₂ _+ℤ_ (e (2 * i + 1) (omega arith)) (mirror-same i h)
 
     difference-same : Same L (foldedDifferences (2 ^ suc (suc L)) x) (foldedDifferences (2 ^ suc (suc L)) y)
-    difference-same i h = ap (alternate i) (ap₂ _-ℤ_ (e (2 * i + 1) (omega arith)) (mirror-same i h))
+    difference-same i h = ap (alternate _) (ap₂ _-ℤ_ (e (2 * i + 1) (omega arith)) (mirror-same i h))
 
 pub dct-same : (L : ℕ) (x y : Samples) → Same L x y → dct L x ≡ dct L y
 dct-same L = dct-same-of L (dft-same L)

@@ -109,11 +109,13 @@ unfolding int pair dctProducts dctSums spectrumProducts spectrumSums pairProduct
 published L = record {
   dctP = λ x. ap pos (omega (arith, closed L x));
   dctS = λ x. signed-half (2 ^ L) (3 * L) 2 1 _ (omega (arith, closed L x));
-  spectrumP = λ x h. signed-half (2 ^ L) L 3 2 _ (omega (arith, closed-spectrum L x h));
-  spectrumS = λ x h. signed-half (2 ^ L) (3 * L) 5 4 _ (omega (arith, closed-spectrum L x h));
-  pairP = λ a b h. signed (2 ^ L) L 3 4 _ (omega (arith, closed-spectrum L a h, closed-spectrum L b h));
+  spectrumP = λ x h. signed-half (2 ^ L) L 3 2 _ (omega (arith, closed-spectrum L x (omega arith)));
+  spectrumS = λ x h. signed-half (2 ^ L) (3 * L) 5 4 _ (omega (arith, closed-spectrum L x (omega arith)));
+  pairP = λ a b h. signed (2 ^ L) L 3 4 _ (omega (arith, closed-spectrum L a (omega arith), closed-spectrum L b (omega arith)));
   pairS = λ a b h.
-      signed (3 * 2 ^ L) L 1 4 _ (omega (arith, closed-spectrum L a h, closed-spectrum L b h, pow-le-pow-right {n = 2} (lit< tt) h));
+      let some : 1 ≤ L = omega arith in
+      signed (3 * 2 ^ L) L 1 4 _
+      (omega (arith, closed-spectrum L a some, closed-spectrum L b some, pow-le-pow-right {n = 2} (lit< tt) some));
   spectrumAtOne = λ x e. rw e (spectrum-at-one x);
   pairAtOne = λ a b e. rw e (pair-at-one a b);
 }

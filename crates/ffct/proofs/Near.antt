@@ -271,7 +271,7 @@ alternate-within (suc n) h = within-neg (alternate-within n h)
 
 folded-differences-within : (m : ℕ) (x : Samples) {X : ℕ} → Bounded (2 * (2 * m)) x X → Bounded m (foldedDifferences (4 * m) x) (2 * X)
 folded-differences-within m x b i h =
-    alternate-within i (within-le (within-sub (b (2 * i + 1) (omega arith)) (b (4 * m - 2 * i - 1) (omega arith))) (omega arith))
+    alternate-within _ (within-le (within-sub (b (2 * i + 1) (omega arith)) (b (4 * m - 2 * i - 1) (omega arith))) (omega arith))
 
 one-near : DftNear 0
 unfolding cosineDft dftError int
