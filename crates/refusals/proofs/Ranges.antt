@@ -70,8 +70,8 @@ module _ (x : Samples) where
   shift s i zero = refl
   shift s i (suc d) = ⊎-elim (λ t. rw t (rw add-suc at (shift s (suc i) d))) (λ f. rw f) (outcome (inRange (x (s + i))))
 
-  pub first-shift : (s d : ℕ) → s + firstOut (λ n. x (s + n)) 0 d ≡ firstOut x s d
-  first-shift s d = rw add-zero at (shift s 0 d)
+  pub first-shift : (s d : ℕ) {i : ℕ} → i ≡ firstOut (λ n. x (s + n)) 0 d → s + i ≡ firstOut x s d
+  first-shift s d e = rw e (rw add-zero at (shift s 0 d))
 
 -- ---- a loop that searches the first m samples, when it comes to i
 pub record Searched (x : Samples) (m i : ℕ) : Type 0 where
@@ -91,9 +91,3 @@ module _ {x : Samples} {m i : ℕ} (s : Searched x m i) where
 
   pub searched-all : m ≤ i → i ≡ firstOut x 0 m
   searched-all h = sym (first-none x i) ∙ s .rest 0 (omega arith)
-
--- ---- equal samples
-pub first-same : (x y : Samples) (i d : ℕ) → ((j : ℕ) → i ≤ j → j < i + d → x j ≡ y j) → firstOut x i d ≡ firstOut y i d
-unfolding firstOut
-first-same x y i zero e = refl
-first-same x y i (suc d) e = rw (e i (omega arith) (omega arith), first-same x y (suc i) d (λ j h l. e j (omega arith) (omega arith)))

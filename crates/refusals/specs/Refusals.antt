@@ -1,6 +1,7 @@
 -- Document 01, "When a call is turned down": the conditions 1 to 6, on lengths and samples, in their order. The order itself is the
 -- verdict on a call (crate spectra) and on a file.
 use mathlib.Core.Bool.{Bool, false, cond, _||_}
+use mathlib.Core.Path.{_≡_}
 use mathlib.Core.List.{List, [], _∷_}
 use Prim.Native.Nat.{ℕ, zero, suc, _+_, _*_}
 use lib.Dec.{leb, ltb}
@@ -14,6 +15,10 @@ use Rattle.ffct.specs.Block.{largestSample}
 abbrev pub someBelow : ℕ → List ℕ → Bool
 someBelow n [] = false
 someBelow n (m ∷ ms) = ltb m n || someBelow n ms
+
+-- m is the shortest of these lengths: it alone decides
+abbrev pub Shortest : ℕ → List ℕ → Type 0
+Shortest m ms = (n : ℕ) → someBelow n ms ≡ ltb m n
 
 -- ---- 4: "scratch is shorter than 8N + 64 words of 64 bits"
 abbrev pub scratchWords : ℕ → ℕ
@@ -43,7 +48,11 @@ number (refused n) = n
 number (refusedAt n place) = n
 number accepted = 0
 
--- "in Pair a before b". "The place in answer 6 counts from 0 at the first sample of the recording, not of the block."
+-- 6 on a recording, and then the rest. "The place in answer 6 counts from 0 at the first sample of the recording, not of the block."
+abbrev pub firstOutOr : Samples → ℕ → ℕ → Verdict → Verdict
+firstOutOr x start N rest = cond (ltb (firstOut x start N) (start + N)) (refusedAt 6 (firstOut x start N)) rest
+
+-- "in Pair a before b"
 abbrev pub firstOutIn : List Samples → ℕ → ℕ → Verdict
 firstOutIn [] start N = accepted
-firstOutIn (x ∷ xs) start N = cond (ltb (firstOut x start N) (start + N)) (refusedAt 6 (firstOut x start N)) (firstOutIn xs start N)
+firstOutIn (x ∷ xs) start N = firstOutOr x start N (firstOutIn xs start N)

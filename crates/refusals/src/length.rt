@@ -1,9 +1,10 @@
 // Lengths of blocks and of what is lent.
 ghost use mathlib.Core.Path.{_≡_};
+ghost use mathlib.Core.List.{[], _∷_};
 ghost use Prim.Native.Nat.{_+_, _≤_};
 ghost use lib.Dec.{ltb};
 ghost use Rattle.ffct.specs.Block.{isLength};
-ghost use Rattle.refusals.specs.Refusals.{scratchWords};
+ghost use Rattle.refusals.specs.Refusals.{Shortest, scratchWords};
 
 // Whether n is one of the eleven lengths 1, 2, 4 .. 1,024: a power of two has one binary digit that is 1.
 pub fn is_length(n: usize) -> bool
@@ -23,6 +24,13 @@ pub fn reaches_beyond(start: usize, n: usize, len: usize) -> bool
         return true;
     }
     len - n < start
+}
+
+// The shorter of two lengths.
+pub fn shorter(a: usize, b: usize) -> usize
+    ensures { λ r. ⌜ Shortest r (a ∷ b ∷ []) ⌝ }
+{
+    if a < b { a } else { b }
 }
 
 // The words of scratch that a call on n samples asks for, and clears.

@@ -6,8 +6,8 @@ use mathlib.Core.List.{List, [], _∷_, _++_}
 use Prim.Native.Nat.{ℕ, _+_, _-_, _/_, _≤_, _<_}
 use native.Mathlib.Omega.{arith}
 use lib.IntN.{ℤ, pos}
-use lib.ListN.{length, take, drop, List·getD-append}
-use lib.Seq.{length-take-le, length-front, getD-drop, getD-append-add}
+use lib.ListN.{length, take, drop, length-drop, List·getD-append}
+use lib.Seq.{length-take-le, length-front, getD-take, getD-drop, getD-append-add}
 use Rattle.words.specs.Words.{Samples, word, Written}
 use Rattle.words.proofs.Writing.{front}
 use Rattle.ffct.specs.Block.{AcceptedBlock, isLength, level}
@@ -27,7 +27,11 @@ use Rattle.refusals.proofs.Ranges.{all-in}
 use Rattle.refusals.proofs.Conditions.{AllReach, AllIn}
 use Rattle.spectra.specs.Calls.{lengthsOf, samplesOf, Call}
 use Rattle.spectra.specs.Promises.{CosineDone, cosineCall, SpectrumDone, spectrumCall, PairDone, pairCall}
-use Rattle.spectra.proofs.Verdicts.{lent, lent-word, lent-length, Passed6}
+use Rattle.spectra.proofs.Verdicts.{Accepted}
+
+-- ---- the block of N samples from s on, lent as a slice of the recording r
+abbrev pub lent : List ℤ → ℕ → ℕ → List ℤ
+lent r s N = take (s + N - s) (drop s r)
 
 -- ---- a recording in which a block of N samples is accepted
 pub record Fit (recording : List ℤ) (start N : ℕ) : Type 0 where
@@ -35,7 +39,7 @@ pub record Fit (recording : List ℤ) (start N : ℕ) : Type 0 where
   pub inside : start + N ≤ length recording
   pub range : firstOut (word recording) start N ≡ start + N
 
--- so is the block of each recording of a call that has passed
+-- so is the block of each recording of an accepted call
 abbrev pub AllFit : List (List ℤ) → ℕ → ℕ → Type 0
 AllFit [] start N = Unit {0}
 AllFit (r ∷ rs) start N = Fit r start N × AllFit rs start N
@@ -46,10 +50,8 @@ all-fit [] start N ok inside range = tt
 all-fit (r ∷ rs) start N ok (inside, more) (range, all) =
     (record { length-ok = ok; inside = inside; range = range }, all-fit rs start N ok more all)
 
-pub fits : {call : Call} → Passed6 call → AllFit (call .recordings) (call .start) (call .N)
-fits {call} p =
-    let q = p .past .past .past .past in
-    all-fit (call .recordings) (call .start) (call .N) (q .past .length) (q .recordings) (p .range)
+pub fits : {call : Call} → Accepted call → AllFit (call .recordings) (call .start) (call .N)
+fits {call} p = all-fit (call .recordings) (call .start) (call .N) (p .length-ok) (p .recordings) (p .range)
 
 module _ {recording : List ℤ} {start N : ℕ} (f : Fit recording start N) where
   fit-block : AcceptedBlock (level N) (block recording start)
@@ -59,10 +61,14 @@ module _ {recording : List ℤ} {start N : ℕ} (f : Fit recording start N) wher
   }
 
   pub fit-length : length (lent recording start N) ≡ N
-  fit-length = lent-length recording start N (f .inside)
+  fit-length =
+      length-take-le (start + N - start) (drop start recording) (omega (arith, f .inside, length-drop start recording)) ∙ omega arith
+
+  fit-word : (k : ℕ) → k < N → word (lent recording start N) k ≡ word recording (start + k)
+  fit-word k h = getD-take (start + N - start) (drop start recording) k (pos 0) (omega arith) ∙ getD-drop start recording k (pos 0)
 
   fit-same : Same (level N) (word (lent recording start N)) (block recording start)
-  fit-same k h = lent-word recording start N k (omega (arith, is-power N (f .length-ok), pow-len (level N)))
+  fit-same k h = fit-word k (omega (arith, is-power N (f .length-ok), pow-len (level N)))
 
   pub fit-workable : (scratch : List ℤ) {m : ℕ} → m ≡ scratchWords N → m ≤ length scratch
       → Workable (lent recording start N) (take m scratch)
@@ -71,7 +77,7 @@ module _ {recording : List ℤ} {start N : ℕ} (f : Fit recording start N) wher
       length-ok = rw fit-length (f .length-ok);
       range = λ k h.
           let l : k < N = omega (arith, h, fit-length) in
-          rw (lent-word recording start N k l) (all-in (word recording) start N (f .range) k l);
+          rw (fit-word k l) (all-in (word recording) start N (f .range) k l);
     };
     room = omega (arith, e, fit-length, length-take-le m scratch room);
   }
@@ -122,7 +128,7 @@ same-tally {t} {u} (e, d) (f, g) =
 module _ {N m allowance : ℕ} {counts : Counts} {scratch w′ : List ℤ} (c : SixCounts (level N) counts) (is : m ≡ scratchWords N)
     {start : ℕ} {spent : Tally} where
   pub cosine-done : {recording coefficients coefficients′ : List ℤ}
-      → Passed6 (cosineCall recording start N allowance coefficients scratch)
+      → Accepted (cosineCall recording start N allowance coefficients scratch)
       → CosineMade (lent recording start N) coefficients (take m scratch) coefficients′ w′ spent
       → CosineDone N (block recording start) allowance coefficients scratch coefficients′ (w′ ++ drop m scratch) spent
   cosine-done {recording} {coefficients} {coefficients′} passed made =
@@ -137,14 +143,14 @@ module _ {N m allowance : ℕ} {counts : Counts} {scratch w′ : List ℤ} (c : 
         block = fit-block f;
         words = written;
         near = λ k h. rw (front written k h) (dct-near N (f .length-ok) x (fit-block f) k h);
-        scratchCleared = put-back is (omega (arith, is, passed .past .past .scratch)) (made .cleared);
+        scratchCleared = put-back is (omega (arith, is, passed .scratch)) (made .cleared);
         tallied = (products, sums);
         published = rw tally (six-published (f .length-ok) c .ofDct);
-        allowed = omega (arith, products, passed .past .allowance);
+        allowed = omega (arith, products, passed .allowance);
       }
 
   pub spectrum-done : {recording cosine sine cosine′ sine′ : List ℤ}
-      → Passed6 (spectrumCall recording start N allowance cosine sine scratch)
+      → Accepted (spectrumCall recording start N allowance cosine sine scratch)
       → SpectrumMade (lent recording start N) cosine sine (take m scratch) cosine′ sine′ w′ spent
       → SpectrumDone N (block recording start) allowance cosine sine scratch cosine′ sine′ (w′ ++ drop m scratch) spent
   spectrum-done {recording} {cosine} {sine} {cosine′} {sine′} passed made =
@@ -163,15 +169,15 @@ module _ {N m allowance : ℕ} {counts : Counts} {scratch w′ : List ℤ} (c : 
         sineWords = sines;
         cosineNear = λ k h. rw (front cosines k (omega (arith, h))) (cosine-near N (f .length-ok) x (fit-block f) k h);
         sineNear = λ k h. rw (front sines k (omega (arith, h))) (sine-near N (f .length-ok) x (fit-block f) k h);
-        scratchCleared = put-back is (omega (arith, is, passed .past .past .scratch)) (made .cleared);
+        scratchCleared = put-back is (omega (arith, is, passed .scratch)) (made .cleared);
         tallied = (products, sums);
         published = λ h. rw tally (forms .ofSpectrum h);
         nothingAtOne = λ e. rw tally (forms .nothingAtOne e .0, forms .nothingAtOne e .1);
-        allowed = omega (arith, products, passed .past .allowance);
+        allowed = omega (arith, products, passed .allowance);
       }
 
   pub pair-done : {a b real imaginary real′ imaginary′ : List ℤ}
-      → Passed6 (pairCall a b start N allowance real imaginary scratch)
+      → Accepted (pairCall a b start N allowance real imaginary scratch)
       → PairMade (lent a start N) (lent b start N) real imaginary (take m scratch) real′ imaginary′ w′ spent
       → PairDone N (block a start) (block b start) allowance real imaginary scratch real′ imaginary′ (w′ ++ drop m scratch) spent
   pair-done {a} {b} {real} {imaginary} {real′} {imaginary′} passed made =
@@ -193,9 +199,9 @@ module _ {N m allowance : ℕ} {counts : Counts} {scratch w′ : List ℤ} (c : 
         imaginaryWords = imaginaries;
         realNear = λ k h. rw (front reals k h) (real-near N (f .length-ok) x (fit-block f) y (fit-block g) k h);
         imaginaryNear = λ k h. rw (front imaginaries k h) (imaginary-near N (f .length-ok) x (fit-block f) y (fit-block g) k h);
-        scratchCleared = put-back is (omega (arith, is, passed .past .past .scratch)) (made .cleared);
+        scratchCleared = put-back is (omega (arith, is, passed .scratch)) (made .cleared);
         tallied = (products, sums);
         published = λ h. rw tally (forms .ofPair h);
         nothingAtOne = λ e. rw tally (forms .nothingAtOne e .2, forms .nothingAtOne e .3);
-        allowed = omega (arith, products, passed .past .allowance);
+        allowed = omega (arith, products, passed .allowance);
       }

@@ -1,139 +1,111 @@
--- The verdict on a call, condition by condition: what is known of a call that has passed the first tests, what each refusal follows from,
--- and the whole promise of a call that leaves its buffers as they are, and of one that passes. First, the search of a block that is lent
--- as a slice of its recording.
+-- The verdict on a call: what it is by the tests that are made, what is known of a call that is accepted, and the whole promise of a call
+-- that is turned down, and of one that is carried out.
 -- Assumes nothing.
 use mathlib.Core.Path.{_≡_, refl, sym, ap, _∙_}
-use mathlib.Core.Bool.{true, false, false≢true}
-use mathlib.Core.List.{List}
-use Prim.Native.Nat.{ℕ, _+_, _-_, _≤_, _<_}
+use mathlib.Core.Bool.{Bool, true, false, not, cond}
+use mathlib.Core.List.{List, _∷_}
+use Prim.Native.Nat.{ℕ, _+_, _≤_, _<_}
 use native.Mathlib.Omega.{arith}
-use lib.IntN.{ℤ, pos}
-use lib.ListN.{length, take, drop, length-drop}
-use lib.Seq.{length-take-le, getD-take, getD-drop}
-use borrow.Author.Tests.{lt-ltb, le-ltb}
-use Rattle.words.specs.Words.{word}
+use lib.Dec.{ltb}
+use lib.IntN.{ℤ}
+use lib.ListN.{length}
+use borrow.Author.Tests.{ltb-false, not-false}
 use Rattle.ffct.specs.Block.{isLength}
+use Rattle.refusals.specs.Refusals.{someBelow, Shortest, scratchWords, Verdict, refused, number, firstOutIn, accepted}
+use Rattle.refusals.proofs.Conditions.{AllReach, reach-all, AllIn, past, past-ranges}
 use Rattle.spectra.specs.declared.Answer.{Answer}
-use Rattle.spectra.specs.declared.Answer.the-variants.{BadLength, BeyondRecording, ResultTooShort, ScratchTooShort}
-use Rattle.spectra.specs.declared.Answer.the-variants.{AllowanceTooSmall, OutOfRange}
+use Rattle.spectra.specs.declared.Tested.{Tested}
+use Rattle.spectra.specs.declared.Tested.the-variants.{Refused, Passed}
 use Rattle.spectra.specs.Answers.{verdictOf}
-use Rattle.spectra.specs.Promises.{Promise, SpectrumPromise, CosinePromise, PairPromise, spectrumCall, cosineCall, pairCall}
-use Rattle.refusals.specs.Refusals.{someBelow, scratchWords, firstOut, firstOutIn, accepted}
 use Rattle.spectra.specs.Calls.{lengthsOf, samplesOf, Call, verdict}
-use Rattle.refusals.proofs.Ranges.{first-to, first-shift, first-same}
-use Rattle.refusals.proofs.Conditions.{AllReach, SomeBelow, all-reach, some-below, AllIn, OutAt, in-verdict, out-verdict, isAccepted}
+use Rattle.spectra.specs.Tests.{tests, Tells}
+use Rattle.spectra.specs.Promises.{Promise}
 
--- ---- the block of N samples from s on, lent as a slice of the recording r
-abbrev pub lent : List ℤ → ℕ → ℕ → List ℤ
-lent r s N = take (s + N - s) (drop s r)
+-- ---- the verdict by the tests
+-- a call on x and other recordings, and what stands for it in the tests: the shortest lengths, and products that are its own if N is a length
+pub record Tests (call : Call) (x : List ℤ) (others : List (List ℤ)) (shortest room products : ℕ) : Type 0 where
+  pub recordings : call .recordings ≡ x ∷ others
+  pub is-shortest : Shortest shortest (lengthsOf (call .recordings))
+  pub is-room : Shortest room (lengthsOf (call .results))
+  pub spends : isLength (call .N) ≡ true → products ≡ call .products
 
-module _ (r : List ℤ) (s N : ℕ) where
-  pub lent-word : (n : ℕ) → n < N → word (lent r s N) n ≡ word r (s + n)
-  lent-word n l = getD-take (s + N - s) (drop s r) n (pos 0) (omega arith) ∙ getD-drop s r n (pos 0)
-
-  module _ (h : s + N ≤ length r) where
-    pub lent-length : length (lent r s N) ≡ N
-    lent-length = length-take-le (s + N - s) (drop s r) (omega (arith, length-drop s r)) ∙ omega arith
-
-    pub lent-out : {out : ℕ} → out ≡ firstOut (word (lent r s N)) 0 (length (lent r s N)) → s + out ≡ firstOut (word r) s N
-    lent-out e =
-        let same = first-same _ (λ n. word r (s + n)) 0 N (λ n _ l. lent-word n (omega (arith, l))) in
-        ap (λ n. s + n) (e ∙ ap (firstOut _ 0) lent-length ∙ same) ∙ first-shift (word r) s N
-
-    pub lent-in : {out : ℕ} → out ≡ firstOut (word (lent r s N)) 0 (length (lent r s N)) → N ≤ out → firstOut (word r) s N ≡ s + N
-    lent-in e l = omega (arith, l, lent-out e, first-to (word r) s N)
-
--- ---- a call that the conditions up to 1, 2 .. 6 do not turn down
-pub record Passed1 (call : Call) : Type 0 where
-  pub length : isLength (call .N) ≡ true
-
-pub record Passed2 (call : Call) : Type 0 where
-  pub past : Passed1 call
-  pub recordings : AllReach (call .start + call .N) (lengthsOf (call .recordings))
-
-pub record Passed3 (call : Call) : Type 0 where
-  pub past : Passed2 call
-  pub results : AllReach (call .yields) (lengthsOf (call .results))
-
-pub record Passed4 (call : Call) : Type 0 where
-  pub past : Passed3 call
-  pub scratch : scratchWords (call .N) ≤ length (call .scratch)
-
-pub record Passed5 (call : Call) : Type 0 where
-  pub past : Passed4 call
-  pub allowance : call .products ≤ call .allowance
-
-pub record Passed6 (call : Call) : Type 0 where
-  pub past : Passed5 call
-  pub range : AllIn (samplesOf (call .recordings)) (call .start) (call .N)
-
--- ---- a call that is turned down
+-- a call that is turned down
 pub record TurnedDown (call : Call) (answer : Answer) : Type 0 where
   pub verdict : verdictOf answer ≡ verdict call
   pub never : verdictOf answer ≡ accepted → ⊥
 
-down : {call : Call} {answer : Answer} → isAccepted (verdictOf answer) ≡ false → verdict call ≡ verdictOf answer → TurnedDown call answer
-down f e = record { verdict = sym e; never = λ a. false≢true (sym f ∙ ap isAccepted a) }
+pub down : {call : Call} {answer : Answer} → 0 < number (verdictOf answer) → verdict call ≡ verdictOf answer → TurnedDown call answer
+down some e = record { verdict = sym e; never = λ a. absurd (omega (arith, some, ap number a)) }
 
-module _ {call : Call} where
-  none-2 : Passed2 call → someBelow (call .start + call .N) (lengthsOf (call .recordings)) ≡ false
-  none-2 p = all-reach (call .start + call .N) (lengthsOf (call .recordings)) (p .recordings)
+-- a call that passes the tests, so that the rest decides
+pub record Passes (call : Call) (rest : Verdict) : Type 0 where
+  pub verdict : verdict call ≡ rest
+  pub reaches : AllReach (call .start + call .N) (lengthsOf (call .recordings))
 
-  none-3 : Passed3 call → someBelow (call .yields) (lengthsOf (call .results)) ≡ false
-  none-3 p = all-reach (call .yields) (lengthsOf (call .results)) (p .results)
+abbrev pub Told : Call → Verdict → Tested → Type 0
+Told call rest (Refused answer) = TurnedDown call answer
+Told call rest Passed = Passes call rest
 
-  pub refused-1 : isLength (call .N) ≡ false → TurnedDown call BadLength
-  unfolding verdict
-  refused-1 h = down refl (rw h)
+of-length : (b : Bool) (u v w : Verdict) → (b ≡ true → v ≡ w) → cond (not b) u v ≡ cond (not b) u w
+of-length true u v w e = e refl
+of-length false u v w e = refl
 
-  pub refused-2 : Passed1 call → SomeBelow (call .start + call .N) (lengthsOf (call .recordings)) → TurnedDown call BeyondRecording
-  unfolding verdict
-  refused-2 p h = down refl (rw (p .length, some-below (call .start + call .N) (lengthsOf (call .recordings)) h))
+module _ {call : Call} {x : List ℤ} {others : List (List ℤ)} {shortest room products : ℕ}
+    (is : Tests call x others shortest room products) where
+  abbrev tests-of : Verdict → Verdict
+  tests-of = tests x shortest (call .start) (call .N) (call .allowance) room (call .yields) (length (call .scratch)) products
 
-  pub refused-3 : Passed2 call → SomeBelow (call .yields) (lengthsOf (call .results)) → TurnedDown call ResultTooShort
-  unfolding verdict
-  refused-3 p h = down refl (rw (p .past .length, none-2 p, some-below (call .yields) (lengthsOf (call .results)) h))
+  by-tests : verdict call ≡ tests-of (firstOutIn (samplesOf others) (call .start) (call .N))
+  unfolding verdict tests
+  by-tests = rw (is .is-shortest (call .start + call .N), is .is-room (call .yields), is .recordings)
+      (of-length (isLength (call .N)) _ _ _ (λ h. rw (is .spends h)))
 
-  pub refused-4 : Passed3 call → length (call .scratch) < scratchWords (call .N) → TurnedDown call ScratchTooShort
-  unfolding verdict
-  refused-4 p h = down refl (rw (p .past .past .length, none-2 (p .past), none-3 p, lt-ltb _ _ h))
+  inside : tests-of accepted ≡ accepted → someBelow (call .start + call .N) (lengthsOf (call .recordings)) ≡ false
+  unfolding tests
+  inside e =
+      let (_, r) = past (not (isLength (call .N))) (refused 1) _ e refl in
+      let (f, _) = past (ltb shortest (call .start + call .N)) (refused 2) _ r refl in
+      is .is-shortest (call .start + call .N) ∙ f
 
-  pub refused-5 : Passed4 call → call .allowance < call .products → TurnedDown call AllowanceTooSmall
-  unfolding verdict
-  refused-5 p h =
-      let q = p .past in
-      down refl (rw (q .past .past .length, none-2 (q .past), none-3 q, le-ltb _ _ (p .scratch), lt-ltb _ _ h))
+  pub told : (t : Tested) → Tells tests-of t → Told call (firstOutIn (samplesOf others) (call .start) (call .N)) t
+  told (Refused answer) (some, e) = down some (by-tests ∙ e _)
+  told Passed e = record {
+    verdict = by-tests ∙ e _;
+    reaches = reach-all (call .start + call .N) (lengthsOf (call .recordings)) (inside (e accepted));
+  }
 
-  past-5 : Passed5 call → verdict call ≡ firstOutIn (samplesOf (call .recordings)) (call .start) (call .N)
-  unfolding verdict
-  past-5 p =
-      let q = p .past in
-      rw (q .past .past .past .length, none-2 (q .past .past), none-3 (q .past), le-ltb _ _ (q .scratch), le-ltb _ _ (p .allowance))
+-- ---- a call that is accepted: it has passed each test
+pub record Accepted (call : Call) : Type 0 where
+  pub is-accepted : verdict call ≡ accepted
+  pub length-ok : isLength (call .N) ≡ true
+  pub recordings : AllReach (call .start + call .N) (lengthsOf (call .recordings))
+  pub results : AllReach (call .yields) (lengthsOf (call .results))
+  pub scratch : scratchWords (call .N) ≤ length (call .scratch)
+  pub allowance : call .products ≤ call .allowance
+  pub range : AllIn (samplesOf (call .recordings)) (call .start) (call .N)
 
-  pub refused-6 : {place : ℕ} → Passed5 call → OutAt (samplesOf (call .recordings)) (call .start) (call .N) place
-      → TurnedDown call (OutOfRange place)
-  refused-6 p h = down refl (past-5 p ∙ out-verdict (samplesOf (call .recordings)) (call .start) (call .N) _ h)
+pub accepts : (call : Call) → verdict call ≡ accepted → Accepted call
+unfolding verdict
+accepts call e =
+    let (e₁, r₁) = past _ _ _ e refl in
+    let (e₂, r₂) = past _ _ _ r₁ refl in
+    let (e₃, r₃) = past _ _ _ r₂ refl in
+    let (e₄, r₄) = past _ _ _ r₃ refl in
+    let (e₅, r₅) = past _ _ _ r₄ refl in
+    record {
+      is-accepted = e;
+      length-ok = not-false _ e₁;
+      recordings = reach-all (call .start + call .N) (lengthsOf (call .recordings)) e₂;
+      results = reach-all (call .yields) (lengthsOf (call .results)) e₃;
+      scratch = ltb-false _ _ e₄;
+      allowance = ltb-false _ _ e₅;
+      range = past-ranges (samplesOf (call .recordings)) (call .start) (call .N) r₅;
+    }
 
-  pub is-accepted : Passed6 call → verdict call ≡ accepted
-  is-accepted p = past-5 (p .past) ∙ in-verdict (samplesOf (call .recordings)) (call .start) (call .N) (p .range)
-
--- ---- the promise of a call that is carried out, and of one that is turned down
+-- ---- the promise of a call that is turned down, and of one that is carried out
 module _ {call : Call} {answer : Answer} {Unchanged Done : Type 0} where
-  pub carried-out : Passed6 call → verdictOf answer ≡ accepted → Done → Promise call answer Unchanged Done
-  carried-out p ok d = record { verdict = ok ∙ sym (is-accepted p); unchanged = λ no. absurd (no ok); done = λ _. d }
-
-  turned-down : Unchanged → TurnedDown call answer → Promise call answer Unchanged Done
+  pub turned-down : Unchanged → TurnedDown call answer → Promise call answer Unchanged Done
   turned-down u t = record { verdict = t .verdict; unchanged = λ _. u; done = λ d. absurd (t .never d) }
 
-module _ {start N allowance : ℕ} {scratch : List ℤ} {answer : Answer} where
-  pub spectrum-refused : {recording cosine sine : List ℤ} → TurnedDown (spectrumCall recording start N allowance cosine sine scratch) answer
-      → SpectrumPromise recording start N allowance cosine sine scratch cosine sine scratch answer
-  spectrum-refused = turned-down (refl, refl, refl)
-
-  pub cosine-refused : {recording coefficients : List ℤ} → TurnedDown (cosineCall recording start N allowance coefficients scratch) answer
-      → CosinePromise recording start N allowance coefficients scratch coefficients scratch answer
-  cosine-refused = turned-down (refl, refl)
-
-  pub pair-refused : {a b real imaginary : List ℤ} → TurnedDown (pairCall a b start N allowance real imaginary scratch) answer
-      → PairPromise a b start N allowance real imaginary scratch real imaginary scratch answer
-  pair-refused = turned-down (refl, refl, refl)
+  pub carried-out : Accepted call → verdictOf answer ≡ accepted → Done → Promise call answer Unchanged Done
+  carried-out a ok d = record { verdict = ok ∙ sym (a .is-accepted); unchanged = λ no. absurd (no ok); done = λ _. d }

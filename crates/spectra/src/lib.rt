@@ -9,10 +9,17 @@ use counts::tally::Tally;
 use refusals::length::is_length;
 use refusals::length::reaches_beyond;
 use refusals::length::scratch_words;
+use refusals::length::shorter;
 use refusals::range::first_out;
+ghost use mathlib.Core.Bool.{true};
 ghost use mathlib.Core.Path.{_≡_};
+ghost use Prim.Native.Nat.{_≤_};
+ghost use lib.ListN.{length as List·length};
+ghost use Rattle.ffct.specs.Block.{isLength, level};
+ghost use Rattle.counts.specs.Counts.{SixCounts};
 ghost use Rattle.refusals.specs.Refusals.{number};
 ghost use Rattle.spectra.specs.Answers.{verdictOf, spent, place};
+ghost use Rattle.spectra.specs.Tests.{tests, Tells};
 ghost use Rattle.spectra.specs.Promises.{SpectrumPromise, CosinePromise, PairPromise, CountsPromise};
 
 // The answer of a call on recordings: a case for each refusal of document 01, or the counts that were spent.
@@ -32,6 +39,69 @@ pub enum CountsAnswer {
     Counted(Counts),
 }
 
+// What the tests of a call find.
+enum Tested {
+    Refused(Answer),
+    Passed,
+}
+
+// ---- the tests
+
+// The counts of a length; 0 where it is none.
+fn counts_at(length: usize) -> Counts
+    ensures { λ r. ⌜ (isLength length ≡ true → SixCounts (level length) r) ⌝ }
+{
+    if is_length(length) {
+        return counts_of(length);
+    }
+    let none = Tally {
+        products: 0,
+        sums: 0,
+    };
+    Counts {
+        dct: none,
+        spectrum: none,
+        pair: none,
+    }
+}
+
+// 1 to 6 in their order, 6 on one recording; of several recordings and result buffers the shortest lengths are given.
+fn test(
+    recording: &[i32],
+    shortest: usize,
+    start: usize,
+    length: usize,
+    allowance: u64,
+    room: usize,
+    yields: usize,
+    scratch: usize,
+    products: u64,
+) -> Tested
+    requires { ⌜ shortest ≤ List·length (now recording) ⌝ }
+    ensures { λ r. ⌜ Tells (tests (now (recording .entry)) shortest start length allowance room yields scratch products) r ⌝ }
+{
+    if !is_length(length) {
+        return Tested::Refused(Answer::BadLength);
+    }
+    if reaches_beyond(start, length, shortest) {
+        return Tested::Refused(Answer::BeyondRecording);
+    }
+    if room < yields {
+        return Tested::Refused(Answer::ResultTooShort);
+    }
+    if scratch < scratch_words(length) {
+        return Tested::Refused(Answer::ScratchTooShort);
+    }
+    if allowance < products {
+        return Tested::Refused(Answer::AllowanceTooSmall);
+    }
+    let out = first_out(recording, start, length);
+    if out < start + length {
+        return Tested::Refused(Answer::OutOfRange(out));
+    }
+    Tested::Passed
+}
+
 // ---- the calls
 
 pub fn spectrum(
@@ -47,32 +117,24 @@ pub fn spectrum(
         (now (cosine .entry)) (now (sine .entry)) (now (scratch .entry))
         (now (cosine .exit)) (now (sine .exit)) (now (scratch .exit)) r ⌝ }
 {
-    if !is_length(length) {
-        return Answer::BadLength;
-    }
-    if reaches_beyond(start, length, recording.len()) {
-        return Answer::BeyondRecording;
-    }
-    if cosine.len() < length / 2 + 1 {
-        return Answer::ResultTooShort;
-    }
-    if sine.len() < length / 2 + 1 {
-        return Answer::ResultTooShort;
-    }
-    let m = scratch_words(length);
-    if scratch.len() < m {
-        return Answer::ScratchTooShort;
-    }
-    let counts = counts_of(length);
-    let spectrum = counts.spectrum;
-    if allowance < spectrum.products {
-        return Answer::AllowanceTooSmall;
+    let counts = counts_at(length);
+    let room = shorter(cosine.len(), sine.len());
+    let tested = test(
+        recording,
+        recording.len(),
+        start,
+        length,
+        allowance,
+        room,
+        length / 2 + 1,
+        scratch.len(),
+        counts.spectrum.products,
+    );
+    if let Tested::Refused(answer) = tested {
+        return answer;
     }
     let end = start + length;
-    let out = first_out(&recording[start..end]);
-    if out < length {
-        return Answer::OutOfRange(start + out);
-    }
+    let m = scratch_words(length);
     Answer::Done(spectrum_of(&recording[start..end], cosine, sine, &mut scratch[..m]))
 }
 
@@ -88,29 +150,23 @@ pub fn cosine(
         (now (coefficients .entry)) (now (scratch .entry))
         (now (coefficients .exit)) (now (scratch .exit)) r ⌝ }
 {
-    if !is_length(length) {
-        return Answer::BadLength;
-    }
-    if reaches_beyond(start, length, recording.len()) {
-        return Answer::BeyondRecording;
-    }
-    if coefficients.len() < length {
-        return Answer::ResultTooShort;
-    }
-    let m = scratch_words(length);
-    if scratch.len() < m {
-        return Answer::ScratchTooShort;
-    }
-    let counts = counts_of(length);
-    let dct = counts.dct;
-    if allowance < dct.products {
-        return Answer::AllowanceTooSmall;
+    let counts = counts_at(length);
+    let tested = test(
+        recording,
+        recording.len(),
+        start,
+        length,
+        allowance,
+        coefficients.len(),
+        length,
+        scratch.len(),
+        counts.dct.products,
+    );
+    if let Tested::Refused(answer) = tested {
+        return answer;
     }
     let end = start + length;
-    let out = first_out(&recording[start..end]);
-    if out < length {
-        return Answer::OutOfRange(start + out);
-    }
+    let m = scratch_words(length);
     Answer::Done(cosine_of(&recording[start..end], coefficients, &mut scratch[..m]))
 }
 
@@ -128,39 +184,29 @@ pub fn pair(
         (now (real .entry)) (now (imaginary .entry)) (now (scratch .entry))
         (now (real .exit)) (now (imaginary .exit)) (now (scratch .exit)) r ⌝ }
 {
-    if !is_length(length) {
-        return Answer::BadLength;
-    }
-    if reaches_beyond(start, length, a.len()) {
-        return Answer::BeyondRecording;
-    }
-    if reaches_beyond(start, length, b.len()) {
-        return Answer::BeyondRecording;
-    }
-    if real.len() < length {
-        return Answer::ResultTooShort;
-    }
-    if imaginary.len() < length {
-        return Answer::ResultTooShort;
-    }
-    let m = scratch_words(length);
-    if scratch.len() < m {
-        return Answer::ScratchTooShort;
-    }
-    let counts = counts_of(length);
-    let pair = counts.pair;
-    if allowance < pair.products {
-        return Answer::AllowanceTooSmall;
+    let counts = counts_at(length);
+    let shortest = shorter(a.len(), b.len());
+    let room = shorter(real.len(), imaginary.len());
+    let tested = test(
+        a,
+        shortest,
+        start,
+        length,
+        allowance,
+        room,
+        length,
+        scratch.len(),
+        counts.pair.products,
+    );
+    if let Tested::Refused(answer) = tested {
+        return answer;
     }
     let end = start + length;
-    let out = first_out(&a[start..end]);
-    if out < length {
-        return Answer::OutOfRange(start + out);
+    let out = first_out(b, start, length);
+    if out < end {
+        return Answer::OutOfRange(out);
     }
-    let beyond = first_out(&b[start..end]);
-    if beyond < length {
-        return Answer::OutOfRange(start + beyond);
-    }
+    let m = scratch_words(length);
     Answer::Done(pair_of(
         &a[start..end],
         &b[start..end],

@@ -1,142 +1,79 @@
 -- `spectra::cosine` meets its contract. Assumes nothing.
-use mathlib.Core.Path.{_≡_, refl, sym, _∙_}
-use mathlib.Core.Logic.{inl}
-use Prim.Native.Nat.{_+_, _≤_}
+use mathlib.Core.Path.{refl, sym, subst}
+use Prim.Native.Nat.{_≤_}
 use native.Mathlib.Omega.{arith}
 use lib.ListN.{length}
 use lib.Seq.{length-take-le}
 use borrow.Author.Needs.{needs}
-use borrow.Author.Tests.{ltb-true, ltb-false, not-true, not-false}
 use Rattle.ffct.proofs.ElevenLengths.{length-le}
+use Rattle.refusals.specs.Refusals.{accepted}
+use Rattle.refusals.proofs.Conditions.{shortest-one}
 use Rattle.spectra.specs.Calls.{Call}
 use Rattle.spectra.specs.Promises.{cosineCall}
-use Rattle.spectra.proofs.Verdicts.{lent-out, lent-in, Passed1, Passed2, Passed3, Passed4, Passed5, Passed6}
-use Rattle.spectra.proofs.Verdicts.{refused-1, refused-2, refused-3, refused-4, refused-5, refused-6, cosine-refused, carried-out}
+use Rattle.spectra.proofs.Verdicts.{Told, told, Accepted, accepts, turned-down, carried-out}
 use Rattle.spectra.proofs.Accepted.{fits, fit-length, fit-workable, cosine-done}
 use Rattle.spectra.proofs.cosine.Statement.{statement}
 use Rattle.spectra.proofs.cosine.Tie as tie
 
--- ---- places on the way, from later ones: the test of the allowance, the counts, the words of scratch, the start
-abbrev allowed : tie.Else6 → tie.Else5
-allowed c = c .before .before .before
-
-abbrev counted : tie.Else5 → tie.After-counts-of
-counted c = c .before .before .before
-
-abbrev measured : tie.Else5 → tie.After-scratch-words
-measured c = counted c .before .before
-
-abbrev entry : tie.Else4 → tie.Start
-entry c = c .before .before .before .before .before .before .before
-
-abbrev start : tie.Else5 → tie.Start
-start c = entry (counted c .before)
-
-abbrev call : tie.Start → Call
+abbrev call : tie.After-test → Call
 call c =
-    let a = c .args in
+    let a = c .before .before .args in
     cosineCall (a .recording .now) (a .start) (a .length) (a .allowance) (a .coefficients .now) (a .scratch .now)
 
--- ---- what is known of the call after each test
-passed-1 : (c : tie.Else1) → Passed1 (call (c .before .before))
-passed-1 c = record { length = sym (c .before .is-length .ensures) ∙ not-false _ (c .if1 .left) }
+told-by : (c : tie.After-test) → Told (call c) accepted (c .test .result)
+told-by c =
+    told
+    (record {
+      recordings = refl;
+      is-shortest = shortest-one _;
+      is-room = shortest-one _;
+      spends = λ ok. c .before .counts-at .ensures ok .ofDct .products _;
+    })
+    (c .test .result)
+    (c .test .ensures)
 
-passed-2 : (c : tie.Else2) → Passed2 (call (c .before .before .before .before))
-passed-2 c = record {
-  past = passed-1 (c .before .before);
-  recordings = (ltb-false _ _ (sym (c .before .reaches-beyond .ensures) ∙ c .if2 .left), tt);
-}
+passed : (c : tie.After-enum-told) → Accepted (call (c .before .before))
+passed c = accepts _ (subst (Told _ _) (c .enum-told .given .1) (told-by (c .before .before)) .verdict)
 
-passed-3 : (c : tie.Else3) → Passed3 (call (c .before .before .before .before .before))
-passed-3 c = record { past = passed-2 (c .before); results = (c .if3 .left, tt) }
-
-passed-4 : (c : tie.Else4) → Passed4 (call (entry c))
-passed-4 c = record { past = passed-3 (c .before .before); scratch = omega arith }
-
-spends : (c : tie.After-counts-of) → c .counts-of .result .dct .products ≡ call (entry (c .before)) .products
-spends c = c .counts-of .ensures .ofDct .products _
-
-passed-5 : (c : tie.Else5) → Passed5 (call (start c))
-passed-5 c = record { past = passed-4 (counted c .before); allowance = omega (arith, spends (counted c)) }
-
-inside : (c : tie.Else5) → let a = start c .args in a .start + a .length ≤ length (a .recording .now)
-inside c = passed-5 c .past .past .past .recordings .0
-
-passed-6 : (c : tie.Else6) → Passed6 (call (start (allowed c)))
-passed-6 c = record {
-  past = passed-5 (allowed c);
-  range = (lent-in _ _ _ (inside (allowed c)) (c .before .first-out .ensures) (c .if6 .left), tt);
-}
-
--- ---- the refusals
 returns : tie.Need-returns
-returns c = cosine-refused (refused-1 (sym (c .before .is-length .ensures) ∙ not-true _ (c .if1 .taken)))
+returns c = turned-down (refl, refl) (subst (Told _ _) (c .before .tested .given .1) (told-by (c .before .before .before)))
+
+-- ---- the accepted call
+room : (c : tie.After-scratch-words) → c .scratch-words .result ≤ length (call (c .before .before .before) .scratch)
+room c = omega (arith, passed (c .before) .scratch)
+
+cosine-of-requires : tie.Need-cosine-of-requires
+cosine-of-requires c κs =
+    let m = c .before .before .before in
+    let (f, _) = fits (passed (m .before)) in
+    (fit-workable f _ (m .scratch-words .ensures) (room m), omega (arith, fit-length f, passed (m .before) .results .0))
 
 returns-2 : tie.Need-returns-2
 returns-2 c =
-    let beyond = ltb-true _ _ (sym (c .before .reaches-beyond .ensures) ∙ c .if2 .taken) in
-    cosine-refused (refused-2 (passed-1 (c .before .before)) (inl beyond))
-
-returns-3 : tie.Need-returns-3
-returns-3 c = cosine-refused (refused-3 (passed-2 (c .before)) (inl (c .if3 .taken)))
-
-returns-4 : tie.Need-returns-4
-returns-4 c = cosine-refused (refused-4 (passed-3 (c .before .before)) (omega arith))
-
-returns-5 : tie.Need-returns-5
-returns-5 c =
-    let n = c .before .before .before in
-    cosine-refused (refused-5 (passed-4 (n .before)) (omega (arith, spends n)))
-
-returns-6 : tie.Need-returns-6
-returns-6 c =
-    let s = c .before .before .before in
-    cosine-refused (refused-6 (passed-5 s) (inl (lent-out _ _ _ (inside s) (c .before .first-out .ensures), omega arith)))
-
--- ---- the accepted call
-cosine-of-requires : tie.Need-cosine-of-requires
-cosine-of-requires c κs =
-    let t = c .before .before .before in
-    let (f, _) = fits (passed-6 t) in
-    let is = measured (allowed t) .scratch-words .ensures in
-    (fit-workable f _ is (omega arith), omega (arith, fit-length f))
-
-returns-7 : tie.Need-returns-7
-returns-7 c =
     let d = c .before .before in
-    let t = d .before .before .before .before in
-    let s = allowed t in
-    carried-out (passed-6 t) refl
-    (cosine-done (counted s .counts-of .ensures) (measured s .scratch-words .ensures) (passed-6 t) (d .cosine-of .ensures))
+    let m = d .before .before .before .before in
+    let ok = passed (m .before) in
+    let counts = m .before .before .before .before .counts-at .ensures (ok .length-ok) in
+    carried-out ok refl (cosine-done counts (m .scratch-words .ensures) ok (d .cosine-of .ensures))
 
 pub cosine-spec : {M : Type 1} → statement M
 cosine-spec =
     tie.close
     (tie.spec
-    (λ c κs. search needs)  -- is-length-requires
+    (λ c κs. search needs)  -- counts-at-requires
+    (λ c κs. search needs)  -- test-requires
+    (λ c. search needs)  -- enum-known-tested
     returns
-    (λ c κs. search needs)  -- reaches-beyond-requires
-    returns-2
-    returns-3
-    (λ c κs. length-le _ (passed-3 c .past .past .length))  -- scratch-words-requires
-    returns-4
-    (λ c κs. passed-4 c .past .past .past .length)  -- counts-of-requires
-    returns-5
-    (λ c. record { fits = omega (arith, inside c) })  -- add-end
-    (λ c. record { fits = omega (arith, inside c) })  -- mul-first-out
-    (λ c. search needs)  -- sub-first-out
-    (λ c. search needs)  -- part-first-out-start
-    inside  -- part-first-out-end
-    (λ c κs. search needs)  -- first-out-requires
-    (λ c. record { fits = omega (arith, inside (c .before .before .before)) })  -- add-t20
-    returns-6
-    (λ c. record { fits = omega (arith, inside (allowed c)) })  -- mul-cosine-of
+    (λ c. search needs)  -- enum-told
+    (λ c. record { fits = omega (arith, passed c .recordings .0) })  -- add-end
+    (λ c κs. length-le _ (passed c .length-ok))  -- scratch-words-requires
+    (λ c. record { fits = omega (arith, passed (c .before) .recordings .0) })  -- mul-cosine-of
     (λ c. search needs)  -- sub-cosine-of
     (λ c. search needs)  -- part-cosine-of-start
-    (λ c. inside (allowed c))  -- part-cosine-of-end
-    (λ c. search needs)  -- slice-relend-prefix-cosine-of
-    (λ c. sym (length-take-le _ _ (omega arith)))  -- slice-aggregate-cosine-of
+    (λ c. passed (c .before) .recordings .0)  -- part-cosine-of-end
+    (λ c. room (c .before .before))  -- slice-relend-prefix-cosine-of
+    (λ c. sym (length-take-le _ _ (room (c .before .before .before))))  -- slice-aggregate-cosine-of
     cosine-of-requires
     (λ c. search needs)  -- same-length
     (λ c. search needs)  -- same-length-2
-    returns-7)
+    returns-2)

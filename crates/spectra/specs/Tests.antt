@@ -1,0 +1,28 @@
+-- The tests of a call as one function makes them: on the lengths of what is lent, and on one recording.
+use mathlib.Core.Bool.{not, cond}
+use mathlib.Core.List.{List}
+use mathlib.Core.Path.{_≡_}
+use Prim.Native.Nat.{ℕ, _+_, _<_}
+use lib.Dec.{ltb}
+use lib.IntN.{ℤ}
+use Rattle.words.specs.Words.{word}
+use Rattle.ffct.specs.Block.{isLength}
+use Rattle.refusals.specs.Refusals.{scratchWords, Verdict, refused, number, firstOutOr}
+use Rattle.spectra.specs.declared.Tested.{Tested}
+use Rattle.spectra.specs.declared.Tested.the-variants.{Refused, Passed}
+use Rattle.spectra.specs.Answers.{verdictOf}
+
+-- 1 to 5, then 6 on a recording, and then the rest. `shortest` is the length of the shortest recording, `room` of the shortest result buffer
+unfoldable pub tests : List ℤ → (shortest start N allowance room yields scratch products : ℕ) → Verdict → Verdict
+tests recording shortest start N allowance room yields scratch products rest =
+    cond (not (isLength N)) (refused 1)
+    (cond (ltb shortest (start + N)) (refused 2)
+    (cond (ltb room yields) (refused 3)
+    (cond (ltb scratch (scratchWords N)) (refused 4)
+    (cond (ltb allowance products) (refused 5)
+    (firstOutOr (word recording) start N rest)))))
+
+-- a test turns the call down, whatever comes after; or none does, and the rest decides
+abbrev pub Tells : (Verdict → Verdict) → Tested → Type 0
+Tells verdict (Refused answer) = (0 < number (verdictOf answer)) × ((rest : Verdict) → verdict rest ≡ verdictOf answer)
+Tells verdict Passed = (rest : Verdict) → verdict rest ≡ rest
