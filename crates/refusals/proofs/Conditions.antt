@@ -1,15 +1,16 @@
 -- The conditions of a refusal as tests, and as facts: lengths that reach a number, samples that are in range.
 -- Assumes nothing.
 use mathlib.Core.Path.{_≡_, refl, sym, ap, _∙_}
-use mathlib.Core.Logic.{_⊎_, inl, inr}
+use mathlib.Core.Logic.{_⊎_, inl, inr, ⊎-elim}
 use mathlib.Core.Bool.{Bool, true, false, false≢true, cond, _||_}
 use mathlib.Core.List.{List, [], _∷_}
-use Prim.Native.Nat.{ℕ, _+_, _≤_, _<_}
+use Prim.Native.Nat.{ℕ, _+_, min, _≤_, _<_}
 use native.Mathlib.Omega.{arith}
 use lib.Dec.{ltb}
 use borrow.Author.Tests.{lt-ltb, le-ltb, ltb-false}
+use Rattle.whole.proofs.Cases.{le-or-lt}
 use Rattle.words.specs.Words.{Samples}
-use Rattle.refusals.specs.Refusals.{someBelow, Shortest, firstOut, firstOutOr, firstOutIn, Verdict, refused, refusedAt, accepted}
+use Rattle.refusals.specs.Refusals.{someBelow, firstOut, firstOutOr, firstOutIn, Verdict, refused, refusedAt, accepted}
 use Rattle.refusals.proofs.Ranges.{first-to}
 
 -- ---- lengths: all reach n, or some are below it
@@ -25,7 +26,7 @@ pub all-reach : (n : ℕ) (ms : List ℕ) → AllReach n ms → someBelow n ms �
 all-reach n [] h = refl
 all-reach n (m ∷ ms) (l, h) = rw (le-ltb m n l) (all-reach n ms h)
 
-pub or-true : (b : Bool) → (b || true) ≡ true
+or-true : (b : Bool) → (b || true) ≡ true
 or-true true = refl
 or-true false = refl
 
@@ -46,12 +47,18 @@ pub reach-all : (n : ℕ) (ms : List ℕ) → someBelow n ms ≡ false → AllRe
 reach-all n [] e = tt
 reach-all n (m ∷ ms) e = let (f, g) = none-of (ltb m n) (someBelow n ms) e in (ltb-false m n f, reach-all n ms g)
 
--- the shortest of some lengths: of one, and of all
-pub shortest-one : (m : ℕ) → Shortest m (m ∷ [])
-shortest-one m n = or-false (ltb m n)
+-- one length decides, and so does the shorter of two
+pub one-below : (m n : ℕ) → someBelow n (m ∷ []) ≡ ltb m n
+one-below m n = or-false (ltb m n)
 
-pub shortest-reaches : (m : ℕ) (ms : List ℕ) → Shortest m ms → AllReach m ms
-shortest-reaches m ms h = reach-all m ms (h m ∙ le-ltb m m (omega arith))
+pub two-below : (a b : ℕ) {m : ℕ} → m ≡ min a b → (n : ℕ) → someBelow n (a ∷ b ∷ []) ≡ ltb m n
+two-below a b {m} e n = ⊎-elim
+    (λ h. rw (le-ltb a n h) (⊎-elim
+    (λ l. rw (le-ltb b n l, le-ltb m n (omega arith)))
+    (λ l. rw (lt-ltb b n l, lt-ltb m n (omega arith)))
+    (le-or-lt n b)))
+    (λ h. rw (lt-ltb a n h, lt-ltb m n (omega arith)))
+    (le-or-lt n a)
 
 -- ---- samples: all are in range, or the first that is not stands at a place
 abbrev pub AllIn : List Samples → ℕ → ℕ → Type 0

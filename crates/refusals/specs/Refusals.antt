@@ -1,7 +1,6 @@
 -- Document 01, "When a call is turned down": the conditions 1 to 6, on lengths and samples, in their order. The order itself is the
 -- verdict on a call (crate spectra) and on a file.
 use mathlib.Core.Bool.{Bool, false, cond, _||_}
-use mathlib.Core.Path.{_≡_}
 use mathlib.Core.List.{List, [], _∷_}
 use Prim.Native.Nat.{ℕ, zero, suc, _+_, _*_}
 use lib.Dec.{leb, ltb}
@@ -15,10 +14,6 @@ use Rattle.ffct.specs.Block.{largestSample}
 abbrev pub someBelow : ℕ → List ℕ → Bool
 someBelow n [] = false
 someBelow n (m ∷ ms) = ltb m n || someBelow n ms
-
--- m is the shortest of these lengths: it alone decides
-abbrev pub Shortest : ℕ → List ℕ → Type 0
-Shortest m ms = (n : ℕ) → someBelow n ms ≡ ltb m n
 
 -- ---- 4: "scratch is shorter than 8N + 64 words of 64 bits"
 abbrev pub scratchWords : ℕ → ℕ

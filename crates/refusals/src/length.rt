@@ -1,10 +1,9 @@
 // Lengths of blocks and of what is lent.
 ghost use mathlib.Core.Path.{_≡_};
-ghost use mathlib.Core.List.{[], _∷_};
-ghost use Prim.Native.Nat.{_+_, _≤_};
+ghost use Prim.Native.Nat.{_+_, min, _≤_};
 ghost use lib.Dec.{ltb};
 ghost use Rattle.ffct.specs.Block.{isLength};
-ghost use Rattle.refusals.specs.Refusals.{Shortest, scratchWords};
+ghost use Rattle.refusals.specs.Refusals.{scratchWords};
 
 // Whether n is one of the eleven lengths 1, 2, 4 .. 1,024: a power of two has one binary digit that is 1.
 pub fn is_length(n: usize) -> bool
@@ -28,7 +27,7 @@ pub fn reaches_beyond(start: usize, n: usize, len: usize) -> bool
 
 // The shorter of two lengths.
 pub fn shorter(a: usize, b: usize) -> usize
-    ensures { λ r. ⌜ Shortest r (a ∷ b ∷ []) ⌝ }
+    ensures { λ r. ⌜ r ≡ min a b ⌝ }
 {
     if a < b { a } else { b }
 }

@@ -70,7 +70,7 @@ module _ {recording : List ℤ} {start N : ℕ} (f : Fit recording start N) wher
   fit-same : Same (level N) (word (lent recording start N)) (block recording start)
   fit-same k h = fit-word k (omega (arith, is-power N (f .length-ok), pow-len (level N)))
 
-  pub fit-workable : (scratch : List ℤ) {m : ℕ} → m ≡ scratchWords N → m ≤ length scratch
+  pub fit-workable : (scratch : List ℤ) {m : ℕ} → m ≡ scratchWords N → scratchWords N ≤ length scratch
       → Workable (lent recording start N) (take m scratch)
   fit-workable scratch {m} e room = record {
     block-ok = record {
@@ -79,7 +79,7 @@ module _ {recording : List ℤ} {start N : ℕ} (f : Fit recording start N) wher
           let l : k < N = omega (arith, h, fit-length) in
           rw (fit-word k l) (all-in (word recording) start N (f .range) k l);
     };
-    room = omega (arith, e, fit-length, length-take-le m scratch room);
+    room = omega (arith, e, fit-length, length-take-le m scratch (omega arith));
   }
 
 -- the lent part of a buffer, put back to its front

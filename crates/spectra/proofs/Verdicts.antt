@@ -11,7 +11,7 @@ use lib.IntN.{ℤ}
 use lib.ListN.{length}
 use borrow.Author.Tests.{ltb-false, not-false}
 use Rattle.ffct.specs.Block.{isLength}
-use Rattle.refusals.specs.Refusals.{someBelow, Shortest, scratchWords, Verdict, refused, number, firstOutIn, accepted}
+use Rattle.refusals.specs.Refusals.{someBelow, scratchWords, Verdict, refused, number, firstOutIn, accepted}
 use Rattle.refusals.proofs.Conditions.{AllReach, reach-all, AllIn, past, past-ranges}
 use Rattle.spectra.specs.declared.Answer.{Answer}
 use Rattle.spectra.specs.declared.Tested.{Tested}
@@ -21,15 +21,7 @@ use Rattle.spectra.specs.Calls.{lengthsOf, samplesOf, Call, verdict}
 use Rattle.spectra.specs.Tests.{tests, Tells}
 use Rattle.spectra.specs.Promises.{Promise}
 
--- ---- the verdict by the tests
--- a call on x and other recordings, and what stands for it in the tests: the shortest lengths, and products that are its own if N is a length
-pub record Tests (call : Call) (x : List ℤ) (others : List (List ℤ)) (shortest room products : ℕ) : Type 0 where
-  pub recordings : call .recordings ≡ x ∷ others
-  pub is-shortest : Shortest shortest (lengthsOf (call .recordings))
-  pub is-room : Shortest room (lengthsOf (call .results))
-  pub spends : isLength (call .N) ≡ true → products ≡ call .products
-
--- a call that is turned down
+-- ---- a call that is turned down
 pub record TurnedDown (call : Call) (answer : Answer) : Type 0 where
   pub verdict : verdictOf answer ≡ verdict call
   pub never : verdictOf answer ≡ accepted → ⊥
@@ -50,22 +42,25 @@ of-length : (b : Bool) (u v w : Verdict) → (b ≡ true → v ≡ w) → cond (
 of-length true u v w e = e refl
 of-length false u v w e = refl
 
-module _ {call : Call} {x : List ℤ} {others : List (List ℤ)} {shortest room products : ℕ}
-    (is : Tests call x others shortest room products) where
+-- `shortest` stands for the recordings, x and others, `room` for the result buffers; the products are the call's where N is a length
+module _ (call : Call) (x : List ℤ) (others : List (List ℤ)) (shortest room products : ℕ) (is : call .recordings ≡ x ∷ others)
+    (below : (n : ℕ) → someBelow n (lengthsOf (call .recordings)) ≡ ltb shortest n)
+    (short : (n : ℕ) → someBelow n (lengthsOf (call .results)) ≡ ltb room n)
+    (spends : isLength (call .N) ≡ true → products ≡ call .products) where
   abbrev tests-of : Verdict → Verdict
   tests-of = tests x shortest (call .start) (call .N) (call .allowance) room (call .yields) (length (call .scratch)) products
 
   by-tests : verdict call ≡ tests-of (firstOutIn (samplesOf others) (call .start) (call .N))
   unfolding verdict tests
-  by-tests = rw (is .is-shortest (call .start + call .N), is .is-room (call .yields), is .recordings)
-      (of-length (isLength (call .N)) _ _ _ (λ h. rw (is .spends h)))
+  by-tests = rw (below (call .start + call .N), short (call .yields), is)
+      (of-length (isLength (call .N)) _ _ _ (λ h. rw (spends h)))
 
   inside : tests-of accepted ≡ accepted → someBelow (call .start + call .N) (lengthsOf (call .recordings)) ≡ false
   unfolding tests
   inside e =
       let (_, r) = past (not (isLength (call .N))) (refused 1) _ e refl in
       let (f, _) = past (ltb shortest (call .start + call .N)) (refused 2) _ r refl in
-      is .is-shortest (call .start + call .N) ∙ f
+      below (call .start + call .N) ∙ f
 
   pub told : (t : Tested) → Tells tests-of t → Told call (firstOutIn (samplesOf others) (call .start) (call .N)) t
   told (Refused answer) (some, e) = down some (by-tests ∙ e _)

@@ -47,21 +47,14 @@ enum Tested {
 
 // ---- the tests
 
-// The counts of a length; 0 where it is none.
+// The counts of a length; where it is none, those of one sample, which are 0.
 fn counts_at(length: usize) -> Counts
     ensures { λ r. ⌜ (isLength length ≡ true → SixCounts (level length) r) ⌝ }
 {
     if is_length(length) {
-        return counts_of(length);
-    }
-    let none = Tally {
-        products: 0,
-        sums: 0,
-    };
-    Counts {
-        dct: none,
-        spectrum: none,
-        pair: none,
+        counts_of(length)
+    } else {
+        counts_of(1)
     }
 }
 

@@ -1,13 +1,11 @@
 -- `spectra::cosine` meets its contract. Assumes nothing.
 use mathlib.Core.Path.{refl, sym, subst}
-use Prim.Native.Nat.{_≤_}
 use native.Mathlib.Omega.{arith}
-use lib.ListN.{length}
 use lib.Seq.{length-take-le}
 use borrow.Author.Needs.{needs}
 use Rattle.ffct.proofs.ElevenLengths.{length-le}
 use Rattle.refusals.specs.Refusals.{accepted}
-use Rattle.refusals.proofs.Conditions.{shortest-one}
+use Rattle.refusals.proofs.Conditions.{one-below}
 use Rattle.spectra.specs.Calls.{Call}
 use Rattle.spectra.specs.Promises.{cosineCall}
 use Rattle.spectra.proofs.Verdicts.{Told, told, Accepted, accepts, turned-down, carried-out}
@@ -22,15 +20,8 @@ call c =
 
 told-by : (c : tie.After-test) → Told (call c) accepted (c .test .result)
 told-by c =
-    told
-    (record {
-      recordings = refl;
-      is-shortest = shortest-one _;
-      is-room = shortest-one _;
-      spends = λ ok. c .before .counts-at .ensures ok .ofDct .products _;
-    })
-    (c .test .result)
-    (c .test .ensures)
+    told (call c) _ _ _ _ _ refl (one-below _) (one-below _) (λ ok. c .before .counts-at .ensures ok .ofDct .products _)
+    (c .test .result) (c .test .ensures)
 
 passed : (c : tie.After-enum-told) → Accepted (call (c .before .before))
 passed c = accepts _ (subst (Told _ _) (c .enum-told .given .1) (told-by (c .before .before)) .verdict)
@@ -39,14 +30,12 @@ returns : tie.Need-returns
 returns c = turned-down (refl, refl) (subst (Told _ _) (c .before .tested .given .1) (told-by (c .before .before .before)))
 
 -- ---- the accepted call
-room : (c : tie.After-scratch-words) → c .scratch-words .result ≤ length (call (c .before .before .before) .scratch)
-room c = omega (arith, passed (c .before) .scratch)
-
 cosine-of-requires : tie.Need-cosine-of-requires
 cosine-of-requires c κs =
     let m = c .before .before .before in
-    let (f, _) = fits (passed (m .before)) in
-    (fit-workable f _ (m .scratch-words .ensures) (room m), omega (arith, fit-length f, passed (m .before) .results .0))
+    let ok = passed (m .before) in
+    let (f, _) = fits ok in
+    (fit-workable f _ (m .scratch-words .ensures) (ok .scratch), omega (arith, fit-length f, ok .results .0))
 
 returns-2 : tie.Need-returns-2
 returns-2 c =
@@ -71,8 +60,8 @@ cosine-spec =
     (λ c. search needs)  -- sub-cosine-of
     (λ c. search needs)  -- part-cosine-of-start
     (λ c. passed (c .before) .recordings .0)  -- part-cosine-of-end
-    (λ c. room (c .before .before))  -- slice-relend-prefix-cosine-of
-    (λ c. sym (length-take-le _ _ (room (c .before .before .before))))  -- slice-aggregate-cosine-of
+    (λ c. omega (arith, passed (c .before .before .before) .scratch))  -- slice-relend-prefix-cosine-of
+    (λ c. sym (length-take-le _ _ (omega (arith, passed (c .before .before .before .before) .scratch))))  -- slice-aggregate-cosine-of
     cosine-of-requires
     (λ c. search needs)  -- same-length
     (λ c. search needs)  -- same-length-2

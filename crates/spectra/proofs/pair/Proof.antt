@@ -1,15 +1,13 @@
 -- `spectra::pair` meets its contract. Assumes nothing.
 use mathlib.Core.List.{[], _∷_}
 use mathlib.Core.Path.{refl, sym, subst, _∙_}
-use Prim.Native.Nat.{_≤_}
 use native.Mathlib.Omega.{arith}
-use lib.ListN.{length}
 use lib.Seq.{length-take-le}
 use borrow.Author.Needs.{needs}
 use Rattle.words.specs.Words.{word}
 use Rattle.ffct.proofs.ElevenLengths.{length-le}
 use Rattle.refusals.specs.Refusals.{Verdict, firstOutIn}
-use Rattle.refusals.proofs.Conditions.{shortest-reaches, one-out, one-in}
+use Rattle.refusals.proofs.Conditions.{two-below, one-out, one-in}
 use Rattle.spectra.specs.Calls.{Call}
 use Rattle.spectra.specs.Promises.{pairCall}
 use Rattle.spectra.proofs.Verdicts.{down, Passes, Told, told, Accepted, accepts, turned-down, carried-out}
@@ -27,15 +25,10 @@ rest c = let a = c .before .before .before .before .args in firstOutIn (word (a 
 
 told-by : (c : tie.After-test) → Told (call c) (rest c) (c .test .result)
 told-by c =
-    told
-    (record {
-      recordings = refl;
-      is-shortest = c .before .before .shorter .ensures;
-      is-room = c .before .shorter2 .ensures;
-      spends = λ ok. c .before .before .before .counts-at .ensures ok .ofPair _ _ .0;
-    })
-    (c .test .result)
-    (c .test .ensures)
+    let shortest = two-below _ _ (c .before .before .shorter .ensures) in
+    let room = two-below _ _ (c .before .shorter2 .ensures) in
+    told (call c) _ _ _ _ _ refl shortest room (λ ok. c .before .before .before .counts-at .ensures ok .ofPair _ _ .0)
+    (c .test .result) (c .test .ensures)
 
 passes : (c : tie.After-enum-told) → Passes (call (c .before .before)) (rest (c .before .before))
 passes c = subst (Told _ _) (c .enum-told .given .1) (told-by (c .before .before))
@@ -52,16 +45,13 @@ returns-2 c =
     turned-down (refl, refl, refl) (down (search needs) (passes (c .before .before) .verdict ∙ out))
 
 -- ---- the accepted call
-room : (c : tie.After-scratch-words) → c .scratch-words .result ≤ length (call (c .before .before .before .before .before) .scratch)
-room c = omega (arith, passed (c .before) .scratch)
-
 pair-of-requires : tie.Need-pair-of-requires
 pair-of-requires c κs =
     let m = c .before .before .before .before .before in
     let ok = passed (m .before) in
     let (f, (g, _)) = fits ok in
     let is = m .scratch-words .ensures in (
-      (fit-workable f _ is (room m), fit-workable g _ is (room m), fit-length g ∙ sym (fit-length f)),
+      (fit-workable f _ is (ok .scratch), fit-workable g _ is (ok .scratch), fit-length g ∙ sym (fit-length f)),
       (omega (arith, fit-length f, ok .results .0), omega (arith, fit-length f, ok .results .1 .0)),
     )
 
@@ -80,7 +70,7 @@ pair-spec =
     (λ c κs. search needs)  -- counts-at-requires
     (λ c κs. search needs)  -- shorter-requires
     (λ c κs. search needs)  -- shorter-requires-2
-    (λ c κs. shortest-reaches _ (_ ∷ _ ∷ []) (c .before .shorter .ensures) .0)  -- test-requires
+    (λ c κs. search needs)  -- test-requires
     (λ c. search needs)  -- enum-known-tested
     returns
     (λ c. search needs)  -- enum-told
@@ -96,8 +86,8 @@ pair-spec =
     (λ c. search needs)  -- sub-pair-of-2
     (λ c. search needs)  -- part-pair-of-start-2
     (λ c. passed (c .before .before) .recordings .1 .0)  -- part-pair-of-end-2
-    (λ c. room (c .before .before .before .before))  -- slice-relend-prefix-pair-of
-    (λ c. sym (length-take-le _ _ (room (c .before .before .before .before .before))))  -- slice-aggregate-pair-of
+    (λ c. omega (arith, passed (c .before .before .before .before .before) .scratch))  -- slice-relend-prefix-pair-of
+    (λ c. sym (length-take-le _ _ (omega (arith, passed (c .before .before .before .before .before .before) .scratch))))  -- slice-aggregate-pair-of
     pair-of-requires
     (λ c. search needs)  -- same-length
     (λ c. search needs)  -- same-length-2

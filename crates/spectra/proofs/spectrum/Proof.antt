@@ -1,13 +1,11 @@
 -- `spectra::spectrum` meets its contract. Assumes nothing.
 use mathlib.Core.Path.{refl, sym, subst}
-use Prim.Native.Nat.{_≤_}
 use native.Mathlib.Omega.{arith}
-use lib.ListN.{length}
 use lib.Seq.{length-take-le}
 use borrow.Author.Needs.{needs}
 use Rattle.ffct.proofs.ElevenLengths.{length-le}
 use Rattle.refusals.specs.Refusals.{accepted}
-use Rattle.refusals.proofs.Conditions.{shortest-one}
+use Rattle.refusals.proofs.Conditions.{one-below, two-below}
 use Rattle.spectra.specs.Calls.{Call}
 use Rattle.spectra.specs.Promises.{spectrumCall}
 use Rattle.spectra.proofs.Verdicts.{Told, told, Accepted, accepts, turned-down, carried-out}
@@ -22,15 +20,9 @@ call c =
 
 told-by : (c : tie.After-test) → Told (call c) accepted (c .test .result)
 told-by c =
-    told
-    (record {
-      recordings = refl;
-      is-shortest = shortest-one _;
-      is-room = c .before .shorter .ensures;
-      spends = λ ok. c .before .before .counts-at .ensures ok .ofSpectrum _ .0;
-    })
-    (c .test .result)
-    (c .test .ensures)
+    let room = two-below _ _ (c .before .shorter .ensures) in
+    told (call c) _ _ _ _ _ refl (one-below _) room (λ ok. c .before .before .counts-at .ensures ok .ofSpectrum _ .0)
+    (c .test .result) (c .test .ensures)
 
 passed : (c : tie.After-enum-told) → Accepted (call (c .before .before))
 passed c = accepts _ (subst (Told _ _) (c .enum-told .given .1) (told-by (c .before .before)) .verdict)
@@ -39,15 +31,12 @@ returns : tie.Need-returns
 returns c = turned-down (refl, refl, refl) (subst (Told _ _) (c .before .tested .given .1) (told-by (c .before .before .before)))
 
 -- ---- the accepted call
-room : (c : tie.After-scratch-words) → c .scratch-words .result ≤ length (call (c .before .before .before) .scratch)
-room c = omega (arith, passed (c .before) .scratch)
-
 spectrum-of-requires : tie.Need-spectrum-of-requires
 spectrum-of-requires c κs =
     let m = c .before .before .before .before in
     let ok = passed (m .before) in
     let (f, _) = fits ok in (
-      fit-workable f _ (m .scratch-words .ensures) (room m),
+      fit-workable f _ (m .scratch-words .ensures) (ok .scratch),
       omega (arith, fit-length f, ok .results .0),
       omega (arith, fit-length f, ok .results .1 .0),
     )
@@ -77,8 +66,8 @@ spectrum-spec =
     (λ c. search needs)  -- sub-spectrum-of
     (λ c. search needs)  -- part-spectrum-of-start
     (λ c. passed (c .before) .recordings .0)  -- part-spectrum-of-end
-    (λ c. room (c .before .before .before))  -- slice-relend-prefix-spectrum-of
-    (λ c. sym (length-take-le _ _ (room (c .before .before .before .before))))  -- slice-aggregate-spectrum-of
+    (λ c. omega (arith, passed (c .before .before .before .before) .scratch))  -- slice-relend-prefix-spectrum-of
+    (λ c. sym (length-take-le _ _ (omega (arith, passed (c .before .before .before .before .before) .scratch))))  -- slice-aggregate-spectrum-of
     spectrum-of-requires
     (λ c. search needs)  -- same-length
     (λ c. search needs)  -- same-length-2
