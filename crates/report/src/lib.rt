@@ -15,7 +15,6 @@ ghost use lib.ListN.{length};
 ghost use Rattle.words.specs.Words.{Samples, word};
 ghost use Rattle.ffct.specs.Block.{isLength, level};
 ghost use Rattle.ffct.specs.Transforms.{pair as pairOf};
-ghost use Rattle.text.specs.Put.{Put};
 ghost use Rattle.report.specs.Output.{linesAt, spectra};
 ghost use Rattle.report.specs.Puts.{Printable, PutFrom, OutputPut};
 
