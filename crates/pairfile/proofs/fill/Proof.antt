@@ -18,8 +18,7 @@ abbrev μ-loop : tie.MeasureT-loop
 
 loop-again : tie.Need-loop-again Inv-loop μ-loop
 loop-again c =
-    let sample = toZ-ofZ (sfits-of (c .signed-at .ok)) ∙ c .signed-at .ensures in
-    (omega arith, ends-front (c .before .before .loop .inv .1) (omega arith) sample)
+    (omega arith, ends-front (c .before .before .loop .inv .1) (omega arith) (toZ-ofZ (sfits-of (c .signed-at .ok)) ∙ c .signed-at .ensures))
 
 returns : tie.Need-returns Inv-loop μ-loop
 returns c = ends-all (c .before .loop .inv .1) (omega arith)
