@@ -4,6 +4,9 @@ use Rattle.counts.specs.declared.tally.Tally.{Tally}
 use Rattle.spectra.specs.declared.Answer.{Answer}
 use Rattle.spectra.specs.declared.Answer.the-variants.{BadLength, BeyondRecording, ResultTooShort, ScratchTooShort}
 use Rattle.spectra.specs.declared.Answer.the-variants.{AllowanceTooSmall, OutOfRange, Done}
+use Rattle.counts.specs.declared.Counts.{Counts}
+use Rattle.spectra.specs.declared.CountsAnswer.{CountsAnswer}
+use Rattle.spectra.specs.declared.CountsAnswer.the-variants.{BadLength as NoLength, Counted}
 use Rattle.refusals.specs.Refusals.{Verdict, refused, refusedAt, accepted}
 
 abbrev pub verdictOf : Answer → Verdict
@@ -37,3 +40,13 @@ place ScratchTooShort = 0
 place AllowanceTooSmall = 0
 place (OutOfRange i) = i
 place (Done tally) = 0
+
+-- ---- the answer of the count query
+abbrev pub verdictOfCounts : CountsAnswer → Verdict
+verdictOfCounts NoLength = refused 1
+verdictOfCounts (Counted counts) = accepted
+
+-- the six counts of a length; else none
+abbrev pub countsOf : CountsAnswer → Counts
+countsOf NoLength = record { dct = none; spectrum = none; pair = none }
+countsOf (Counted counts) = counts

@@ -1,6 +1,6 @@
 -- What the calls promise, for every input: the verdict, what stays after a refusal, and all that an accepted call leaves behind.
 -- N is the length, x the samples of the block, x(0) being the sample at the start. A buffer after the call is marked ′.
-use mathlib.Core.Bool.{true, false}
+use mathlib.Core.Bool.{not, cond}
 use mathlib.Core.List.{List, [], _∷_}
 use mathlib.Core.Path.{_≡_}
 use Prim.Native.Nat.{ℕ, _+_, _/_, _≤_, _<_}
@@ -12,12 +12,11 @@ use Rattle.ffct.specs.Transforms.{dct as dctOf, spectrum as spectrumOf, pair as
 use Rattle.ffct.specs.Counts.{dctProducts, dctSums, spectrumProducts, spectrumSums, pairProducts, pairSums}
 use Rattle.counts.specs.declared.tally.Tally.{Tally}
 use Rattle.counts.specs.Counts.{SixCounts, SixPublished}
-use Rattle.refusals.specs.Refusals.{scratchWords, block, accepted}
+use Rattle.refusals.specs.Refusals.{scratchWords, block, refused, accepted}
 use Rattle.spectra.specs.declared.Answer.{Answer}
 use Rattle.spectra.specs.declared.CountsAnswer.{CountsAnswer}
-use Rattle.spectra.specs.declared.CountsAnswer.the-variants.{BadLength, Counted}
 use Rattle.spectra.specs.Calls.{Call, verdict}
-use Rattle.spectra.specs.Answers.{verdictOf, spent}
+use Rattle.spectra.specs.Answers.{verdictOf, spent, verdictOfCounts, countsOf}
 
 -- a call that gives an answer: what stays where it is turned down, and what is done where it is accepted
 pub record Promise (call : Call) (answer : Answer) (Unchanged Done : Type 0) : Type 0 where
@@ -124,10 +123,6 @@ PairPromise a b start N allowance real imaginary scratch real′ imaginary′ sc
     (PairDone N (block a start) (block b start) allowance real imaginary scratch real′ imaginary′ scratch′ (spent answer))
 
 -- ---- the count query: it tests 1 alone, and gives all six counts, by the definitions and by the closed forms
-abbrev pub Counts : ℕ → CountsAnswer → Type 0
-Counts N BadLength = ⊥
-Counts N (Counted counts) = SixCounts (level N) counts × SixPublished N counts
-
 pub record CountsPromise (N : ℕ) (answer : CountsAnswer) : Type 0 where
-  pub refused : isLength N ≡ false → answer ≡ BadLength
-  pub counted : isLength N ≡ true → Counts N answer
+  pub verdict : verdictOfCounts answer ≡ cond (not (isLength N)) (refused 1) accepted
+  pub counted : verdictOfCounts answer ≡ accepted → SixCounts (level N) (countsOf answer) × SixPublished N (countsOf answer)

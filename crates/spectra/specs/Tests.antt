@@ -12,7 +12,8 @@ use Rattle.spectra.specs.declared.Tested.{Tested}
 use Rattle.spectra.specs.declared.Tested.the-variants.{Refused, Passed}
 use Rattle.spectra.specs.Answers.{verdictOf}
 
--- 1 to 5, then 6 on a recording, and then the rest. `shortest` is the length of the shortest recording, `room` of the shortest result buffer
+-- 1 to 5, then 6 on a recording, and then the rest. `shortest` is the length of the shortest recording, `room` that of the shortest result
+-- buffer
 unfoldable pub tests : List ℤ → (shortest start N allowance room yields scratch products : ℕ) → Verdict → Verdict
 tests recording shortest start N allowance room yields scratch products rest =
     cond (not (isLength N)) (refused 1)

@@ -1,17 +1,19 @@
 -- `spectra::count_query` meets its contract. Assumes nothing.
-use mathlib.Core.Path.{_≡_, refl, sym, _∙_}
-use mathlib.Core.Bool.{true, false≢true}
+use mathlib.Core.Path.{_≡_, refl, sym, ap, _∙_}
+use mathlib.Core.Bool.{true}
+use native.Mathlib.Omega.{arith}
 use borrow.Author.Needs.{needs}
 use borrow.Author.Tests.{not-true, not-false}
 use Rattle.ffct.specs.Block.{isLength}
 use Rattle.counts.proofs.Costs.{six-published}
+use Rattle.refusals.specs.Refusals.{number}
 use Rattle.spectra.proofs.count_query.Statement.{statement}
 use Rattle.spectra.proofs.count_query.Tie as tie
 
 returns : tie.Need-returns
 returns c =
     let no = sym (c .before .is-length .ensures) ∙ not-true _ (c .if1 .taken) in
-    record { refused = λ _. refl; counted = λ yes. absurd (false≢true (sym no ∙ yes)) }
+    record { verdict = rw no; counted = λ e. absurd (omega (arith, ap number e)) }
 
 accepted : (c : tie.Else1) → isLength (c .before .before .args .length) ≡ true
 accepted c = sym (c .before .is-length .ensures) ∙ not-false _ (c .if1 .left)
@@ -20,7 +22,7 @@ returns-2 : tie.Need-returns-2
 returns-2 c =
     let yes = accepted (c .before) in
     let six = c .counts-of .ensures in
-    record { refused = λ no. absurd (false≢true (sym no ∙ yes)); counted = λ _. (six, six-published yes six) }
+    record { verdict = rw yes; counted = λ _. (six, six-published yes six) }
 
 pub count-query-spec : {M : Type 1} → statement M
 count-query-spec = tie.close (tie.spec (λ c κs. search needs) returns (λ c κs. accepted c) returns-2)

@@ -45,9 +45,12 @@ returns-2 c =
     turned-down (refl, refl, refl) (down (search needs) (passes (c .before .before) .verdict ∙ out))
 
 -- ---- the accepted call
+abbrev words : tie.After-pair-of-arg5 → tie.After-scratch-words
+words c = c .before .before .before .before .before
+
 pair-of-requires : tie.Need-pair-of-requires
 pair-of-requires c κs =
-    let m = c .before .before .before .before .before in
+    let m = words c in
     let ok = passed (m .before) in
     let (f, (g, _)) = fits ok in
     let is = m .scratch-words .ensures in (
@@ -87,7 +90,7 @@ pair-spec =
     (λ c. search needs)  -- part-pair-of-start-2
     (λ c. passed (c .before .before) .recordings .1 .0)  -- part-pair-of-end-2
     (λ c. omega (arith, passed (c .before .before .before .before .before) .scratch))  -- slice-relend-prefix-pair-of
-    (λ c. sym (length-take-le _ _ (omega (arith, passed (c .before .before .before .before .before .before) .scratch))))  -- slice-aggregate-pair-of
+    (λ c. sym (length-take-le _ _ (omega (arith, passed (words c .before) .scratch))))  -- slice-aggregate-pair-of
     pair-of-requires
     (λ c. search needs)  -- same-length
     (λ c. search needs)  -- same-length-2

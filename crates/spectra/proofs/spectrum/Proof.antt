@@ -31,9 +31,12 @@ returns : tie.Need-returns
 returns c = turned-down (refl, refl, refl) (subst (Told _ _) (c .before .tested .given .1) (told-by (c .before .before .before)))
 
 -- ---- the accepted call
+abbrev words : tie.After-spectrum-of-arg4 → tie.After-scratch-words
+words c = c .before .before .before .before
+
 spectrum-of-requires : tie.Need-spectrum-of-requires
 spectrum-of-requires c κs =
-    let m = c .before .before .before .before in
+    let m = words c in
     let ok = passed (m .before) in
     let (f, _) = fits ok in (
       fit-workable f _ (m .scratch-words .ensures) (ok .scratch),
@@ -67,7 +70,7 @@ spectrum-spec =
     (λ c. search needs)  -- part-spectrum-of-start
     (λ c. passed (c .before) .recordings .0)  -- part-spectrum-of-end
     (λ c. omega (arith, passed (c .before .before .before .before) .scratch))  -- slice-relend-prefix-spectrum-of
-    (λ c. sym (length-take-le _ _ (omega (arith, passed (c .before .before .before .before .before) .scratch))))  -- slice-aggregate-spectrum-of
+    (λ c. sym (length-take-le _ _ (omega (arith, passed (words c .before) .scratch))))  -- slice-aggregate-spectrum-of
     spectrum-of-requires
     (λ c. search needs)  -- same-length
     (λ c. search needs)  -- same-length-2

@@ -1,15 +1,16 @@
 -- `spectra::test` meets its contract. Assumes nothing.
 use mathlib.Core.Path.{_≡_, sym, _∙_}
-use mathlib.Core.Bool.{true}
+use mathlib.Core.Bool.{true, cond}
 use Prim.Native.Nat.{_+_, _≤_}
 use native.Mathlib.Omega.{arith}
+use lib.Dec.{ltb}
 use lib.ListN.{length}
 use borrow.Author.Needs.{needs}
 use borrow.Author.Tests.{ltb-false, lt-ltb, le-ltb, not-true, not-false}
 use Rattle.words.specs.Words.{word}
 use Rattle.ffct.specs.Block.{isLength}
 use Rattle.ffct.proofs.ElevenLengths.{length-le}
-use Rattle.refusals.specs.Refusals.{scratchWords, Verdict, firstOutOr}
+use Rattle.refusals.specs.Refusals.{scratchWords, Verdict, refused, firstOutOr}
 use Rattle.refusals.proofs.Conditions.{one-out, one-in}
 use Rattle.spectra.specs.Tests.{tests}
 use Rattle.spectra.proofs.test.Statement.{statement}
@@ -25,23 +26,19 @@ passed-1 c = sym (c .before .is-length .ensures) ∙ not-false _ (c .if1 .left)
 passed-2 : (c : tie.Else2) → let a = c .before .before .before .before .args in a .start + a .length ≤ a .shortest
 passed-2 c = ltb-false _ _ (sym (c .before .reaches-beyond .ensures) ∙ c .if2 .left)
 
-passed-3 : (c : tie.Else3) → let a = c .before .before .before .before .before .args in a .yields ≤ a .room
-passed-3 c = c .if3 .left
-
 passed-4 : (c : tie.Else4) → let a = entry c .args in scratchWords (a .length) ≤ a .scratch
 passed-4 c = omega arith
 
--- then 6 decides
-past-5 : (c : tie.Else5) (rest : Verdict) → let a = entry (c .before) .args in
+past-4 : (c : tie.Else4) (rest : Verdict) → let a = entry c .args in
     tests (a .recording .now) (a .shortest) (a .start) (a .length) (a .allowance) (a .room) (a .yields) (a .scratch) (a .products) rest
-    ≡ firstOutOr (word (a .recording .now)) (a .start) (a .length) rest
+    ≡ cond (ltb (a .allowance) (a .products)) (refused 5) (firstOutOr (word (a .recording .now)) (a .start) (a .length) rest)
 unfolding tests
-past-5 c rest =
+past-4 c rest =
     let p = c .before .before .before in
-    rw (passed-1 (p .before .before .before), le-ltb _ _ (passed-2 (p .before)), le-ltb _ _ (passed-3 p), le-ltb _ _ (passed-4 (c .before)), le-ltb _ _ (c .if5 .left))
+    rw (passed-1 (p .before .before), le-ltb _ _ (passed-2 p), le-ltb _ _ (c .before .before .if3 .left), le-ltb _ _ (passed-4 c))
 
-inside : (c : tie.Else5) → let a = entry (c .before) .args in a .start + a .length ≤ length (a .recording .now)
-inside c = omega (arith, passed-2 (c .before .before .before .before), entry (c .before) .pre)
+inside : (c : tie.Else4) → let a = entry c .args in a .start + a .length ≤ length (a .recording .now)
+inside c = omega (arith, passed-2 (c .before .before .before), entry c .pre)
 
 -- ---- the answers
 returns : tie.Need-returns
@@ -54,31 +51,33 @@ returns-2 c = (search needs, λ rest. rw (passed-1 (c .before .before), sym (c .
 
 returns-3 : tie.Need-returns-3
 unfolding tests
-returns-3 c = (search needs, λ rest. rw (passed-1 (c .before .before .before), le-ltb _ _ (passed-2 (c .before)), lt-ltb _ _ (c .if3 .taken)))
+returns-3 c =
+    let p = c .before in
+    (search needs, λ rest. rw (passed-1 (p .before .before), le-ltb _ _ (passed-2 p), lt-ltb _ _ (c .if3 .taken)))
 
 returns-4 : tie.Need-returns-4
 unfolding tests
 returns-4 c =
-    let p = c .before .before in
-    let a = p .before .before .before .before .before .args in
+    let p = c .before .before .before in
+    let a = p .before .before .before .before .args in
     let short = lt-ltb (a .scratch) (scratchWords (a .length)) (omega arith) in
-    (search needs, λ rest. rw (passed-1 (p .before .before .before), le-ltb _ _ (passed-2 (p .before)), le-ltb _ _ (passed-3 p), short))
+    (search needs, λ rest. rw (passed-1 (p .before .before), le-ltb _ _ (passed-2 p), le-ltb _ _ (c .before .before .if3 .left), short))
 
 returns-5 : tie.Need-returns-5
-unfolding tests
-returns-5 c =
-    let p = c .before .before .before in (
-      search needs,
-      λ rest.
-          rw (passed-1 (p .before .before .before), le-ltb _ _ (passed-2 (p .before)), le-ltb _ _ (passed-3 p), le-ltb _ _ (passed-4 (c .before)), lt-ltb _ _ (c .if5 .taken)),
-    )
+returns-5 c = (search needs, λ rest. past-4 (c .before) rest ∙ rw (lt-ltb _ _ (c .if5 .taken)))
 
 returns-6 : tie.Need-returns-6
 returns-6 c =
-    (search needs, λ rest. past-5 (c .before .before) rest ∙ one-out _ _ _ rest (c .before .first-out .ensures) (c .if6 .taken))
+    let p = c .before .before in (
+      search needs,
+      λ rest. past-4 (p .before) rest ∙ rw (le-ltb _ _ (p .if5 .left))
+          (one-out _ _ _ rest (c .before .first-out .ensures) (c .if6 .taken)),
+    )
 
 returns-7 : tie.Need-returns-7
-returns-7 c rest = past-5 (c .before .before) rest ∙ one-in _ _ _ rest (c .before .first-out .ensures) (c .if6 .left)
+returns-7 c rest =
+    let p = c .before .before in
+    past-4 (p .before) rest ∙ rw (le-ltb _ _ (p .if5 .left)) (one-in _ _ _ rest (c .before .first-out .ensures) (c .if6 .left))
 
 pub test-spec : {M : Type 1} → statement M
 test-spec =
@@ -92,7 +91,7 @@ test-spec =
     (λ c κs. length-le _ (passed-1 (c .before .before .before)))  -- scratch-words-requires
     returns-4
     returns-5
-    (λ c κs. inside c)  -- first-out-requires
-    (λ c. record { fits = omega (arith, inside (c .before)) })  -- add-if6
+    (λ c κs. inside (c .before))  -- first-out-requires
+    (λ c. record { fits = omega (arith, inside (c .before .before)) })  -- add-if6
     returns-6
     returns-7)
