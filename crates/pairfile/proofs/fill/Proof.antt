@@ -18,7 +18,8 @@ abbrev μ-loop : tie.MeasureT-loop
 
 loop-again : tie.Need-loop-again Inv-loop μ-loop
 loop-again c =
-    (omega arith, ends-front (c .before .before .loop .inv .1) (omega arith) (toZ-ofZ (sfits-of (c .signed-at .ok)) ∙ c .signed-at .ensures))
+    (omega arith, ends-front (c .before .before .loop .inv .1) (omega arith)
+        (toZ-ofZ (sfits-of (c .signed-at .ok)) ∙ c .signed-at .ensures))
 
 returns : tie.Need-returns Inv-loop μ-loop
 returns c = ends-all (c .before .loop .inv .1) (omega arith)
