@@ -1,18 +1,15 @@
 -- What the exported functions promise, for every input: the record of the call that they make, and what the words hold through which C is
 -- told its answer. `number` is the number returned: document 01's number of the refusal, and 0 where the call is accepted. A word marked ′
 -- is one after the call.
-use mathlib.Core.Bool.{true, false}
 use mathlib.Core.List.{List}
 use mathlib.Core.Path.{_≡_}
 use Prim.Native.Nat.{ℕ}
 use lib.IntN.{ℤ}
-use Rattle.ffct.specs.Block.{isLength, level}
-use Rattle.counts.specs.Counts.{SixCounts, SixPublished}
-use Rattle.counts.specs.declared.Counts.{Counts}
 use Rattle.refusals.specs.Refusals.{number as numberOf}
 use Rattle.spectra.specs.declared.Answer.{Answer}
-use Rattle.spectra.specs.Answers.{verdictOf, spent, place as placeOf}
-use Rattle.spectra.specs.Promises.{SpectrumPromise, CosinePromise, PairPromise}
+use Rattle.spectra.specs.declared.CountsAnswer.{CountsAnswer}
+use Rattle.spectra.specs.Answers.{verdictOf, spent, place as placeOf, verdictOfCounts, countsOf}
+use Rattle.spectra.specs.Promises.{SpectrumPromise, CosinePromise, PairPromise, CountsPromise}
 use Rattle.pairfile.specs.declared.FileAnswer.{FileAnswer}
 use Rattle.pairfile.specs.Answers as file
 use Rattle.pairfile.specs.Promises.{ReadPromise}
@@ -48,29 +45,16 @@ pub record PairTold (a b : List ℤ) (start N allowance : ℕ)
   pub promise : PairPromise a b start N allowance real imaginary scratch real′ imaginary′ scratch′ answer
   pub told : Told answer products′ sums′ place′ number
 
--- ---- the count query, which tests 1 alone: what its record says of an answer, said of the six words. Refusal 1 and six zeros where N is
--- not one of the eleven lengths; else 0 and the six counts of N, by the definitions and by the closed forms
-pub record NothingTold (dctP dctS spectrumP spectrumS pairP pairS number : ℕ) : Type 0 where
-  pub number-is : number ≡ 1
-  pub dct-is : (dctP ≡ 0) × (dctS ≡ 0)
-  pub spectrum-is : (spectrumP ≡ 0) × (spectrumS ≡ 0)
-  pub pair-is : (pairP ≡ 0) × (pairS ≡ 0)
+-- ---- the count query
 
-abbrev counts : (dctP dctS spectrumP spectrumS pairP pairS : ℕ) → Counts
-counts dctP dctS spectrumP spectrumS pairP pairS = record {
-  dct = record { products = dctP; sums = dctS };
-  spectrum = record { products = spectrumP; sums = spectrumS };
-  pair = record { products = pairP; sums = pairS };
-}
-
-pub record SixTold (N dctP dctS spectrumP spectrumS pairP pairS number : ℕ) : Type 0 where
-  pub number-is : number ≡ 0
-  pub six : SixCounts (level N) (counts dctP dctS spectrumP spectrumS pairP pairS)
-  pub published : SixPublished N (counts dctP dctS spectrumP spectrumS pairP pairS)
-
+-- There is an answer of which the promise of the count query holds, and it is the answer told. The counts are 0 in refusal 1.
 pub record CountsTold (N dctP′ dctS′ spectrumP′ spectrumS′ pairP′ pairS′ number : ℕ) : Type 0 where
-  pub refused : isLength N ≡ false → NothingTold dctP′ dctS′ spectrumP′ spectrumS′ pairP′ pairS′ number
-  pub counted : isLength N ≡ true → SixTold N dctP′ dctS′ spectrumP′ spectrumS′ pairP′ pairS′ number
+  pub answer : CountsAnswer
+  pub promise : CountsPromise N answer
+  pub number-is : number ≡ numberOf (verdictOfCounts answer)
+  pub dct-is : (dctP′ ≡ countsOf answer .dct .products) × (dctS′ ≡ countsOf answer .dct .sums)
+  pub spectrum-is : (spectrumP′ ≡ countsOf answer .spectrum .products) × (spectrumS′ ≡ countsOf answer .spectrum .sums)
+  pub pair-is : (pairP′ ≡ countsOf answer .pair .products) × (pairS′ ≡ countsOf answer .pair .sums)
 
 -- ---- reading a file
 

@@ -1,8 +1,8 @@
 -- The conditions of a refusal as tests, and as facts: lengths that reach a number, samples that are in range.
 -- Assumes nothing.
-use mathlib.Core.Path.{_≡_, refl, sym, ap, _∙_}
+use mathlib.Core.Path.{_≡_, refl, sym, ap}
 use mathlib.Core.Logic.{_⊎_, inl, inr, ⊎-elim}
-use mathlib.Core.Bool.{Bool, true, false, false≢true, cond, _||_}
+use mathlib.Core.Bool.{Bool, true, false, false≢true, _||_}
 use mathlib.Core.List.{List, [], _∷_}
 use Prim.Native.Nat.{ℕ, _+_, min, _≤_, _<_}
 use native.Mathlib.Omega.{arith}
@@ -10,8 +10,7 @@ use lib.Dec.{ltb}
 use borrow.Author.Tests.{lt-ltb, le-ltb, ltb-false}
 use Rattle.whole.proofs.Cases.{le-or-lt}
 use Rattle.words.specs.Words.{Samples}
-use Rattle.refusals.specs.Refusals.{someBelow, firstOut, firstOutOr, firstOutIn, Verdict, refused, refusedAt, accepted}
-use Rattle.refusals.proofs.Ranges.{first-to}
+use Rattle.refusals.specs.Refusals.{someBelow, firstOut, firstOutIn, Verdict, refused, refusedAt, accepted}
 
 -- ---- lengths: all reach n, or some are below it
 abbrev pub AllReach : ℕ → List ℕ → Type 0
@@ -69,36 +68,17 @@ abbrev pub OutAt : List Samples → ℕ → ℕ → ℕ → Type 0
 OutAt [] s N place = ⊥
 OutAt (x ∷ xs) s N place = ((place ≡ firstOut x s N) × (place < s + N)) ⊎ ((firstOut x s N ≡ s + N) × OutAt xs s N place)
 
--- one recording, and then the rest
-pub one-out : (x : Samples) (s N : ℕ) {out : ℕ} (rest : Verdict)
-    → out ≡ firstOut x s N → out < s + N → firstOutOr x s N rest ≡ refusedAt 6 out
-one-out x s N rest e l = rw (← e) (rw (lt-ltb _ _ l))
-
-pub one-in : (x : Samples) (s N : ℕ) {out : ℕ} (rest : Verdict) → out ≡ firstOut x s N → s + N ≤ out → firstOutOr x s N rest ≡ rest
-one-in x s N rest e l = rw (← e) (rw (le-ltb _ _ l))
-
 pub in-verdict : (xs : List Samples) (s N : ℕ) → AllIn xs s N → firstOutIn xs s N ≡ accepted
 in-verdict [] s N h = refl
-in-verdict (x ∷ xs) s N (e, h) = one-in x s N _ (sym e) (omega arith) ∙ in-verdict xs s N h
+in-verdict (x ∷ xs) s N (e, h) = rw (le-ltb (firstOut x s N) (s + N) (omega (arith, e))) (in-verdict xs s N h)
 
 pub out-verdict : (xs : List Samples) (s N place : ℕ) → OutAt xs s N place → firstOutIn xs s N ≡ refusedAt 6 place
 out-verdict [] s N place h = absurd h
-out-verdict (x ∷ xs) s N place (inl (e, l)) = one-out x s N _ e l
-out-verdict (x ∷ xs) s N place (inr (e, h)) = one-in x s N _ (sym e) (omega arith) ∙ out-verdict xs s N place h
+out-verdict (x ∷ xs) s N place (inl (e, l)) = rw (lt-ltb (firstOut x s N) (s + N) (omega (arith, e, l))) (ap (refusedAt 6) (sym e))
+out-verdict (x ∷ xs) s N place (inr (e, h)) = rw (le-ltb (firstOut x s N) (s + N) (omega (arith, e))) (out-verdict xs s N place h)
 
 -- ---- a verdict is acceptance, or it is not
 abbrev pub isAccepted : Verdict → Bool
 isAccepted (refused number) = false
 isAccepted (refusedAt number place) = false
 isAccepted accepted = true
-
--- where a call is accepted, each test was passed
-pub past : (b : Bool) (v rest : Verdict) → cond b v rest ≡ accepted → isAccepted v ≡ false → (b ≡ false) × (rest ≡ accepted)
-past true v rest e f = absurd (false≢true (sym f ∙ ap isAccepted e))
-past false v rest e f = (refl, e)
-
-pub past-ranges : (xs : List Samples) (s N : ℕ) → firstOutIn xs s N ≡ accepted → AllIn xs s N
-past-ranges [] s N e = tt
-past-ranges (x ∷ xs) s N e =
-    let (f, g) = past (ltb (firstOut x s N) (s + N)) (refusedAt 6 (firstOut x s N)) (firstOutIn xs s N) e refl in
-    (omega (arith, ltb-false (firstOut x s N) (s + N) f, first-to x s N), past-ranges xs s N g)

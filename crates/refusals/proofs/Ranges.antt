@@ -40,6 +40,9 @@ module _ (x : Samples) where
       (λ f. omega (arith, first-here i d f))
       (outcome (inRange (x i)))
 
+  pub first-end : (i d : ℕ) {out : ℕ} → out ≡ firstOut x i d → i + d ≤ out → firstOut x i d ≡ i + d
+  first-end i d e h = omega (arith, e, h, first-to i d)
+
   -- ---- where it is i + d, every sample was in range
   passes : (i d : ℕ) → firstOut x i (suc d) ≡ i + suc d → inRange (x i) ≡ true
   passes i d e = ⊎-elim (λ t. t) (λ f. absurd (omega (arith, first-here i d f))) (outcome (inRange (x i)))

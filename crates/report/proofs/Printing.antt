@@ -33,13 +33,10 @@ module _ (i : ℕ) {N allowance : ℕ} {a b real imaginary scratch real′ imagi
       → PairDone N (block a (i * N)) (block b (i * N)) allowance real imaginary scratch real′ imaginary′ scratch′ (spent answer)
   pair-done p e promise = promise .done (promise .verdict ∙ is-accepted (record {
     past = record {
-      past = record {
-        past = record {
-          past = record { past = record { length = p .length-ok }; recordings = (p .wordsOfA, (p .wordsOfB, tt)) };
-          results = (p .realWords, (p .imaginaryWords, tt));
-        };
-        scratch = p .scratchFits;
-      };
+      length-ok = p .length-ok;
+      recordings = (p .wordsOfA, (p .wordsOfB, tt));
+      results = (p .realWords, (p .imaginaryWords, tt));
+      scratch = p .scratchFits;
       allowance = omega (arith, e (block a (i * N)) (block b (i * N)));
     };
     range = (none-out (word a) (i * N) N (λ j _ l. p .rangeOfA j l), (none-out (word b) (i * N) N (λ j _ l. p .rangeOfB j l), tt));

@@ -27,7 +27,7 @@ use Rattle.refusals.proofs.Ranges.{all-in}
 use Rattle.refusals.proofs.Conditions.{AllReach, AllIn}
 use Rattle.spectra.specs.Calls.{lengthsOf, samplesOf, Call}
 use Rattle.spectra.specs.Promises.{CosineDone, cosineCall, SpectrumDone, spectrumCall, PairDone, pairCall}
-use Rattle.spectra.proofs.Verdicts.{Accepted}
+use Rattle.spectra.proofs.Verdicts.{Passed6}
 
 -- ---- the block of N samples from s on, lent as a slice of the recording r
 abbrev pub lent : List ℤ → ℕ → ℕ → List ℤ
@@ -50,8 +50,8 @@ all-fit [] start N ok inside range = tt
 all-fit (r ∷ rs) start N ok (inside, more) (range, all) =
     (record { length-ok = ok; inside = inside; range = range }, all-fit rs start N ok more all)
 
-pub fits : {call : Call} → Accepted call → AllFit (call .recordings) (call .start) (call .N)
-fits {call} p = all-fit (call .recordings) (call .start) (call .N) (p .length-ok) (p .recordings) (p .range)
+pub fits : {call : Call} → Passed6 call → AllFit (call .recordings) (call .start) (call .N)
+fits {call} p = all-fit (call .recordings) (call .start) (call .N) (p .past .length-ok) (p .past .recordings) (p .range)
 
 module _ {recording : List ℤ} {start N : ℕ} (f : Fit recording start N) where
   fit-block : AcceptedBlock (level N) (block recording start)
@@ -128,7 +128,7 @@ same-tally {t} {u} (e, d) (f, g) =
 module _ {N m allowance : ℕ} {counts : Counts} {scratch w′ : List ℤ} (c : SixCounts (level N) counts) (is : m ≡ scratchWords N)
     {start : ℕ} {spent : Tally} where
   pub cosine-done : {recording coefficients coefficients′ : List ℤ}
-      → Accepted (cosineCall recording start N allowance coefficients scratch)
+      → Passed6 (cosineCall recording start N allowance coefficients scratch)
       → CosineMade (lent recording start N) coefficients (take m scratch) coefficients′ w′ spent
       → CosineDone N (block recording start) allowance coefficients scratch coefficients′ (w′ ++ drop m scratch) spent
   cosine-done {recording} {coefficients} {coefficients′} passed made =
@@ -143,14 +143,14 @@ module _ {N m allowance : ℕ} {counts : Counts} {scratch w′ : List ℤ} (c : 
         block = fit-block f;
         words = written;
         near = λ k h. rw (front written k h) (dct-near N (f .length-ok) x (fit-block f) k h);
-        scratchCleared = put-back is (omega (arith, is, passed .scratch)) (made .cleared);
+        scratchCleared = put-back is (omega (arith, is, passed .past .scratch)) (made .cleared);
         tallied = (products, sums);
         published = rw tally (six-published (f .length-ok) c .ofDct);
-        allowed = omega (arith, products, passed .allowance);
+        allowed = omega (arith, products, passed .past .allowance);
       }
 
   pub spectrum-done : {recording cosine sine cosine′ sine′ : List ℤ}
-      → Accepted (spectrumCall recording start N allowance cosine sine scratch)
+      → Passed6 (spectrumCall recording start N allowance cosine sine scratch)
       → SpectrumMade (lent recording start N) cosine sine (take m scratch) cosine′ sine′ w′ spent
       → SpectrumDone N (block recording start) allowance cosine sine scratch cosine′ sine′ (w′ ++ drop m scratch) spent
   spectrum-done {recording} {cosine} {sine} {cosine′} {sine′} passed made =
@@ -169,15 +169,15 @@ module _ {N m allowance : ℕ} {counts : Counts} {scratch w′ : List ℤ} (c : 
         sineWords = sines;
         cosineNear = λ k h. rw (front cosines k (omega (arith, h))) (cosine-near N (f .length-ok) x (fit-block f) k h);
         sineNear = λ k h. rw (front sines k (omega (arith, h))) (sine-near N (f .length-ok) x (fit-block f) k h);
-        scratchCleared = put-back is (omega (arith, is, passed .scratch)) (made .cleared);
+        scratchCleared = put-back is (omega (arith, is, passed .past .scratch)) (made .cleared);
         tallied = (products, sums);
         published = λ h. rw tally (forms .ofSpectrum h);
         nothingAtOne = λ e. rw tally (forms .nothingAtOne e .0, forms .nothingAtOne e .1);
-        allowed = omega (arith, products, passed .allowance);
+        allowed = omega (arith, products, passed .past .allowance);
       }
 
   pub pair-done : {a b real imaginary real′ imaginary′ : List ℤ}
-      → Accepted (pairCall a b start N allowance real imaginary scratch)
+      → Passed6 (pairCall a b start N allowance real imaginary scratch)
       → PairMade (lent a start N) (lent b start N) real imaginary (take m scratch) real′ imaginary′ w′ spent
       → PairDone N (block a start) (block b start) allowance real imaginary scratch real′ imaginary′ (w′ ++ drop m scratch) spent
   pair-done {a} {b} {real} {imaginary} {real′} {imaginary′} passed made =
@@ -199,9 +199,9 @@ module _ {N m allowance : ℕ} {counts : Counts} {scratch w′ : List ℤ} (c : 
         imaginaryWords = imaginaries;
         realNear = λ k h. rw (front reals k h) (real-near N (f .length-ok) x (fit-block f) y (fit-block g) k h);
         imaginaryNear = λ k h. rw (front imaginaries k h) (imaginary-near N (f .length-ok) x (fit-block f) y (fit-block g) k h);
-        scratchCleared = put-back is (omega (arith, is, passed .scratch)) (made .cleared);
+        scratchCleared = put-back is (omega (arith, is, passed .past .scratch)) (made .cleared);
         tallied = (products, sums);
         published = λ h. rw tally (forms .ofPair h);
         nothingAtOne = λ e. rw tally (forms .nothingAtOne e .2, forms .nothingAtOne e .3);
-        allowed = omega (arith, products, passed .allowance);
+        allowed = omega (arith, products, passed .past .allowance);
       }

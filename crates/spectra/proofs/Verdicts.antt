@@ -1,5 +1,5 @@
--- The verdict on a call: what it is by the tests that are made, what is known of a call that is accepted, and the whole promise of a call
--- that is turned down, and of one that is carried out.
+-- The verdict on a call: what is known of one that passes the tests, what follows from a refusal, and the whole promise of a call that is
+-- turned down, and of one that is carried out.
 -- Assumes nothing.
 use mathlib.Core.Path.{_≡_, refl, sym, ap, _∙_}
 use mathlib.Core.Bool.{Bool, true, false, not, cond}
@@ -9,11 +9,13 @@ use native.Mathlib.Omega.{arith}
 use lib.Dec.{ltb}
 use lib.IntN.{ℤ}
 use lib.ListN.{length}
-use borrow.Author.Tests.{ltb-false, not-false}
+use borrow.Author.Tests.{le-ltb}
+use Rattle.words.specs.Words.{word}
 use Rattle.ffct.specs.Block.{isLength}
-use Rattle.refusals.specs.Refusals.{someBelow, scratchWords, Verdict, refused, number, firstOutIn, accepted}
-use Rattle.refusals.proofs.Conditions.{AllReach, reach-all, AllIn, past, past-ranges}
+use Rattle.refusals.specs.Refusals.{someBelow, scratchWords, Verdict, number, firstOut, firstOutIn, accepted}
+use Rattle.refusals.proofs.Conditions.{AllReach, all-reach, reach-all, AllIn, OutAt, in-verdict, out-verdict}
 use Rattle.spectra.specs.declared.Answer.{Answer}
+use Rattle.spectra.specs.declared.Answer.the-variants.{OutOfRange}
 use Rattle.spectra.specs.declared.Tested.{Tested}
 use Rattle.spectra.specs.declared.Tested.the-variants.{Refused, Passed}
 use Rattle.spectra.specs.Answers.{verdictOf}
@@ -26,81 +28,76 @@ pub record TurnedDown (call : Call) (answer : Answer) : Type 0 where
   pub verdict : verdictOf answer ≡ verdict call
   pub never : verdictOf answer ≡ accepted → ⊥
 
-pub down : {call : Call} {answer : Answer} → 0 < number (verdictOf answer) → verdict call ≡ verdictOf answer → TurnedDown call answer
+down : {call : Call} {answer : Answer} → 0 < number (verdictOf answer) → verdict call ≡ verdictOf answer → TurnedDown call answer
 down some e = record { verdict = sym e; never = λ a. absurd (omega (arith, some, ap number a)) }
 
--- a call that passes the tests, so that the rest decides
-pub record Passes (call : Call) (rest : Verdict) : Type 0 where
-  pub verdict : verdict call ≡ rest
-  pub reaches : AllReach (call .start + call .N) (lengthsOf (call .recordings))
-
-abbrev pub Told : Call → Verdict → Tested → Type 0
-Told call rest (Refused answer) = TurnedDown call answer
-Told call rest Passed = Passes call rest
-
-of-length : (b : Bool) (u v w : Verdict) → (b ≡ true → v ≡ w) → cond (not b) u v ≡ cond (not b) u w
-of-length true u v w e = e refl
-of-length false u v w e = refl
-
--- `shortest` stands for the recordings, x and others, `room` for the result buffers; the products are the call's where N is a length
-module _ (call : Call) (x : List ℤ) (others : List (List ℤ)) (shortest room products : ℕ) (is : call .recordings ≡ x ∷ others)
-    (below : (n : ℕ) → someBelow n (lengthsOf (call .recordings)) ≡ ltb shortest n)
-    (short : (n : ℕ) → someBelow n (lengthsOf (call .results)) ≡ ltb room n)
-    (spends : isLength (call .N) ≡ true → products ≡ call .products) where
-  abbrev tests-of : Verdict → Verdict
-  tests-of = tests x shortest (call .start) (call .N) (call .allowance) room (call .yields) (length (call .scratch)) products
-
-  by-tests : verdict call ≡ tests-of (firstOutIn (samplesOf others) (call .start) (call .N))
-  unfolding verdict tests
-  by-tests = rw (below (call .start + call .N), short (call .yields), is)
-      (of-length (isLength (call .N)) _ _ _ (λ h. rw (spends h)))
-
-  inside : tests-of accepted ≡ accepted → someBelow (call .start + call .N) (lengthsOf (call .recordings)) ≡ false
-  unfolding tests
-  inside e =
-      let (_, r) = past (not (isLength (call .N))) (refused 1) _ e refl in
-      let (f, _) = past (ltb shortest (call .start + call .N)) (refused 2) _ r refl in
-      below (call .start + call .N) ∙ f
-
-  pub told : (t : Tested) → Tells tests-of t → Told call (firstOutIn (samplesOf others) (call .start) (call .N)) t
-  told (Refused answer) (some, e) = down some (by-tests ∙ e _)
-  told Passed e = record {
-    verdict = by-tests ∙ e _;
-    reaches = reach-all (call .start + call .N) (lengthsOf (call .recordings)) (inside (e accepted));
-  }
-
--- ---- a call that is accepted: it has passed each test
-pub record Accepted (call : Call) : Type 0 where
-  pub is-accepted : verdict call ≡ accepted
+-- ---- a call that passes 1 to 5, and 6
+pub record Passed5 (call : Call) : Type 0 where
   pub length-ok : isLength (call .N) ≡ true
   pub recordings : AllReach (call .start + call .N) (lengthsOf (call .recordings))
   pub results : AllReach (call .yields) (lengthsOf (call .results))
   pub scratch : scratchWords (call .N) ≤ length (call .scratch)
   pub allowance : call .products ≤ call .allowance
+
+pub record Passed6 (call : Call) : Type 0 where
+  pub past : Passed5 call
   pub range : AllIn (samplesOf (call .recordings)) (call .start) (call .N)
 
-pub accepts : (call : Call) → verdict call ≡ accepted → Accepted call
-unfolding verdict
-accepts call e =
-    let (e₁, r₁) = past _ _ _ e refl in
-    let (e₂, r₂) = past _ _ _ r₁ refl in
-    let (e₃, r₃) = past _ _ _ r₂ refl in
-    let (e₄, r₄) = past _ _ _ r₃ refl in
-    let (e₅, r₅) = past _ _ _ r₄ refl in
+module _ {call : Call} where
+  past-5 : Passed5 call → verdict call ≡ firstOutIn (samplesOf (call .recordings)) (call .start) (call .N)
+  unfolding verdict
+  past-5 p =
+      let reach = all-reach (call .start + call .N) (lengthsOf (call .recordings)) (p .recordings) in
+      let room = all-reach (call .yields) (lengthsOf (call .results)) (p .results) in
+      rw (p .length-ok, reach, room, le-ltb _ _ (p .scratch), le-ltb _ _ (p .allowance))
+
+  pub refused-6 : {place : ℕ} → Passed5 call → OutAt (samplesOf (call .recordings)) (call .start) (call .N) place
+      → TurnedDown call (OutOfRange place)
+  refused-6 p h = down (omega arith) (past-5 p ∙ out-verdict (samplesOf (call .recordings)) (call .start) (call .N) _ h)
+
+  pub is-accepted : Passed6 call → verdict call ≡ accepted
+  is-accepted p = past-5 (p .past) ∙ in-verdict (samplesOf (call .recordings)) (call .start) (call .N) (p .range)
+
+-- ---- what the tests tell of a call on x, and on other recordings
+abbrev pub Told : Call → List ℤ → Tested → Type 0
+Told call x (Refused answer) = TurnedDown call answer
+Told call x Passed = Passed5 call × (firstOut (word x) (call .start) (call .N) ≡ call .start + call .N)
+
+of-length : (b : Bool) (u v w : Verdict) → (b ≡ true → v ≡ w) → cond (not b) u v ≡ cond (not b) u w
+of-length true u v w e = e refl
+of-length false u v w e = refl
+
+-- `shortest` stands for all recordings, `room` for the result buffers; the products are the call's where N is a length
+module _ (call : Call) (x : List ℤ) (others : List (List ℤ)) (shortest room products : ℕ) (is : call .recordings ≡ x ∷ others)
+    (below : (n : ℕ) → someBelow n (lengthsOf (call .recordings)) ≡ ltb shortest n)
+    (short : (n : ℕ) → someBelow n (lengthsOf (call .results)) ≡ ltb room n)
+    (spends : isLength (call .N) ≡ true → products ≡ call .products) where
+  by-tests : verdict call
+      ≡ tests x shortest (call .start) (call .N) (call .allowance) room (call .yields) (length (call .scratch)) products
+      (firstOutIn (samplesOf others) (call .start) (call .N))
+  unfolding verdict tests
+  by-tests = rw (below (call .start + call .N), short (call .yields), is)
+      (of-length (isLength (call .N)) _ _ _ (λ h. rw (spends h)))
+
+  pub told : (t : Tested)
+      → Tells x shortest (call .start) (call .N) (call .allowance) room (call .yields) (length (call .scratch)) products t
+      → Told call x t
+  told (Refused answer) (some, e) = down some (by-tests ∙ e _)
+  told Passed p = (
     record {
-      is-accepted = e;
-      length-ok = not-false _ e₁;
-      recordings = reach-all (call .start + call .N) (lengthsOf (call .recordings)) e₂;
-      results = reach-all (call .yields) (lengthsOf (call .results)) e₃;
-      scratch = ltb-false _ _ e₄;
-      allowance = ltb-false _ _ e₅;
-      range = past-ranges (samplesOf (call .recordings)) (call .start) (call .N) r₅;
-    }
+      length-ok = p .length-ok;
+      recordings = reach-all (call .start + call .N) (lengthsOf (call .recordings)) (below (call .start + call .N) ∙ le-ltb _ _ (p .inside));
+      results = reach-all (call .yields) (lengthsOf (call .results)) (short (call .yields) ∙ le-ltb _ _ (p .results));
+      scratch = p .words;
+      allowance = omega (arith, p .allowed, spends (p .length-ok));
+    },
+    p .range,
+  )
 
 -- ---- the promise of a call that is turned down, and of one that is carried out
 module _ {call : Call} {answer : Answer} {Unchanged Done : Type 0} where
   pub turned-down : Unchanged → TurnedDown call answer → Promise call answer Unchanged Done
   turned-down u t = record { verdict = t .verdict; unchanged = λ _. u; done = λ d. absurd (t .never d) }
 
-  pub carried-out : Accepted call → verdictOf answer ≡ accepted → Done → Promise call answer Unchanged Done
-  carried-out a ok d = record { verdict = ok ∙ sym (a .is-accepted); unchanged = λ no. absurd (no ok); done = λ _. d }
+  pub carried-out : Passed6 call → verdictOf answer ≡ accepted → Done → Promise call answer Unchanged Done
+  carried-out p ok d = record { verdict = ok ∙ sym (is-accepted p); unchanged = λ no. absurd (no ok); done = λ _. d }

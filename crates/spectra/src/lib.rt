@@ -19,7 +19,7 @@ ghost use Rattle.ffct.specs.Block.{isLength, level};
 ghost use Rattle.counts.specs.Counts.{SixCounts};
 ghost use Rattle.refusals.specs.Refusals.{number};
 ghost use Rattle.spectra.specs.Answers.{verdictOf, spent, place};
-ghost use Rattle.spectra.specs.Tests.{tests, Tells};
+ghost use Rattle.spectra.specs.Tests.{Tells};
 ghost use Rattle.spectra.specs.Promises.{SpectrumPromise, CosinePromise, PairPromise, CountsPromise};
 
 // The answer of a call on recordings: a case for each refusal of document 01, or the counts that were spent.
@@ -71,7 +71,7 @@ fn test(
     products: u64,
 ) -> Tested
     requires { ⌜ shortest ≤ List·length (now recording) ⌝ }
-    ensures { λ r. ⌜ Tells (tests (now (recording .entry)) shortest start length allowance room yields scratch products) r ⌝ }
+    ensures { λ r. ⌜ Tells (now (recording .entry)) shortest start length allowance room yields scratch products r ⌝ }
 {
     if !is_length(length) {
         return Tested::Refused(Answer::BadLength);

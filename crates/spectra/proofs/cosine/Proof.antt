@@ -4,11 +4,10 @@ use native.Mathlib.Omega.{arith}
 use lib.Seq.{length-take-le}
 use borrow.Author.Needs.{needs}
 use Rattle.ffct.proofs.ElevenLengths.{length-le}
-use Rattle.refusals.specs.Refusals.{accepted}
 use Rattle.refusals.proofs.Conditions.{one-below}
 use Rattle.spectra.specs.Calls.{Call}
 use Rattle.spectra.specs.Promises.{cosineCall}
-use Rattle.spectra.proofs.Verdicts.{Told, told, Accepted, accepts, turned-down, carried-out}
+use Rattle.spectra.proofs.Verdicts.{Passed6, Told, told, turned-down, carried-out}
 use Rattle.spectra.proofs.Accepted.{fits, fit-length, fit-workable, cosine-done}
 use Rattle.spectra.proofs.cosine.Statement.{statement}
 use Rattle.spectra.proofs.cosine.Tie as tie
@@ -18,13 +17,15 @@ call c =
     let a = c .before .before .args in
     cosineCall (a .recording .now) (a .start) (a .length) (a .allowance) (a .coefficients .now) (a .scratch .now)
 
-told-by : (c : tie.After-test) → Told (call c) accepted (c .test .result)
+told-by : (c : tie.After-test) → Told (call c) (c .before .before .args .recording .now) (c .test .result)
 told-by c =
     told (call c) _ _ _ _ _ refl (one-below _) (one-below _) (λ ok. c .before .counts-at .ensures ok .ofDct .products _)
     (c .test .result) (c .test .ensures)
 
-passed : (c : tie.After-enum-told) → Accepted (call (c .before .before))
-passed c = accepts _ (subst (Told _ _) (c .enum-told .given .1) (told-by (c .before .before)) .verdict)
+passed : (c : tie.After-enum-told) → Passed6 (call (c .before .before))
+passed c =
+    let (p, range) = subst (Told _ _) (c .enum-told .given .1) (told-by (c .before .before)) in
+    record { past = p; range = (range, tt) }
 
 returns : tie.Need-returns
 returns c = turned-down (refl, refl) (subst (Told _ _) (c .before .tested .given .1) (told-by (c .before .before .before)))
@@ -35,14 +36,14 @@ cosine-of-requires c κs =
     let m = c .before .before .before in
     let ok = passed (m .before) in
     let (f, _) = fits ok in
-    (fit-workable f _ (m .scratch-words .ensures) (ok .scratch), omega (arith, fit-length f, ok .results .0))
+    (fit-workable f _ (m .scratch-words .ensures) (ok .past .scratch), omega (arith, fit-length f, ok .past .results .0))
 
 returns-2 : tie.Need-returns-2
 returns-2 c =
     let d = c .before .before in
     let m = d .before .before .before .before in
     let ok = passed (m .before) in
-    let counts = m .before .before .before .before .counts-at .ensures (ok .length-ok) in
+    let counts = m .before .before .before .before .counts-at .ensures (ok .past .length-ok) in
     carried-out ok refl (cosine-done counts (m .scratch-words .ensures) ok (d .cosine-of .ensures))
 
 pub cosine-spec : {M : Type 1} → statement M
@@ -54,14 +55,14 @@ cosine-spec =
     (λ c. search needs)  -- enum-known-tested
     returns
     (λ c. search needs)  -- enum-told
-    (λ c. record { fits = omega (arith, passed c .recordings .0) })  -- add-end
-    (λ c κs. length-le _ (passed c .length-ok))  -- scratch-words-requires
-    (λ c. record { fits = omega (arith, passed (c .before) .recordings .0) })  -- mul-cosine-of
+    (λ c. record { fits = omega (arith, passed c .past .recordings .0) })  -- add-end
+    (λ c κs. length-le _ (passed c .past .length-ok))  -- scratch-words-requires
+    (λ c. record { fits = omega (arith, passed (c .before) .past .recordings .0) })  -- mul-cosine-of
     (λ c. search needs)  -- sub-cosine-of
     (λ c. search needs)  -- part-cosine-of-start
-    (λ c. passed (c .before) .recordings .0)  -- part-cosine-of-end
-    (λ c. omega (arith, passed (c .before .before .before) .scratch))  -- slice-relend-prefix-cosine-of
-    (λ c. sym (length-take-le _ _ (omega (arith, passed (c .before .before .before .before) .scratch))))  -- slice-aggregate-cosine-of
+    (λ c. passed (c .before) .past .recordings .0)  -- part-cosine-of-end
+    (λ c. omega (arith, passed (c .before .before .before) .past .scratch))  -- slice-relend-prefix-cosine-of
+    (λ c. sym (length-take-le _ _ (omega (arith, passed (c .before .before .before .before) .past .scratch))))  -- slice-aggregate-cosine-of
     cosine-of-requires
     (λ c. search needs)  -- same-length
     (λ c. search needs)  -- same-length-2

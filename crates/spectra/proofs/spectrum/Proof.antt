@@ -4,11 +4,10 @@ use native.Mathlib.Omega.{arith}
 use lib.Seq.{length-take-le}
 use borrow.Author.Needs.{needs}
 use Rattle.ffct.proofs.ElevenLengths.{length-le}
-use Rattle.refusals.specs.Refusals.{accepted}
 use Rattle.refusals.proofs.Conditions.{one-below, two-below}
 use Rattle.spectra.specs.Calls.{Call}
 use Rattle.spectra.specs.Promises.{spectrumCall}
-use Rattle.spectra.proofs.Verdicts.{Told, told, Accepted, accepts, turned-down, carried-out}
+use Rattle.spectra.proofs.Verdicts.{Passed6, Told, told, turned-down, carried-out}
 use Rattle.spectra.proofs.Accepted.{fits, fit-length, fit-workable, spectrum-done}
 use Rattle.spectra.proofs.spectrum.Statement.{statement}
 use Rattle.spectra.proofs.spectrum.Tie as tie
@@ -18,14 +17,16 @@ call c =
     let a = c .before .before .before .args in
     spectrumCall (a .recording .now) (a .start) (a .length) (a .allowance) (a .cosine .now) (a .sine .now) (a .scratch .now)
 
-told-by : (c : tie.After-test) → Told (call c) accepted (c .test .result)
+told-by : (c : tie.After-test) → Told (call c) (c .before .before .before .args .recording .now) (c .test .result)
 told-by c =
     let room = two-below _ _ (c .before .shorter .ensures) in
     told (call c) _ _ _ _ _ refl (one-below _) room (λ ok. c .before .before .counts-at .ensures ok .ofSpectrum _ .0)
     (c .test .result) (c .test .ensures)
 
-passed : (c : tie.After-enum-told) → Accepted (call (c .before .before))
-passed c = accepts _ (subst (Told _ _) (c .enum-told .given .1) (told-by (c .before .before)) .verdict)
+passed : (c : tie.After-enum-told) → Passed6 (call (c .before .before))
+passed c =
+    let (p, range) = subst (Told _ _) (c .enum-told .given .1) (told-by (c .before .before)) in
+    record { past = p; range = (range, tt) }
 
 returns : tie.Need-returns
 returns c = turned-down (refl, refl, refl) (subst (Told _ _) (c .before .tested .given .1) (told-by (c .before .before .before)))
@@ -39,9 +40,9 @@ spectrum-of-requires c κs =
     let m = words c in
     let ok = passed (m .before) in
     let (f, _) = fits ok in (
-      fit-workable f _ (m .scratch-words .ensures) (ok .scratch),
-      omega (arith, fit-length f, ok .results .0),
-      omega (arith, fit-length f, ok .results .1 .0),
+      fit-workable f _ (m .scratch-words .ensures) (ok .past .scratch),
+      omega (arith, fit-length f, ok .past .results .0),
+      omega (arith, fit-length f, ok .past .results .1 .0),
     )
 
 returns-2 : tie.Need-returns-2
@@ -49,7 +50,7 @@ returns-2 c =
     let d = c .before .before .before in
     let m = d .before .before .before .before .before in
     let ok = passed (m .before) in
-    let counts = m .before .before .before .before .before .counts-at .ensures (ok .length-ok) in
+    let counts = m .before .before .before .before .before .counts-at .ensures (ok .past .length-ok) in
     carried-out ok refl (spectrum-done counts (m .scratch-words .ensures) ok (d .spectrum-of .ensures))
 
 pub spectrum-spec : {M : Type 1} → statement M
@@ -63,14 +64,14 @@ spectrum-spec =
     (λ c. search needs)  -- enum-known-tested
     returns
     (λ c. search needs)  -- enum-told
-    (λ c. record { fits = omega (arith, passed c .recordings .0) })  -- add-end
-    (λ c κs. length-le _ (passed c .length-ok))  -- scratch-words-requires
-    (λ c. record { fits = omega (arith, passed (c .before) .recordings .0) })  -- mul-spectrum-of
+    (λ c. record { fits = omega (arith, passed c .past .recordings .0) })  -- add-end
+    (λ c κs. length-le _ (passed c .past .length-ok))  -- scratch-words-requires
+    (λ c. record { fits = omega (arith, passed (c .before) .past .recordings .0) })  -- mul-spectrum-of
     (λ c. search needs)  -- sub-spectrum-of
     (λ c. search needs)  -- part-spectrum-of-start
-    (λ c. passed (c .before) .recordings .0)  -- part-spectrum-of-end
-    (λ c. omega (arith, passed (c .before .before .before .before) .scratch))  -- slice-relend-prefix-spectrum-of
-    (λ c. sym (length-take-le _ _ (omega (arith, passed (words c .before) .scratch))))  -- slice-aggregate-spectrum-of
+    (λ c. passed (c .before) .past .recordings .0)  -- part-spectrum-of-end
+    (λ c. omega (arith, passed (c .before .before .before .before) .past .scratch))  -- slice-relend-prefix-spectrum-of
+    (λ c. sym (length-take-le _ _ (omega (arith, passed (words c .before) .past .scratch))))  -- slice-aggregate-spectrum-of
     spectrum-of-requires
     (λ c. search needs)  -- same-length
     (λ c. search needs)  -- same-length-2

@@ -11,7 +11,7 @@ use Rattle.words.specs.Words.{word}
 use Rattle.ffct.specs.Block.{isLength}
 use Rattle.ffct.proofs.ElevenLengths.{length-le}
 use Rattle.refusals.specs.Refusals.{scratchWords, Verdict, refused, firstOutOr}
-use Rattle.refusals.proofs.Conditions.{one-out, one-in}
+use Rattle.refusals.proofs.Ranges.{first-end}
 use Rattle.spectra.specs.Tests.{tests}
 use Rattle.spectra.proofs.test.Statement.{statement}
 use Rattle.spectra.proofs.test.Tie as tie
@@ -68,16 +68,22 @@ returns-5 c = (search needs, λ rest. past-4 (c .before) rest ∙ rw (lt-ltb _ _
 
 returns-6 : tie.Need-returns-6
 returns-6 c =
-    let p = c .before .before in (
-      search needs,
-      λ rest. past-4 (p .before) rest ∙ rw (le-ltb _ _ (p .if5 .left))
-          (one-out _ _ _ rest (c .before .first-out .ensures) (c .if6 .taken)),
-    )
+    let p = c .before .before in
+    let out = lt-ltb _ _ (c .if6 .taken) in
+    (search needs, λ rest. past-4 (p .before) rest ∙ rw (le-ltb _ _ (p .if5 .left), ← c .before .first-out .ensures) (rw out))
 
 returns-7 : tie.Need-returns-7
-returns-7 c rest =
+returns-7 c =
     let p = c .before .before in
-    past-4 (p .before) rest ∙ rw (le-ltb _ _ (p .if5 .left)) (one-in _ _ _ rest (c .before .first-out .ensures) (c .if6 .left))
+    let q = p .before .before .before .before in
+    record {
+      length-ok = passed-1 (q .before .before);
+      inside = passed-2 q;
+      results = p .before .before .before .if3 .left;
+      words = passed-4 (p .before);
+      allowed = p .if5 .left;
+      range = first-end _ _ _ (c .before .first-out .ensures) (c .if6 .left);
+    }
 
 pub test-spec : {M : Type 1} → statement M
 test-spec =
