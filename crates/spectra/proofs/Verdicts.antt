@@ -86,7 +86,8 @@ module _ (call : Call) (x : List ℤ) (others : List (List ℤ)) (shortest room 
   told Passed p = (
     record {
       length-ok = p .length-ok;
-      recordings = reach-all (call .start + call .N) (lengthsOf (call .recordings)) (below (call .start + call .N) ∙ le-ltb _ _ (p .inside));
+      recordings = reach-all (call .start + call .N) (lengthsOf (call .recordings))
+          (below (call .start + call .N) ∙ le-ltb _ _ (p .inside));
       results = reach-all (call .yields) (lengthsOf (call .results)) (short (call .yields) ∙ le-ltb _ _ (p .results));
       scratch = p .words;
       allowance = omega (arith, p .allowed, spends (p .length-ok));

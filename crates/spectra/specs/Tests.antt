@@ -34,5 +34,6 @@ pub record Passes (recording : List ℤ) (shortest start N allowance room yields
 
 -- a refusal, whatever the rest
 abbrev pub Tells : List ℤ → (shortest start N allowance room yields scratch products : ℕ) → Tested → Type 0
-Tells x m s N a r y w p (Refused answer) = (0 < number (verdictOf answer)) × ((rest : Verdict) → tests x m s N a r y w p rest ≡ verdictOf answer)
+Tells x m s N a r y w p (Refused answer) = (0 < number (verdictOf answer))
+    × ((rest : Verdict) → tests x m s N a r y w p rest ≡ verdictOf answer)
 Tells x m s N a r y w p Passed = Passes x m s N a r y w p

@@ -27,7 +27,8 @@ told-by c =
     told (call c) _ _ _ _ _ refl shortest room (λ ok. c .before .before .before .counts-at .ensures ok .ofPair _ _ .0)
     (c .test .result) (c .test .ensures)
 
-passes : (c : tie.After-enum-told) → Told (call (c .before .before)) (c .before .before .before .before .before .before .args .a .now) Passed
+passes : (c : tie.After-enum-told) →
+    Told (call (c .before .before)) (c .before .before .before .before .before .before .args .a .now) Passed
 passes c = subst (Told _ _) (c .enum-told .given .1) (told-by (c .before .before))
 
 passed : (c : tie.Else1) → Passed6 (call (c .before .before .before .before))
