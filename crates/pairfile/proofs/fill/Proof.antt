@@ -17,9 +17,11 @@ abbrev μ-loop : tie.MeasureT-loop
 μ-loop file start m recording₀ i₀ recording i = m - i
 
 loop-again : tie.Need-loop-again Inv-loop μ-loop
-loop-again c =
-    (omega arith, ends-front (c .before .before .loop .inv .1) (omega arith)
-        (toZ-ofZ (sfits-of (c .signed-at .ok)) ∙ c .signed-at .ensures))
+loop-again c = (
+  omega arith,
+  ends-front (c .before .before .loop .inv .1) (omega arith)
+      (toZ-ofZ (sfits-of (c .signed-at .ok)) ∙ c .signed-at .ensures),
+)
 
 returns : tie.Need-returns Inv-loop μ-loop
 returns c = ends-all (c .before .loop .inv .1) (omega arith)
