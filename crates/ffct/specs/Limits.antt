@@ -30,7 +30,7 @@ pub record PairFits (L : ℕ) (a b : Samples) : Type 0 where
   pub real : (k : ℕ) → k < 2 ^ L → SFits w32 (pair L a b .real k)
   pub imaginary : (k : ℕ) → k < 2 ^ L → SFits w32 (pair L a b .imaginary k)
 
--- "The length alone decides the counts.": two blocks of 2 ^ L samples cost the same, and in Pair two blocks with any two others
+-- "The length alone decides the counts.": two blocks of 2 ^ L samples cost the same, in Pair each with any second block
 pub record SameCounts (L : ℕ) (x y : Samples) : Type 0 where
   pub cosineP : cosineDft L x .products ≡ cosineDft L y .products
   pub cosineS : cosineDft L x .sums ≡ cosineDft L y .sums
