@@ -23,7 +23,7 @@ tests recording shortest start N allowance room yields scratch products rest =
     (cond (ltb allowance products) (refused 5)
     (firstOutOr (word recording) start N rest)))))
 
--- what is known where none of them holds
+-- what is known where none of 1 to 6 holds
 pub record Passes (recording : List ℤ) (shortest start N allowance room yields scratch products : ℕ) : Type 0 where
   pub length-ok : isLength N ≡ true
   pub inside : start + N ≤ shortest
@@ -32,7 +32,7 @@ pub record Passes (recording : List ℤ) (shortest start N allowance room yields
   pub allowed : products ≤ allowance
   pub range : firstOut (word recording) start N ≡ start + N
 
--- a refusal, whatever the rest
+-- a refusal is the verdict, whatever the rest; else each test is passed
 abbrev pub Tells : List ℤ → (shortest start N allowance room yields scratch products : ℕ) → Tested → Type 0
 Tells x m s N a r y w p (Refused answer) = (0 < number (verdictOf answer))
     × ((rest : Verdict) → tests x m s N a r y w p rest ≡ verdictOf answer)

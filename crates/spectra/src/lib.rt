@@ -39,7 +39,7 @@ pub enum CountsAnswer {
     Counted(Counts),
 }
 
-// What the tests of a call find.
+// What the tests of a call find: the answer that turns it down, or nothing.
 enum Tested {
     Refused(Answer),
     Passed,
@@ -58,7 +58,7 @@ fn counts_at(length: usize) -> Counts
     }
 }
 
-// 1 to 6 in their order, 6 on one recording; of several recordings and result buffers the shortest lengths are given.
+// The tests 1 to 6 in their order, 6 on one recording. Of several recordings, and of several result buffers, the shortest length is given.
 fn test(
     recording: &[i32],
     shortest: usize,
