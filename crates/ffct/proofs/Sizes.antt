@@ -116,14 +116,9 @@ pub record RotationFits (C S c s : ℤ) : Type 0 where
   pub sum : SFits w64 (C +ℤ S)
   pub entries : SFits w64 (c +ℤ s)
   pub difference : SFits w64 (s -ℤ c)
-  pub m1 : SFits w64 ((C +ℤ S) *ℤ c)
-  pub m2 : SFits w64 (S *ℤ (c +ℤ s))
-  pub m3 : SFits w64 (C *ℤ (s -ℤ c))
-  pub first : SFits w64 ((C +ℤ S) *ℤ c -ℤ S *ℤ (c +ℤ s))
-  pub second : SFits w64 ((C +ℤ S) *ℤ c +ℤ C *ℤ (s -ℤ c))
-  -- and with the half of the rounding too
-  pub first-small : natAbs ((C +ℤ S) *ℤ c -ℤ S *ℤ (c +ℤ s)) ≤ 2 ^ 62
-  pub second-small : natAbs ((C +ℤ S) *ℤ c +ℤ C *ℤ (s -ℤ c)) ≤ 2 ^ 62
+  pub m1 : (C +ℤ S) *ℤ c within 2 ^ 61
+  pub m2 : S *ℤ (c +ℤ s) within 2 ^ 61
+  pub m3 : C *ℤ (s -ℤ c) within 2 ^ 61
 
 pub rotation-fits : {C S c s : ℤ} → C within largestSum + 128 → S within largestSum + 128 → c within 2 ^ 30 → s within 2 ^ 30
     → RotationFits C S c s
@@ -131,20 +126,13 @@ rotation-fits hC hS hc hs =
     let sum = within-add hC hS in
     let entries = within-add hc hs in
     let difference = within-sub hs hc in
-    let m1 = within-mul sum hc in
-    let m2 = within-mul hS entries in
-    let m3 = within-mul hC difference in
     record {
       sum = within-fits sum (lit< tt);
       entries = within-fits entries (lit< tt);
       difference = within-fits difference (lit< tt);
-      m1 = within-fits m1 (lit< tt);
-      m2 = within-fits m2 (lit< tt);
-      m3 = within-fits m3 (lit< tt);
-      first = within-fits (within-sub m1 m2) (lit< tt);
-      second = within-fits (within-add m1 m3) (lit< tt);
-      first-small = within-size (within-le (within-sub m1 m2) (lit≤ tt));
-      second-small = within-size (within-le (within-add m1 m3) (lit≤ tt));
+      m1 = within-le (within-mul sum hc) (lit≤ tt);
+      m2 = within-le (within-mul hS entries) (lit≤ tt);
+      m3 = within-le (within-mul hC difference) (lit≤ tt);
     }
 
 -- ---- the coefficients of an accepted block fit a signed 32-bit word

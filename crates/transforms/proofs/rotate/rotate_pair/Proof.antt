@@ -2,12 +2,13 @@
 -- Assumes nothing.
 use mathlib.Core.Path.{refl, _∙_, ap}
 use Prim.Native.Nat.{ℕ}
+use lib.Dec.{lit<}
 use lib.IntN.{ℤ, _+ℤ_, _-ℤ_, _*ℤ_}
 use mir.Syntax.{w64}
 use mir.Val.{toZ, ofZ}
 use borrow.Author.Needs.{needs}
 use Rattle.whole.specs.Round.{round}
-use Rattle.whole.proofs.Size.{size-within}
+use Rattle.whole.proofs.Size.{size-within, within-size, within-add, within-sub, within-fits}
 use Rattle.whole.proofs.Words.{Word, word, made, held}
 use Rattle.whole.proofs.Operations.{Computes, computes}
 use Rattle.ffct.proofs.Sizes.{RotationFits, rotation-fits, first-form, second-form}
@@ -35,20 +36,20 @@ module _ (a : tie.Start) where
   bits3 = let v = a .args in done _*ℤ_ (ofZ w64 (v .cosine)) (done _-ℤ_ (ofZ w64 (v .s)) (ofZ w64 (v .c)))
 
   m1 : let v = a .args in Word w64 bits1 ((v .cosine +ℤ v .sine) *ℤ v .c)
-  m1 = made _*ℤ_ (made _+ℤ_ (word (a .fits .cosine)) (word (a .fits .sine)) (fits .sum)) (word (a .fits .c)) (fits .m1)
+  m1 = made _*ℤ_ (made _+ℤ_ (word (a .fits .cosine)) (word (a .fits .sine)) (fits .sum)) (word (a .fits .c)) (within-fits (fits .m1) (lit< tt))
 
   m2 : let v = a .args in Word w64 bits2 (v .sine *ℤ (v .c +ℤ v .s))
-  m2 = made _*ℤ_ (word (a .fits .sine)) (made _+ℤ_ (word (a .fits .c)) (word (a .fits .s)) (fits .entries)) (fits .m2)
+  m2 = made _*ℤ_ (word (a .fits .sine)) (made _+ℤ_ (word (a .fits .c)) (word (a .fits .s)) (fits .entries)) (within-fits (fits .m2) (lit< tt))
 
   m3 : let v = a .args in Word w64 bits3 (v .cosine *ℤ (v .s -ℤ v .c))
-  m3 = made _*ℤ_ (word (a .fits .cosine)) (made _-ℤ_ (word (a .fits .s)) (word (a .fits .c)) (fits .difference)) (fits .m3)
+  m3 = made _*ℤ_ (word (a .fits .cosine)) (made _-ℤ_ (word (a .fits .s)) (word (a .fits .c)) (fits .difference)) (within-fits (fits .m3) (lit< tt))
 
   -- what is rounded
   first : let v = a .args in Computes _-ℤ_ bits1 bits2 ((v .cosine +ℤ v .sine) *ℤ v .c) (v .sine *ℤ (v .c +ℤ v .s))
-  first = computes _-ℤ_ m1 m2 (fits .first)
+  first = computes _-ℤ_ m1 m2 (within-fits (within-sub (fits .m1) (fits .m2)) (lit< tt))
 
   second : let v = a .args in Computes _+ℤ_ bits1 bits3 ((v .cosine +ℤ v .sine) *ℤ v .c) (v .cosine *ℤ (v .s -ℤ v .c))
-  second = computes _+ℤ_ m1 m3 (fits .second)
+  second = computes _+ℤ_ m1 m3 (within-fits (within-add (fits .m1) (fits .m3)) (lit< tt))
 
 returns : tie.Need-returns
 returns c =
@@ -69,18 +70,18 @@ rotate-pair-spec =
     (tie.spec
     (λ c. search (needs, fits c))  -- add-s1
     (λ c. search needs)  -- add-sums
-    (λ c. search (needs, fits c))  -- mul-m1
+    (λ c. search (needs, fits c, m1 c))  -- mul-m1
     (λ c. search needs)  -- add-products
     (λ c. search (needs, fits c))  -- add-m2
-    (λ c. search (needs, fits c))  -- mul-m2
+    (λ c. search (needs, fits c, m2 c))  -- mul-m2
     (λ c. search needs)  -- add-products-2
     (λ c. search (needs, fits c))  -- sub-m3
-    (λ c. search (needs, fits c))  -- mul-m3
+    (λ c. search (needs, fits c, m3 c))  -- mul-m3
     (λ c. search needs)  -- add-products-3
     (λ c. first c .asked)  -- sub-round
-    (λ c κs. rw (first c .made) (fits c .first-small))  -- round-requires
+    (λ c κs. rw (first c .made) (within-size (within-sub (fits c .m1) (fits c .m2))))  -- round-requires
     (λ c. search needs)  -- add-sums-2
     (λ c. second (c .before) .asked)  -- add-round
-    (λ c κs. rw (second (c .before) .made) (fits (c .before) .second-small))  -- round-requires-2
+    (λ c κs. rw (second (c .before) .made) (within-size (within-add (fits (c .before) .m1) (fits (c .before) .m3))))  -- round-requires-2
     (λ c. search needs)  -- add-sums-3
     returns)
