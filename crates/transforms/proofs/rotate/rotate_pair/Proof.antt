@@ -36,16 +36,16 @@ module _ (a : tie.Start) where
   bits3 = let v = a .args in done _*ℤ_ (ofZ w64 (v .cosine)) (done _-ℤ_ (ofZ w64 (v .s)) (ofZ w64 (v .c)))
 
   m1 : let v = a .args in Word w64 bits1 ((v .cosine +ℤ v .sine) *ℤ v .c)
-  m1 =
-      made _*ℤ_ (made _+ℤ_ (word (a .fits .cosine)) (word (a .fits .sine)) (fits .sum)) (word (a .fits .c)) (within-fits (fits .m1) (lit< tt))
+  m1 = made _*ℤ_ (made _+ℤ_ (word (a .fits .cosine)) (word (a .fits .sine)) (fits .sum)) (word (a .fits .c))
+      (within-fits (fits .m1) (lit< tt))
 
   m2 : let v = a .args in Word w64 bits2 (v .sine *ℤ (v .c +ℤ v .s))
-  m2 =
-      made _*ℤ_ (word (a .fits .sine)) (made _+ℤ_ (word (a .fits .c)) (word (a .fits .s)) (fits .entries)) (within-fits (fits .m2) (lit< tt))
+  m2 = made _*ℤ_ (word (a .fits .sine)) (made _+ℤ_ (word (a .fits .c)) (word (a .fits .s)) (fits .entries))
+      (within-fits (fits .m2) (lit< tt))
 
   m3 : let v = a .args in Word w64 bits3 (v .cosine *ℤ (v .s -ℤ v .c))
-  m3 =
-      made _*ℤ_ (word (a .fits .cosine)) (made _-ℤ_ (word (a .fits .s)) (word (a .fits .c)) (fits .difference)) (within-fits (fits .m3) (lit< tt))
+  m3 = made _*ℤ_ (word (a .fits .cosine)) (made _-ℤ_ (word (a .fits .s)) (word (a .fits .c)) (fits .difference))
+      (within-fits (fits .m3) (lit< tt))
 
   -- what is rounded
   first : let v = a .args in Computes _-ℤ_ bits1 bits2 ((v .cosine +ℤ v .sine) *ℤ v .c) (v .sine *ℤ (v .c +ℤ v .s))
