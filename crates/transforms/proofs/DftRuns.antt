@@ -55,6 +55,12 @@ pub record Kind (transform : ℕ → Samples → Transform) (fold : ℕ → Samp
   sums : (L : ℕ) (x : Samples) →
       transform (suc (suc L)) x .sums ≡ transform (suc L) (evens x) .sums + dct L (fold (4 * len L) x) .sums + (len L + joins (4 * len L))
 
+halved : (m : ℕ) → 4 * m / 2 ≡ 2 * m
+halved m = omega arith
+
+quartered : (m : ℕ) → 4 * m / 4 ≡ m
+quartered m = omega arith
+
 pub cosine-kind : Kind cosineDft foldedSums cosineJoin (λ n. n / 2)
 cosine-kind = record {
   same = λ L x y e. dft-same L x y e .0;
@@ -68,12 +74,6 @@ cosine-kind = record {
   products = cosine-products;
   sums = λ L x. rw (halved (len L)) (cosine-sums L x);
 }
-  where
-    halved : (m : ℕ) → 4 * m / 2 ≡ 2 * m
-    halved m = omega arith
-
-    quartered : (m : ℕ) → 4 * m / 4 ≡ m
-    quartered m = omega arith
 
 pub sine-kind : Kind sineDft foldedDifferences sineJoin (λ n. n / 2 - 2)
 sine-kind = record {
@@ -89,12 +89,6 @@ sine-kind = record {
   products = sine-products;
   sums = λ L x. rw (halved (len L)) (sine-sums L x);
 }
-  where
-    halved : (m : ℕ) → 4 * m / 2 ≡ 2 * m
-    halved m = omega arith
-
-    quartered : (m : ℕ) → 4 * m / 4 ≡ m
-    quartered m = omega arith
 
 -- where the DCT's part begins
 abbrev pub tail : ℕ → ℕ → ℕ

@@ -23,12 +23,6 @@ difference c =
     let p = c .before .before .pre in
     subtracted (held (c .before .first .given) refl) (held (c .second .given) refl) (omega (arith, p .x-small)) (omega (arith, p .y-small))
 
-sub-w : tie.Need-sub-w
-sub-w c = difference c .asked
-
-returns : tie.Need-returns
-returns c = record { words = written-one (omega arith) (difference (c .before) .made); tallied = search needs }
-
 pub put-difference-spec : {M : Type 1} → statement M
 put-difference-spec =
     tie.close
@@ -37,9 +31,9 @@ put-difference-spec =
     (λ c. search needs)  -- slice-copy-out-first
     (λ c. search needs)  -- mul-second
     (λ c. search needs)  -- slice-copy-out-second
-    sub-w
+    (λ c. difference c .asked)  -- sub-w
     (λ c. search needs)  -- mul-t8
     (λ c. search needs)  -- slice-set-from-w
     (λ c. search needs)  -- add-t13
     (λ c. search needs)  -- same-length
-    returns)
+    (λ c. record { words = written-one (omega arith) (difference (c .before) .made); tallied = search needs }))  -- returns

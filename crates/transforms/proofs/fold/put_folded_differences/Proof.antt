@@ -22,9 +22,6 @@ Inv-loop w₀ n stride b tally₀ i₀ w tally i =
 abbrev μ-loop : tie.MeasureT-loop
 μ-loop w₀ n stride b tally₀ i₀ w tally i = n / 4 - i
 
-loop-holds : tie.Need-loop-holds Inv-loop μ-loop
-loop-holds c = (omega arith, ends-none)
-
 -- a turn that begins at an even place has room for two
 second : (n i : ℕ) → 8 * (n / 8) ≡ n → i % 2 ≡ 0 → i < n / 4 → i + 1 < n / 4
 second n i e p h =
@@ -89,7 +86,7 @@ put-folded-differences-spec =
     (tie.spec
     Inv-loop
     μ-loop
-    loop-holds
+    (λ c. (omega arith, ends-none))  -- loop-holds
     (λ c. omega (arith, room c (c .before .loop .i) (omega arith)))  -- mul-p
     (λ c. search needs)  -- mul-p-2
     (λ c. search needs)  -- add-p

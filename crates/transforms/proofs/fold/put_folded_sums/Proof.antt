@@ -23,9 +23,6 @@ Inv-loop w₀ n stride b spent sums₀ i₀ w sums i =
 abbrev μ-loop : tie.MeasureT-loop
 μ-loop w₀ n stride b spent sums₀ i₀ w sums i = n / 4 - i
 
-loop-holds : tie.Need-loop-holds Inv-loop μ-loop
-loop-holds c = (omega arith, omega arith, ends-none)
-
 -- the place that a turn reads lies inside the block
 room : (c : tie.In-loop Inv-loop μ-loop) →
     let s = c .before .before .args .stride in
@@ -43,14 +40,8 @@ sum : (c : tie.After-y Inv-loop μ-loop) →
     (x (n - 2 * l .loop .i - 1))
 sum c = let l = c .before .before .before in folded-sum (l .before .pre) (omega arith) (l .loop .inv .2) (c .before .x .given) (c .y .given)
 
-add-w : tie.Need-add-w Inv-loop μ-loop
-add-w c = sum c .asked
-
 loop-again : tie.Need-loop-again Inv-loop μ-loop
 loop-again c = let l = c .before .before .before in (omega arith, omega arith, ends-front (l .loop .inv .2) (omega arith) (sum c .made))
-
-returns : tie.Need-returns Inv-loop μ-loop
-returns c = record { words = ends-all (c .before .loop .inv .2) (omega arith); tallied = omega arith }
 
 pub put-folded-sums-spec : {M : Type 1} → statement M
 put-folded-sums-spec =
@@ -58,7 +49,7 @@ put-folded-sums-spec =
     (tie.spec
     Inv-loop
     μ-loop
-    loop-holds
+    (λ c. (omega arith, omega arith, ends-none))  -- loop-holds
     (λ c. omega (arith, room c))  -- mul-p
     (λ c. search needs)  -- mul-p-2
     (λ c. search needs)  -- add-p
@@ -68,7 +59,7 @@ put-folded-sums-spec =
     (λ c. omega (arith, room (c .before)))  -- sub-y
     (λ c. omega (arith, room (c .before)))  -- mul-y
     (λ c. omega (arith, room (c .before)))  -- slice-copy-out-y
-    add-w
+    (λ c. sum c .asked)  -- add-w
     (λ c. search needs)  -- add-t11
     (λ c. search needs)  -- mul-t13
     (λ c. search needs)  -- slice-set-from-w
@@ -77,4 +68,4 @@ put-folded-sums-spec =
     (λ c. search needs)  -- loop-less
     loop-again
     (λ c. search needs)  -- same-length
-    returns)
+    (λ c. record { words = ends-all (c .before .loop .inv .2) (omega arith); tallied = omega arith }))  -- returns

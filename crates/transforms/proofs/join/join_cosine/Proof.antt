@@ -19,9 +19,6 @@ Inv-loop w₀ n at spent h b sums₀ k₀ w sums k =
 abbrev μ-loop : tie.MeasureT-loop
 μ-loop w₀ n at spent h b sums₀ k₀ w sums k = n / 4 - k
 
-loop-holds : tie.Need-loop-holds Inv-loop μ-loop
-loop-holds c = (omega arith, ends-none)
-
 -- what a turn makes of E(k) and D(k)
 turn : (c : tie.After-d Inv-loop μ-loop) →
     let l = c .before .before .before in
@@ -29,12 +26,6 @@ turn : (c : tie.After-d Inv-loop μ-loop) →
 turn c =
     let l = c .before .before .before in
     join-turn (l .before .pre) (l .loop .inv .1) _ _ (omega arith) (c .before .e .given) (c .d .given)
-
-add-w : tie.Need-add-w Inv-loop μ-loop
-add-w c = turn c .sum .asked
-
-sub-w : tie.Need-sub-w Inv-loop μ-loop
-sub-w c = turn c .difference .asked
 
 loop-again : tie.Need-loop-again Inv-loop μ-loop
 loop-again c =
@@ -71,19 +62,19 @@ join-cosine-spec =
     μ-loop
     (λ c. search needs)  -- add-b
     (λ c. search needs)  -- add-b-2
-    loop-holds
+    (λ c. (omega arith, ends-none))  -- loop-holds
     (λ c. search needs)  -- add-e
     (λ c. search needs)  -- mul-e
     (λ c. search needs)  -- slice-copy-out-e
     (λ c. search needs)  -- add-d
     (λ c. search needs)  -- mul-d
     (λ c. search needs)  -- slice-copy-out-d
-    add-w
+    (λ c. turn c .sum .asked)  -- add-w
     (λ c. search needs)  -- add-w-2
     (λ c. search needs)  -- mul-w
     (λ c. search needs)  -- slice-set-from-w
     (λ c. search needs)  -- add-sums
-    sub-w
+    (λ c. turn c .difference .asked)  -- sub-w
     (λ c. search needs)  -- sub-t14
     (λ c. search needs)  -- add-t12
     (λ c. search needs)  -- mul-t19

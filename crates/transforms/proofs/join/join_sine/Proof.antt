@@ -40,12 +40,6 @@ turn c =
     let l = c .before .before .before in
     join-turn (l .before .pre .0) (l .loop .inv .1) _ _ (omega arith) (c .before .e .given) (c .d .given)
 
-add-w : tie.Need-add-w Inv-loop μ-loop
-add-w c = turn c .sum .asked
-
-sub-w : tie.Need-sub-w Inv-loop μ-loop
-sub-w c = turn c .reversed .asked
-
 loop-again : tie.Need-loop-again Inv-loop μ-loop
 loop-again c =
     let l = c .before .before .before in
@@ -99,12 +93,12 @@ join-sine-spec =
     (λ c. search needs)  -- add-d
     (λ c. search needs)  -- mul-d
     (λ c. search needs)  -- slice-copy-out-d
-    add-w
+    (λ c. turn c .sum .asked)  -- add-w
     (λ c. search needs)  -- add-w-2
     (λ c. search needs)  -- mul-w
     (λ c. search needs)  -- slice-set-from-w
     (λ c. search needs)  -- add-sums
-    sub-w
+    (λ c. turn c .reversed .asked)  -- sub-w
     (λ c. search needs)  -- sub-t16
     (λ c. search needs)  -- add-t15
     (λ c. search needs)  -- mul-t19

@@ -24,15 +24,6 @@ Inv-loop wave w₀ n h step products₀ sums₀ k₀ w products sums k =
 abbrev μ-loop : tie.MeasureT-loop
 μ-loop wave w₀ n h step products₀ sums₀ k₀ w products sums k = h - k
 
-loop-holds : tie.Need-loop-holds Inv-loop μ-loop
-loop-holds c = (omega (arith, c .pre .1 .some), ends-none)
-
-wave-at-requires : tie.Need-wave-at-requires Inv-loop μ-loop
-wave-at-requires c κs = let s = c .before .before in (s .pre .0, place (s .pre .1) _ (omega arith))
-
-wave-at-requires-2 : tie.Need-wave-at-requires-2 Inv-loop μ-loop
-wave-at-requires-2 c κs = (c .before .before .before .pre .0, omega arith)
-
 -- what a turn reads
 reads : (c : tie.After-y Inv-loop μ-loop) →
     let l = c .before .before .before .before .before in
@@ -43,9 +34,6 @@ reads c =
     let v2 = c .before .before .wave-at2 in
     turn (l .before .pre .1) (l .loop .inv .1) (omega (arith, l .before .pre .1 .some)) _ (omega arith) (c .before .x .given)
     (c .y .given) (v .ok) (v .ensures) (v2 .ok) (v2 .ensures)
-
-rotate-pair-requires : tie.Need-rotate-pair-requires Inv-loop μ-loop
-rotate-pair-requires c κs = let t = reads c in rw (t .cosine, t .sine, t .entry, t .mirror) (t .coefficients, t .entries)
 
 loop-again : tie.Need-loop-again Inv-loop μ-loop
 loop-again c =
@@ -99,12 +87,12 @@ rotate-spec =
     Inv-loop
     μ-loop
     (λ c. search needs)  -- div-step
-    loop-holds
+    (λ c. (omega (arith, c .pre .1 .some), ends-none))  -- loop-holds
     (λ c. omega (arith, place (c .before .before .pre .1) (c .before .loop .k) (omega arith)))  -- mul-wave-at
-    wave-at-requires
+    (λ c κs. let s = c .before .before in (s .pre .0, place (s .pre .1) _ (omega arith)))  -- wave-at-requires
     (λ c. omega (arith, place (c .before .before .before .pre .1) (c .before .before .loop .k) (omega arith)))  -- mul-wave-at-2
     (λ c. place (c .before .before .before .pre .1) _ (omega arith))  -- sub-wave-at
-    wave-at-requires-2
+    (λ c κs. (c .before .before .before .pre .0, omega arith))  -- wave-at-requires-2
     (λ c. search needs)  -- add-x
     (λ c. search needs)  -- mul-x
     (λ c. search needs)  -- slice-copy-out-x
@@ -113,7 +101,7 @@ rotate-spec =
     (λ c. search needs)  -- add-y-3
     (λ c. search needs)  -- mul-y
     (λ c. search needs)  -- slice-copy-out-y
-    rotate-pair-requires
+    (λ c κs. let t = reads c in rw (t .cosine, t .sine, t .entry, t .mirror) (t .coefficients, t .entries))  -- rotate-pair-requires
     (λ c. search needs)  -- mul-low
     (λ c. search needs)  -- slice-set-from-low
     (λ c. search needs)  -- sub-high

@@ -14,9 +14,6 @@ starts f =
     let e = f .before .before .before in
     tail-starts cosine-kind (e .before .before .pre .1) (lit≤ tt) (e .cosine-8 .ensures) (f .put-folded-sums .ensures)
 
-cosine-8-requires : tie.Need-cosine-8-requires
-cosine-8-requires c κs = (c .before .pre .0, even-ready cosine-kind (c .before .pre .1) (lit≤ tt))
-
 put-folded-sums-requires : tie.Need-put-folded-sums-requires
 put-folded-sums-requires c κs =
     let e = c .before .before in
@@ -51,7 +48,7 @@ cosine-16-spec =
     tie.close
     (tie.spec
     (λ c. search needs)  -- mul-cosine-8
-    cosine-8-requires
+    (λ c κs. (c .before .pre .0, even-ready cosine-kind (c .before .pre .1) (lit≤ tt)))  -- cosine-8-requires
     (λ c. search needs)  -- add-b
     (λ c. search needs)  -- add-b-2
     put-folded-sums-requires

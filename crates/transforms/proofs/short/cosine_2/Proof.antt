@@ -32,15 +32,6 @@ module _ (c : tie.After-y) where
       let b = dft-pair-small (s .pre) in
       subtracted (held (c .before .x .given) refl) (held (c .y .given) refl) (omega (arith, b)) (omega (arith, b))
 
-add-w : tie.Need-add-w
-add-w c = sum c .asked
-
-sub-w : tie.Need-sub-w
-sub-w c = difference c .asked
-
-returns : tie.Need-returns
-returns c = cosine-two (s c .pre) (sum c .made) (difference c .made) (omega arith)
-
 pub cosine-2-spec : {M : Type 1} → statement M
 cosine-2-spec =
     tie.close
@@ -50,14 +41,14 @@ cosine-2-spec =
     (λ c. search needs)  -- sub-y
     (λ c. search needs)  -- mul-y-2
     (λ c. search needs)  -- slice-copy-out-y
-    add-w
+    (λ c. sum c .asked)  -- add-w
     (λ c. search needs)  -- mul-w
     (λ c. search needs)  -- slice-set-from-w
     (λ c. search needs)  -- add-sums
-    sub-w
+    (λ c. difference c .asked)  -- sub-w
     (λ c. search needs)  -- add-t12
     (λ c. search needs)  -- mul-t10
     (λ c. simp length-set (omega arith))  -- slice-set-from-w-2
     (λ c. search needs)  -- add-sums-2
     (λ c. search needs)  -- same-length
-    returns)
+    (λ c. cosine-two (s c .pre) (sum c .made) (difference c .made) (omega arith)))  -- returns

@@ -14,9 +14,6 @@ starts f =
     let e = f .before .before .before in
     tail-starts cosine-kind (e .before .before .pre .1) (lit≤ tt) (e .cosine-16 .ensures) (f .put-folded-sums .ensures)
 
-cosine-16-requires : tie.Need-cosine-16-requires
-cosine-16-requires c κs = (c .before .pre .0, even-ready cosine-kind (c .before .pre .1) (lit≤ tt))
-
 put-folded-sums-requires : tie.Need-put-folded-sums-requires
 put-folded-sums-requires c κs =
     let e = c .before .before in
@@ -51,7 +48,7 @@ cosine-32-spec =
     tie.close
     (tie.spec
     (λ c. search needs)  -- mul-cosine-16
-    cosine-16-requires
+    (λ c κs. (c .before .pre .0, even-ready cosine-kind (c .before .pre .1) (lit≤ tt)))  -- cosine-16-requires
     (λ c. search needs)  -- add-b
     (λ c. search needs)  -- add-b-2
     put-folded-sums-requires

@@ -6,9 +6,6 @@ use Rattle.transforms.proofs.DftRuns.{cosine-kind, even-ready, fold-rea
 use Rattle.transforms.proofs.short.cosine_4.Statement.{statement}
 use Rattle.transforms.proofs.short.cosine_4.Tie as tie
 
-cosine-2-requires : tie.Need-cosine-2-requires
-cosine-2-requires c κs = even-ready cosine-kind (c .before .pre) (lit≤ tt)
-
 put-folded-sums-requires : tie.Need-put-folded-sums-requires
 put-folded-sums-requires c κs =
     let e = c .before .before in
@@ -33,7 +30,7 @@ cosine-4-spec =
     tie.close
     (tie.spec
     (λ c. search needs)  -- mul-cosine-2
-    cosine-2-requires
+    (λ c κs. even-ready cosine-kind (c .before .pre) (lit≤ tt))  -- cosine-2-requires
     (λ c. search needs)  -- add-put-folded-sums
     (λ c. search needs)  -- add-put-folded-sums-2
     put-folded-sums-requires

@@ -16,51 +16,21 @@ returns c =
 is-2 : (c : tie.After-cosine-2-arg) → c .before .before .before .args .n ≡ 2
 is-2 c = let s = c .before .before .before in next-length 0 _ (s .pre .1 .ready .length-ok) (omega arith) (omega arith)
 
-cosine-2-requires : tie.Need-cosine-2-requires
-cosine-2-requires c κs = let s = c .before .before .before in rw (is-2 c) at (s .pre .1)
-
-returns-2 : tie.Need-returns-2
-returns-2 c = rw (is-2 (c .before .before)) (c .before .cosine-2 .ensures)
-
 is-4 : (c : tie.After-cosine-4-arg) → c .before .before .before .before .args .n ≡ 4
 is-4 c = let s = c .before .before .before .before in next-length 1 _ (s .pre .1 .ready .length-ok) (omega arith) (omega arith)
 
-cosine-4-requires : tie.Need-cosine-4-requires
-cosine-4-requires c κs = let s = c .before .before .before .before in rw (is-4 c) at (s .pre .1)
-
-returns-3 : tie.Need-returns-3
-returns-3 c = rw (is-4 (c .before .before)) (c .before .cosine-4 .ensures)
-
 is-8 : (c : tie.After-cosine-8-arg) → c .before .before .before .before .before .args .n ≡ 8
 is-8 c = let s = c .before .before .before .before .before in next-length 2 _ (s .pre .1 .ready .length-ok) (omega arith) (omega arith)
-
-cosine-8-requires : tie.Need-cosine-8-requires
-cosine-8-requires c κs = let s = c .before .before .before .before .before in (s .pre .0, rw (is-8 c) at (s .pre .1))
-
-returns-4 : tie.Need-returns-4
-returns-4 c = rw (is-8 (c .before .before)) (c .before .cosine-8 .ensures)
 
 is-16 : (c : tie.After-cosine-16-arg) → c .before .before .before .before .before .before .args .n ≡ 16
 is-16 c =
     let s = c .before .before .before .before .before .before in
     next-length 3 _ (s .pre .1 .ready .length-ok) (omega arith) (omega arith)
 
-cosine-16-requires : tie.Need-cosine-16-requires
-cosine-16-requires c κs = let s = c .before .before .before .before .before .before in (s .pre .0, rw (is-16 c) at (s .pre .1))
-
-returns-5 : tie.Need-returns-5
-returns-5 c = rw (is-16 (c .before .before)) (c .before .cosine-16 .ensures)
-
 is-32 : (c : tie.After-cosine-32-arg) → c .before .before .before .before .before .before .args .n ≡ 32
 is-32 c =
     let s = c .before .before .before .before .before .before in
     next-length 4 _ (s .pre .1 .ready .length-ok) (omega arith) (omega arith)
-
-cosine-32-requires : tie.Need-cosine-32-requires
-cosine-32-requires c κs = let s = c .before .before .before .before .before .before in (s .pre .0, rw (is-32 c) at (s .pre .1))
-
-returns-6 : tie.Need-returns-6
-returns-6 c = rw (is-32 (c .before .before)) (c .before .cosine-32 .ensures)
 
 pub cosine-short-spec : {M : Type 1} → statement M
 cosine-short-spec =
@@ -71,18 +41,18 @@ cosine-short-spec =
     (λ c. search needs)  -- slice-set-from-x
     (λ c. search needs)  -- same-length
     returns
-    cosine-2-requires
+    (λ c κs. let s = c .before .before .before in rw (is-2 c) at (s .pre .1))  -- cosine-2-requires
     (λ c. search needs)  -- same-length-2
-    returns-2
-    cosine-4-requires
+    (λ c. rw (is-2 (c .before .before)) (c .before .cosine-2 .ensures))  -- returns-2
+    (λ c κs. let s = c .before .before .before .before in rw (is-4 c) at (s .pre .1))  -- cosine-4-requires
     (λ c. search needs)  -- same-length-3
-    returns-3
-    cosine-8-requires
+    (λ c. rw (is-4 (c .before .before)) (c .before .cosine-4 .ensures))  -- returns-3
+    (λ c κs. let s = c .before .before .before .before .before in (s .pre .0, rw (is-8 c) at (s .pre .1)))  -- cosine-8-requires
     (λ c. search needs)  -- same-length-4
-    returns-4
-    cosine-16-requires
+    (λ c. rw (is-8 (c .before .before)) (c .before .cosine-8 .ensures))  -- returns-4
+    (λ c κs. let s = c .before .before .before .before .before .before in (s .pre .0, rw (is-16 c) at (s .pre .1)))  -- cosine-16-requires
     (λ c. search needs)  -- same-length-5
-    returns-5
-    cosine-32-requires
+    (λ c. rw (is-16 (c .before .before)) (c .before .cosine-16 .ensures))  -- returns-5
+    (λ c κs. let s = c .before .before .before .before .before .before in (s .pre .0, rw (is-32 c) at (s .pre .1)))  -- cosine-32-requires
     (λ c. search needs)  -- same-length-6
-    returns-6)
+    (λ c. rw (is-32 (c .before .before)) (c .before .cosine-32 .ensures)))  -- returns-6

@@ -5,9 +5,6 @@ use Rattle.transforms.proofs.DctRuns.{cosine-ready, sine-ready, rotatio
 use Rattle.transforms.proofs.short.dct_16.Statement.{statement}
 use Rattle.transforms.proofs.short.dct_16.Tie as tie
 
-cosine-16-requires : tie.Need-cosine-16-requires
-cosine-16-requires c κs = (c .before .pre .0, cosine-ready (c .before .pre .1) (lit≤ tt))
-
 sine-16-requires : tie.Need-sine-16-requires
 sine-16-requires c κs =
     let d = c .before .before in
@@ -31,7 +28,7 @@ pub dct-16-spec : {M : Type 1} → statement M
 dct-16-spec =
     tie.close
     (tie.spec
-    cosine-16-requires
+    (λ c κs. (c .before .pre .0, cosine-ready (c .before .pre .1) (lit≤ tt)))  -- cosine-16-requires
     sine-16-requires
     rotate-requires
     (λ c. search needs)  -- same-length

@@ -30,15 +30,6 @@ module _ (c : tie.After-y) where
       let b = dct-pair-small (s .pre .1) in
       subtracted (held (c .before .x .given) refl) (held (c .y .given) refl) (omega (arith, b)) (omega (arith, b))
 
-add-w : tie.Need-add-w
-add-w c = sum c .asked
-
-sub-difference : tie.Need-sub-difference
-sub-difference c = difference c .asked
-
-rotate-middle-requires : tie.Need-rotate-middle-requires
-rotate-middle-requires c κs = (s c .pre .0, rw (difference c .made) (dct-pair-small (s c .pre .1) .2))
-
 returns : tie.Need-returns
 returns c =
     let m = c .before .before .before in
@@ -54,12 +45,12 @@ dct-2-spec =
     (tie.spec
     (λ c. search needs)  -- slice-copy-out-x
     (λ c. search needs)  -- slice-copy-out-y
-    add-w
+    (λ c. sum c .asked)  -- add-w
     (λ c. search needs)  -- slice-set-from-w
     (λ c. search needs)  -- add-sums
-    sub-difference
+    (λ c. difference c .asked)  -- sub-difference
     (λ c. search needs)  -- add-sums-2
-    rotate-middle-requires
+    (λ c κs. (s c .pre .0, rw (difference c .made) (dct-pair-small (s c .pre .1) .2)))  -- rotate-middle-requires
     (λ c. simp length-set (omega arith))  -- slice-set-from-value
     (λ c. search needs)  -- add-t15
     (λ c. search needs)  -- same-length

@@ -5,9 +5,6 @@ use Rattle.transforms.proofs.DctRuns.{cosine-ready, sine-ready, rotatio
 use Rattle.transforms.proofs.short.dct_4.Statement.{statement}
 use Rattle.transforms.proofs.short.dct_4.Tie as tie
 
-cosine-4-requires : tie.Need-cosine-4-requires
-cosine-4-requires c κs = cosine-ready (c .before .pre .1) (lit≤ tt)
-
 sine-4-requires : tie.Need-sine-4-requires
 sine-4-requires c κs =
     let d = c .before .before in
@@ -31,7 +28,7 @@ pub dct-4-spec : {M : Type 1} → statement M
 dct-4-spec =
     tie.close
     (tie.spec
-    cosine-4-requires
+    (λ c κs. cosine-ready (c .before .pre .1) (lit≤ tt))  -- cosine-4-requires
     sine-4-requires
     rotate-requires
     (λ c. search needs)  -- same-length

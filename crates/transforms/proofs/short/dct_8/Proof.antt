@@ -5,9 +5,6 @@ use Rattle.transforms.proofs.DctRuns.{cosine-ready, sine-ready, rotatio
 use Rattle.transforms.proofs.short.dct_8.Statement.{statement}
 use Rattle.transforms.proofs.short.dct_8.Tie as tie
 
-cosine-8-requires : tie.Need-cosine-8-requires
-cosine-8-requires c κs = (c .before .pre .0, cosine-ready (c .before .pre .1) (lit≤ tt))
-
 sine-8-requires : tie.Need-sine-8-requires
 sine-8-requires c κs =
     let d = c .before .before in
@@ -31,7 +28,7 @@ pub dct-8-spec : {M : Type 1} → statement M
 dct-8-spec =
     tie.close
     (tie.spec
-    cosine-8-requires
+    (λ c κs. (c .before .pre .0, cosine-ready (c .before .pre .1) (lit≤ tt)))  -- cosine-8-requires
     sine-8-requires
     rotate-requires
     (λ c. search needs)  -- same-length

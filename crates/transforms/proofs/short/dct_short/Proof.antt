@@ -15,53 +15,29 @@ returns c =
 is-2 : (c : tie.After-dct-2-arg) → c .before .before .before .args .n ≡ 2
 is-2 c = let s = c .before .before .before in next-length 0 _ (s .pre .1 .ready .length-ok) (omega arith) (omega arith)
 
-dct-2-requires : tie.Need-dct-2-requires
-dct-2-requires c κs = let s = c .before .before .before in (s .pre .0, rw (is-2 c) at (s .pre .1))
-
-returns-2 : tie.Need-returns-2
-returns-2 c = rw (is-2 (c .before .before)) (c .before .dct-2 .ensures)
-
 is-4 : (c : tie.After-dct-4-arg) → c .before .before .before .before .args .n ≡ 4
 is-4 c = let s = c .before .before .before .before in next-length 1 _ (s .pre .1 .ready .length-ok) (omega arith) (omega arith)
-
-dct-4-requires : tie.Need-dct-4-requires
-dct-4-requires c κs = let s = c .before .before .before .before in (s .pre .0, rw (is-4 c) at (s .pre .1))
-
-returns-3 : tie.Need-returns-3
-returns-3 c = rw (is-4 (c .before .before)) (c .before .dct-4 .ensures)
 
 is-8 : (c : tie.After-dct-8-arg) → c .before .before .before .before .before .args .n ≡ 8
 is-8 c = let s = c .before .before .before .before .before in next-length 2 _ (s .pre .1 .ready .length-ok) (omega arith) (omega arith)
 
-dct-8-requires : tie.Need-dct-8-requires
-dct-8-requires c κs = let s = c .before .before .before .before .before in (s .pre .0, rw (is-8 c) at (s .pre .1))
-
-returns-4 : tie.Need-returns-4
-returns-4 c = rw (is-8 (c .before .before)) (c .before .dct-8 .ensures)
-
 is-16 : (c : tie.After-dct-16-arg) → c .before .before .before .before .before .args .n ≡ 16
 is-16 c = let s = c .before .before .before .before .before in next-length 3 _ (s .pre .1 .ready .length-ok) (omega arith) (omega arith)
-
-dct-16-requires : tie.Need-dct-16-requires
-dct-16-requires c κs = let s = c .before .before .before .before .before in (s .pre .0, rw (is-16 c) at (s .pre .1))
-
-returns-5 : tie.Need-returns-5
-returns-5 c = rw (is-16 (c .before .before)) (c .before .dct-16 .ensures)
 
 pub dct-short-spec : {M : Type 1} → statement M
 dct-short-spec =
     tie.close
     (tie.spec
     returns
-    dct-2-requires
+    (λ c κs. let s = c .before .before .before in (s .pre .0, rw (is-2 c) at (s .pre .1)))  -- dct-2-requires
     (λ c. search needs)  -- same-length
-    returns-2
-    dct-4-requires
+    (λ c. rw (is-2 (c .before .before)) (c .before .dct-2 .ensures))  -- returns-2
+    (λ c κs. let s = c .before .before .before .before in (s .pre .0, rw (is-4 c) at (s .pre .1)))  -- dct-4-requires
     (λ c. search needs)  -- same-length-2
-    returns-3
-    dct-8-requires
+    (λ c. rw (is-4 (c .before .before)) (c .before .dct-4 .ensures))  -- returns-3
+    (λ c κs. let s = c .before .before .before .before .before in (s .pre .0, rw (is-8 c) at (s .pre .1)))  -- dct-8-requires
     (λ c. search needs)  -- same-length-3
-    returns-4
-    dct-16-requires
+    (λ c. rw (is-8 (c .before .before)) (c .before .dct-8 .ensures))  -- returns-4
+    (λ c κs. let s = c .before .before .before .before .before in (s .pre .0, rw (is-16 c) at (s .pre .1)))  -- dct-16-requires
     (λ c. search needs)  -- same-length-4
-    returns-5)
+    (λ c. rw (is-16 (c .before .before)) (c .before .dct-16 .ensures)))  -- returns-5

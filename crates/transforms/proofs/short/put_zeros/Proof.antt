@@ -4,9 +4,6 @@ use Rattle.transforms.proofs.Bases.{zeros}
 use Rattle.transforms.proofs.short.put_zeros.Statement.{statement}
 use Rattle.transforms.proofs.short.put_zeros.Tie as tie
 
-returns : tie.Need-returns
-returns c = zeros (c .args .w .now) (c .args .n) (c .args .at) (c .pre .0) (c .pre .1)
-
 pub put-zeros-spec : {M : Type 1} → statement M
 put-zeros-spec =
     tie.close
@@ -17,4 +14,4 @@ put-zeros-spec =
     (λ c. search needs)  -- mul-w-2
     (λ c. search needs)  -- slice-set-of-w-2
     (λ c. search needs)  -- same-length
-    returns)
+    (λ c. zeros (c .args .w .now) (c .args .n) (c .args .at) (c .pre .0) (c .pre .1)))  -- returns

@@ -15,9 +15,6 @@ starts f =
     let e = f .before .before .before in
     tail-starts sine-kind (e .before .before .pre .1) (lit≤ tt) (e .sine-16 .ensures) (f .put-folded-differences .ensures)
 
-sine-16-requires : tie.Need-sine-16-requires
-sine-16-requires c κs = (c .before .pre .0, even-ready sine-kind (c .before .pre .1) (lit≤ tt))
-
 put-folded-differences-requires : tie.Need-put-folded-differences-requires
 put-folded-differences-requires c κs =
     let e = c .before .before in
@@ -51,7 +48,7 @@ sine-32-spec =
     tie.close
     (tie.spec
     (λ c. search needs)  -- mul-sine-16
-    sine-16-requires
+    (λ c κs. (c .before .pre .0, even-ready sine-kind (c .before .pre .1) (lit≤ tt)))  -- sine-16-requires
     (λ c. search needs)  -- add-b
     (λ c. search needs)  -- add-b-2
     put-folded-differences-requires
