@@ -1,11 +1,11 @@
 -- `transforms::cosine_dft`, `sine_dft` and `dct` meet their contracts: the rank 2 n, for the DCT 2 n + 1, falls at each call; what each
 -- call asks and what the calls come to is in DftRuns and DctRuns. Assumes nothing.
-use Prim.Native.Nat.{ℕ, _+_, _*_, _≤_, _<_}
+use Prim.Native.Nat.{ℕ, _+_, _*_, _<_}
 use native.Mathlib.Omega.{arith}
 use borrow.Author.Needs.{needs}
-use lib.ListN.{length}
-use Rattle.transforms.proofs.DftRuns.{cosine-kind, sine-kind, tail, even-ready, stride-below, fold-ready, tail-starts, odd-ready}
-use Rattle.transforms.proofs.DftRuns.{lent-join-ready, lent-sine-ready, eighths, lent-ends}
+use Rattle.ffct.specs.Transforms.{cosineDft, foldedSums, sineDft, foldedDifferences}
+use Rattle.transforms.proofs.DftRuns.{cosine-kind, sine-kind, even-ready, stride-below, fold-ready, eighths, Run, run-of}
+use Rattle.transforms.proofs.DftRuns.{lent-starts, lent-ready, lent-join-ready, lent-sine-ready, lent-ends}
 use Rattle.transforms.proofs.DctRuns.{cosine-ready, sine-ready, rotation-ready, dct-ends}
 use borrow.Fn.Kinds.{In}
 use borrow.Fn.PlainCycle.{Measures, is, falls, and}
@@ -99,14 +99,14 @@ dct-calls t = (
   rotate-reads.Learnt,
 )
 
--- ---- `cosine_dft`: the tail that it lends begins inside the words
-cosine-starts : (t : ℕ) (f : cosine-dft-lts.After-put-folded-sums (cosine-dft-calls t) (cosine-dft-at t) cosine-dft.Post) →
+-- ---- `cosine_dft`: its run up to the fold
+cosine-run : (t : ℕ) (f : cosine-dft-lts.After-put-folded-sums (cosine-dft-calls t) (cosine-dft-at t) cosine-dft.Post) →
     let a = f .before .before .before .before .before .before .args in
-    tail (a .at) (a .n) ≤ length (f .put-folded-sums .last .0)
-cosine-starts t f =
+    let g = f .put-folded-sums in
+    Run cosineDft foldedSums (a .n) (a .stride) (a .at) (a .w .now) (a .spent) (g .last .0) (g .result)
+cosine-run t f =
     let e = f .before .before .before in
-    let s = e .before .before .before in
-    tail-starts cosine-kind (s .pre .1 .1) (omega arith) (e .cosine-dft .ensures) (f .put-folded-sums .ensures)
+    run-of (e .before .before .before .pre .1 .1) (omega arith) (e .cosine-dft .ensures) (f .put-folded-sums .ensures)
 
 cosine-dft-cosine-short-requires : (t : ℕ) →
     cosine-dft-lts.Need-cosine-short-requires (cosine-dft-calls t) (cosine-dft-at t) cosine-dft.Post
@@ -135,39 +135,29 @@ cosine-dft-dct-requires : (t : ℕ) →
     cosine-dft-lts.Need-dct-requires (cosine-dft-calls t) (cosine-dft-at t) cosine-dft.Post
 cosine-dft-dct-requires t c κs =
     let f = c .before .before in
-    let e = f .before .before .before in
-    let s = e .before .before .before in (
-      omega (arith, s .pre .0),
-      (s .pre .1 .0, odd-ready cosine-kind (s .pre .1 .1) (omega arith) (e .cosine-dft .ensures) (f .put-folded-sums .ensures)),
-    )
+    let s = f .before .before .before .before .before .before in
+    (omega (arith, s .pre .0), (s .pre .1 .0, lent-ready cosine-kind (cosine-run t f)))
 
 cosine-dft-join-cosine-requires : (t : ℕ) →
     cosine-dft-lts.Need-join-cosine-requires (cosine-dft-calls t) (cosine-dft-at t) cosine-dft.Post
 cosine-dft-join-cosine-requires t c κs =
     let d = c .before .before in
-    let f = d .before .before .before in
-    let e = f .before .before .before in
-    let s = e .before .before .before in
-    lent-join-ready cosine-kind (s .pre .1 .1) (omega arith) (e .cosine-dft .ensures) (f .put-folded-sums .ensures) (d .dct .ensures)
+    lent-join-ready cosine-kind (cosine-run t (d .before .before .before)) (d .dct .ensures)
 
 cosine-dft-returns-2 : (t : ℕ) →
     cosine-dft-lts.Need-returns-2 (cosine-dft-calls t) (cosine-dft-at t) cosine-dft.Post
 cosine-dft-returns-2 t c =
     let d = c .before .before .before .before in
-    let f = d .before .before .before in
-    let e = f .before .before .before in
-    let s = e .before .before .before in
-    lent-ends cosine-kind (s .pre .1 .1) (omega arith) (e .cosine-dft .ensures) (f .put-folded-sums .ensures) (d .dct .ensures)
-    (c .before .join-cosine .ensures)
+    lent-ends cosine-kind (cosine-run t (d .before .before .before)) (d .dct .ensures) (c .before .join-cosine .ensures)
 
--- ---- `sine_dft`: the tail that it lends begins inside the words
-sine-starts : (t : ℕ) (f : sine-dft-lts.After-put-folded-differences (sine-dft-calls t) (sine-dft-at t) sine-dft.Post) →
+-- ---- `sine_dft`: its run up to the fold
+sine-run : (t : ℕ) (f : sine-dft-lts.After-put-folded-differences (sine-dft-calls t) (sine-dft-at t) sine-dft.Post) →
     let a = f .before .before .before .before .before .before .args in
-    tail (a .at) (a .n) ≤ length (f .put-folded-differences .last .0)
-sine-starts t f =
+    let g = f .put-folded-differences in
+    Run sineDft foldedDifferences (a .n) (a .stride) (a .at) (a .w .now) (a .spent) (g .last .0) (g .result)
+sine-run t f =
     let e = f .before .before .before in
-    let s = e .before .before .before in
-    tail-starts sine-kind (s .pre .1 .1) (omega arith) (e .sine-dft .ensures) (f .put-folded-differences .ensures)
+    run-of (e .before .before .before .pre .1 .1) (omega arith) (e .sine-dft .ensures) (f .put-folded-differences .ensures)
 
 sine-dft-sine-short-requires : (t : ℕ) →
     sine-dft-lts.Need-sine-short-requires (sine-dft-calls t) (sine-dft-at t) sine-dft.Post
@@ -196,30 +186,20 @@ sine-dft-dct-requires : (t : ℕ) →
     sine-dft-lts.Need-dct-requires (sine-dft-calls t) (sine-dft-at t) sine-dft.Post
 sine-dft-dct-requires t c κs =
     let f = c .before .before in
-    let e = f .before .before .before in
-    let s = e .before .before .before in (
-      omega (arith, s .pre .0),
-      (s .pre .1 .0, odd-ready sine-kind (s .pre .1 .1) (omega arith) (e .sine-dft .ensures) (f .put-folded-differences .ensures)),
-    )
+    let s = f .before .before .before .before .before .before in
+    (omega (arith, s .pre .0), (s .pre .1 .0, lent-ready sine-kind (sine-run t f)))
 
 sine-dft-join-sine-requires : (t : ℕ) →
     sine-dft-lts.Need-join-sine-requires (sine-dft-calls t) (sine-dft-at t) sine-dft.Post
 sine-dft-join-sine-requires t c κs =
     let d = c .before .before in
-    let f = d .before .before .before in
-    let e = f .before .before .before in
-    let s = e .before .before .before in
-    lent-sine-ready (s .pre .1 .1) (omega arith) (e .sine-dft .ensures) (f .put-folded-differences .ensures) (d .dct .ensures)
+    lent-sine-ready (sine-run t (d .before .before .before)) (d .dct .ensures)
 
 sine-dft-returns-2 : (t : ℕ) →
     sine-dft-lts.Need-returns-2 (sine-dft-calls t) (sine-dft-at t) sine-dft.Post
 sine-dft-returns-2 t c =
     let d = c .before .before .before .before in
-    let f = d .before .before .before in
-    let e = f .before .before .before in
-    let s = e .before .before .before in
-    lent-ends sine-kind (s .pre .1 .1) (omega arith) (e .sine-dft .ensures) (f .put-folded-differences .ensures) (d .dct .ensures)
-    (c .before .join-sine .ensures)
+    lent-ends sine-kind (sine-run t (d .before .before .before)) (d .dct .ensures) (c .before .join-sine .ensures)
 
 -- ---- `dct`
 dct-dct-short-requires : (t : ℕ) →
@@ -268,8 +248,8 @@ pub +cosine-dft+dct+sine-dft-spec : {M : Type 1} → statement M
     (λ c. search needs)  -- cosine-dft-add-b-2
     (cosine-dft-put-folded-sums-requires t)
     (λ c. search needs)  -- cosine-dft-mul-dct
-    (λ c. cosine-starts t (c .before))  -- cosine-dft-sub-dct
-    (λ c. cosine-starts t (c .before))  -- cosine-dft-part-dct-start
+    (λ c. lent-starts cosine-kind (cosine-run t (c .before)))  -- cosine-dft-sub-dct
+    (λ c. lent-starts cosine-kind (cosine-run t (c .before)))  -- cosine-dft-part-dct-start
     (λ c. search needs)  -- cosine-dft-part-dct-end
     (cosine-dft-dct-requires t)
     (cosine-dft-join-cosine-requires t)
@@ -300,8 +280,8 @@ pub +cosine-dft+dct+sine-dft-spec : {M : Type 1} → statement M
     (λ c. search needs)  -- sine-dft-add-b-2
     (sine-dft-put-folded-differences-requires t)
     (λ c. search needs)  -- sine-dft-mul-dct
-    (λ c. sine-starts t (c .before))  -- sine-dft-sub-dct
-    (λ c. sine-starts t (c .before))  -- sine-dft-part-dct-start
+    (λ c. lent-starts sine-kind (sine-run t (c .before)))  -- sine-dft-sub-dct
+    (λ c. lent-starts sine-kind (sine-run t (c .before)))  -- sine-dft-part-dct-start
     (λ c. search needs)  -- sine-dft-part-dct-end
     (sine-dft-dct-requires t)
     (sine-dft-join-sine-requires t)

@@ -1,47 +1,30 @@
 -- `transforms::short::cosine_32` meets its contract: a run of the cosine-DFT at that length. Assumes nothing.
-use Prim.Native.Nat.{_≤_}
 use borrow.Author.Needs.{needs}
 use lib.Dec.{lit≤}
-use lib.ListN.{length}
-use Rattle.transforms.proofs.DftRuns.{cosine-kind, tail, even-ready, fold-ready, tail-starts, odd-ready, lent-join-ready, lent-ends}
+use Rattle.ffct.specs.Transforms.{cosineDft, foldedSums}
+use Rattle.transforms.proofs.DftRuns.{cosine-kind, even-ready, fold-ready, Run, run-of}
+use Rattle.transforms.proofs.DftRuns.{lent-starts, lent-ready, lent-join-ready, lent-ends}
 use Rattle.transforms.proofs.short.cosine_32.Statement.{statement}
 use Rattle.transforms.proofs.short.cosine_32.Tie as tie
-
--- the tail that is lent begins inside the words
-starts : (f : tie.After-put-folded-sums) →
-    tail (f .before .before .before .before .before .args .at) 32 ≤ length (f .put-folded-sums .last .0)
-starts f =
-    let e = f .before .before .before in
-    tail-starts cosine-kind (e .before .before .pre .1) (lit≤ tt) (e .cosine-16 .ensures) (f .put-folded-sums .ensures)
 
 put-folded-sums-requires : tie.Need-put-folded-sums-requires
 put-folded-sums-requires c κs =
     let e = c .before .before in
     fold-ready cosine-kind (e .before .before .pre .1) (lit≤ tt) (e .cosine-16 .ensures)
 
-dct-8-requires : tie.Need-dct-8-requires
-dct-8-requires c κs =
-    let f = c .before .before in
+-- the run up to its fold
+run : (f : tie.After-put-folded-sums) →
+    let a = f .before .before .before .before .before .args in
+    let g = f .put-folded-sums in
+    Run cosineDft foldedSums 32 (a .stride) (a .at) (a .w .now) (a .spent) (g .last .0) (g .result)
+run f =
     let e = f .before .before .before in
-    let s = e .before .before in
-    (s .pre .0, odd-ready cosine-kind (s .pre .1) (lit≤ tt) (e .cosine-16 .ensures) (f .put-folded-sums .ensures))
-
-join-cosine-requires : tie.Need-join-cosine-requires
-join-cosine-requires c κs =
-    let d = c .before .before in
-    let f = d .before .before .before in
-    let e = f .before .before .before in
-    lent-join-ready cosine-kind (e .before .before .pre .1) (lit≤ tt) (e .cosine-16 .ensures) (f .put-folded-sums .ensures)
-    (d .dct-8 .ensures)
+    run-of (e .before .before .pre .1) (lit≤ tt) (e .cosine-16 .ensures) (f .put-folded-sums .ensures)
 
 returns : tie.Need-returns
 returns c =
     let d = c .before .before .before .before in
-    let f = d .before .before .before in
-    let e = f .before .before .before in
-    let s = e .before .before in
-    lent-ends cosine-kind (s .pre .1) (lit≤ tt) (e .cosine-16 .ensures) (f .put-folded-sums .ensures) (d .dct-8 .ensures)
-    (c .before .join-cosine .ensures)
+    lent-ends cosine-kind (run (d .before .before .before)) (d .dct-8 .ensures) (c .before .join-cosine .ensures)
 
 pub cosine-32-spec : {M : Type 1} → statement M
 cosine-32-spec =
@@ -53,10 +36,11 @@ cosine-32-spec =
     (λ c. search needs)  -- add-b-2
     put-folded-sums-requires
     (λ c. search needs)  -- mul-dct-8
-    (λ c. starts (c .before))  -- sub-dct-8
-    (λ c. starts (c .before))  -- part-dct-8-start
+    (λ c. lent-starts cosine-kind (run (c .before)))  -- sub-dct-8
+    (λ c. lent-starts cosine-kind (run (c .before)))  -- part-dct-8-start
     (λ c. search needs)  -- part-dct-8-end
-    dct-8-requires
-    join-cosine-requires
+    (λ c κs. (search needs, lent-ready cosine-kind (run (c .before .before))))  -- dct-8-requires
+    (λ c κs. let d = c .before .before in
+    lent-join-ready cosine-kind (run (d .before .before .before)) (d .dct-8 .ensures))  -- join-cosine-requires
     (λ c. search needs)  -- same-length
     returns)

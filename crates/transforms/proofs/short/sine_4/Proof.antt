@@ -5,7 +5,7 @@ use lib.Dec.{lit≤}
 use Rattle.ffct.specs.Transforms.{sineDft, foldedDifferences}
 use Rattle.transforms.specs.Steps.{DftDone, Folded}
 use Rattle.transforms.proofs.Bases.{sine-few, four-ready, four-folded, dct-single}
-use Rattle.transforms.proofs.DftRuns.{sine-kind, even-ready, fold-ready, join-ready, sine-zeros, dft-ends}
+use Rattle.transforms.proofs.DftRuns.{sine-kind, even-ready, fold-ready, join-ready, run-of, sine-zeros, dft-ends}
 use Rattle.transforms.proofs.short.sine_4.Statement.{statement}
 use Rattle.transforms.proofs.short.sine_4.Tie as tie
 
@@ -33,7 +33,7 @@ join-sine-requires c κs =
     let f = c .before .before in
     let e = f .before .before .before in
     let s = e .before .before in
-    let z = sine-zeros (s .pre) (lit≤ tt) (even e) (folded f) dct-single in
+    let z = sine-zeros (run-of (s .pre) (lit≤ tt) (even e) (folded f)) dct-single in
     (join-ready sine-kind (s .pre) (lit≤ tt) (even e) (folded f) dct-single, z .0, z .1)
 
 returns : tie.Need-returns
