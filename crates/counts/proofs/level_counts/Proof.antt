@@ -25,12 +25,6 @@ bounds c =
     let small : l ≤ 9 = omega arith in
     (omega (arith, pow-mono some, is), omega (arith, pow-mono small, is))
 
-next-level-requires : tie.Need-next-level-requires Inv-loop μ-loop
-next-level-requires c κs = (c .before .loop .inv .3, bounds c .0, bounds c .1)
-
-mul-n : tie.Need-mul-n Inv-loop μ-loop
-mul-n c = omega (arith, bounds (c .before))
-
 loop-again : tie.Need-loop-again Inv-loop μ-loop
 loop-again c =
     let (some, most, is, costs) = c .before .before .loop .inv in
@@ -50,8 +44,8 @@ level-counts-spec =
     μ-loop
     (λ c κs. search needs)  -- first-level-requires
     (λ c. search needs)  -- loop-holds
-    next-level-requires
-    mul-n
+    (λ c κs. (c .before .loop .inv .3, bounds c .0, bounds c .1))  -- next-level-requires
+    (λ c. omega (arith, bounds (c .before)))  -- mul-n
     (λ c. search needs)  -- add-l
     (λ c. search needs)  -- loop-less
     loop-again

@@ -11,21 +11,6 @@ use Rattle.counts.proofs.next_level.Tie as tie
 few : (c : tie.Start) → FewCounts (c .args .level)
 few c = few-counts (c .pre .0) (omega arith)
 
-plus-requires : tie.Need-plus-requires
-plus-requires c κs = omega (arith, few c)
-
-plus-requires-2 : tie.Need-plus-requires-2
-plus-requires-2 c κs = omega (arith, few (c .before))
-
-plus-requires-3 : tie.Need-plus-requires-3
-plus-requires-3 c κs = omega (arith, few (c .before .before))
-
-plus-requires-4 : tie.Need-plus-requires-4
-plus-requires-4 c κs = omega (arith, few (c .before .before .before))
-
-dct-counts-requires : tie.Need-dct-counts-requires
-dct-counts-requires c κs = omega (arith, few (c .before .before .before .before))
-
 returns : tie.Need-returns
 returns c =
     let l = c .before .before .before .before .before .pre .0 in
@@ -44,9 +29,9 @@ next-level-spec =
     (λ c. search needs)  -- add-t6
     (λ c. search needs)  -- sub-t6
     (λ c. search needs)  -- add-t7
-    plus-requires
-    plus-requires-2
-    plus-requires-3
-    plus-requires-4
-    dct-counts-requires
+    (λ c κs. omega (arith, few c))  -- plus-requires
+    (λ c κs. omega (arith, few (c .before)))  -- plus-requires-2
+    (λ c κs. omega (arith, few (c .before .before)))  -- plus-requires-3
+    (λ c κs. omega (arith, few (c .before .before .before)))  -- plus-requires-4
+    (λ c κs. omega (arith, few (c .before .before .before .before)))  -- dct-counts-requires
     returns)

@@ -5,18 +5,6 @@ use Rattle.counts.proofs.Costs.{few-counts, dct-next, six-counts}
 use Rattle.counts.proofs.six_counts.Statement.{statement}
 use Rattle.counts.proofs.six_counts.Tie as tie
 
-plus-requires : tie.Need-plus-requires
-plus-requires c κs = omega (arith, few-counts (c .pre .0) (omega arith))
-
-dct-counts-requires : tie.Need-dct-counts-requires
-dct-counts-requires c κs = omega (arith, few-counts (c .before .pre .0) (omega arith))
-
-plus-requires-2 : tie.Need-plus-requires-2
-plus-requires-2 c κs = omega (arith, few-counts (c .before .before .pre .0) (omega arith))
-
-plus-requires-3 : tie.Need-plus-requires-3
-plus-requires-3 c κs = omega (arith, few-counts (c .before .before .before .pre .0) (omega arith))
-
 returns : tie.Need-returns
 returns c =
     let (l, length, two, most) = c .before .before .before .before .pre in
@@ -28,8 +16,8 @@ six-counts-spec =
     (tie.spec
     (λ c. search needs)  -- sub-t6
     (λ c. search needs)  -- mul-t7
-    plus-requires
-    dct-counts-requires
-    plus-requires-2
-    plus-requires-3
+    (λ c κs. omega (arith, few-counts (c .pre .0) (omega arith)))  -- plus-requires
+    (λ c κs. omega (arith, few-counts (c .before .pre .0) (omega arith)))  -- dct-counts-requires
+    (λ c κs. omega (arith, few-counts (c .before .before .pre .0) (omega arith)))  -- plus-requires-2
+    (λ c κs. omega (arith, few-counts (c .before .before .before .pre .0) (omega arith)))  -- plus-requires-3
     returns)

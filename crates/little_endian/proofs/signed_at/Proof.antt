@@ -6,13 +6,10 @@ use Rattle.little_endian.specs.Numbers.{signed}
 use Rattle.little_endian.proofs.signed_at.Statement.{statement}
 use Rattle.little_endian.proofs.signed_at.Tie as tie
 
-returns : tie.Need-returns
-returns c = toZ-ofZ (sfits-of (c .signed-of .ok)) ∙ c .signed-of .ensures ∙ ap signed (c .before .unsigned-at .ensures)
-
 pub signed-at-spec : {M : Type 1} → statement M
 signed-at-spec =
     tie.close
     (tie.spec
     (λ c κs. search needs)  -- unsigned-at-requires
     (λ c κs. search needs)  -- signed-of-requires
-    returns)
+    (λ c. toZ-ofZ (sfits-of (c .signed-of .ok)) ∙ c .signed-of .ensures ∙ ap signed (c .before .unsigned-at .ensures)))  -- returns

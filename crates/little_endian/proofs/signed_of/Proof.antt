@@ -8,9 +8,6 @@ use Rattle.little_endian.proofs.Signs.{word-reads}
 use Rattle.little_endian.proofs.signed_of.Statement.{statement}
 use Rattle.little_endian.proofs.signed_of.Tie as tie
 
-returns : tie.Need-returns
-returns c = word-reads (c .before .args .n) (omega arith)
-
 returns-2 : tie.Need-returns-2
 returns-2 c =
     let n = c .before .args .n in
@@ -24,5 +21,5 @@ signed-of-spec =
     (λ c. search needs)  -- cast-result
     (λ c. search needs)  -- sub-result
     (λ c. search needs)  -- cast-result-2
-    returns
+    (λ c. word-reads (c .before .args .n) (omega arith))  -- returns
     returns-2)

@@ -22,12 +22,6 @@ told {N} is p e = record {
   pair-is = (refl, refl);
 }
 
-returns : tie.Need-returns
-returns c = told _ (c .before .before .before .count-query .ensures) (c .before .counts .given .1)
-
-returns-2 : tie.Need-returns-2
-returns-2 c = told _ (c .before .before .count-query .ensures) (c .enum-told .given .1)
-
 pub mealbis-counts-spec : {M : Type 1} → statement M
 mealbis-counts-spec =
     tie.close
@@ -35,5 +29,5 @@ mealbis-counts-spec =
     (λ c κs. search needs)  -- count-query-requires
     (λ c. search needs)  -- enum-known-counts
     (λ c. search needs)  -- enum-told
-    returns
-    returns-2)
+    (λ c. told _ (c .before .before .before .count-query .ensures) (c .before .counts .given .1))  -- returns
+    (λ c. told _ (c .before .before .count-query .ensures) (c .enum-told .given .1)))  -- returns-2

@@ -5,9 +5,6 @@ use Rattle.mealbis.proofs.Numbers.{number-small}
 use Rattle.mealbis.proofs.tell.Statement.{statement}
 use Rattle.mealbis.proofs.tell.Tie as tie
 
-cast-result : tie.Need-cast-result
-cast-result c = omega (arith, number-small (c .before .before .before .args .answer))
-
 pub tell-spec : {M : Type 1} → statement M
 tell-spec =
     tie.close
@@ -15,5 +12,5 @@ tell-spec =
     (λ c κs. search needs)  -- spent-of-requires
     (λ c κs. search needs)  -- place-of-requires
     (λ c κs. search needs)  -- number-of-requires
-    cast-result
+    (λ c. omega (arith, number-small (c .before .before .before .args .answer)))  -- cast-result
     (λ c. search needs))

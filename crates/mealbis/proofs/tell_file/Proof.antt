@@ -5,9 +5,6 @@ use Rattle.mealbis.proofs.Numbers.{file-number-small}
 use Rattle.mealbis.proofs.tell_file.Statement.{statement}
 use Rattle.mealbis.proofs.tell_file.Tie as tie
 
-cast-result : tie.Need-cast-result
-cast-result c = omega (arith, file-number-small (c .before .before .before .args .answer))
-
 pub tell-file-spec : {M : Type 1} → statement M
 tell-file-spec =
     tie.close
@@ -15,5 +12,5 @@ tell-file-spec =
     (λ c κs. search needs)  -- sizes-of-requires
     (λ c κs. search needs)  -- place-of-requires
     (λ c κs. search needs)  -- number-of-requires
-    cast-result
+    (λ c. omega (arith, file-number-small (c .before .before .before .args .answer)))  -- cast-result
     (λ c. search needs))

@@ -27,26 +27,17 @@ turned (negsuc n) f h =
 negative : (c : tie.Then1) → Turned (c .before .args .x)
 negative c = let f = c .before .fits .x in turned _ f (rw (toZ-ofZ f) at (c .if1 .taken))
 
-cast-result : tie.Need-cast-result
-cast-result c = let (n, b, _, e) = negative c in rw e (tt, record { fits = omega arith })
-
-add-result : tie.Need-add-result
-add-result c = let (n, b, _, e) = negative c in omega (arith, ap natAbs e)
-
 cast-result-2 : tie.Need-cast-result-2
 cast-result-2 c =
     let f = c .before .fits .x in
     rw (toZ-ofZ f) (not-negative (c .before .args .x) (rw (toZ-ofZ f) at (c .if1 .left)), fits-natAbs tt f)
 
-returns : tie.Need-returns
-returns c = let (n, _, a, e) = negative c in omega (arith, ap natAbs e)
-
 pub magnitude-spec : {M : Type 1} → statement M
 magnitude-spec =
     tie.close
     (tie.spec
-    cast-result
-    add-result
+    (λ c. let (n, b, _, e) = negative c in rw e (tt, record { fits = omega arith }))  -- cast-result
+    (λ c. let (n, b, _, e) = negative c in omega (arith, ap natAbs e))  -- add-result
     cast-result-2
-    returns
+    (λ c. let (n, _, a, e) = negative c in omega (arith, ap natAbs e))  -- returns
     (λ c. search needs))  -- returns-2

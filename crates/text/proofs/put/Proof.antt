@@ -23,12 +23,6 @@ Inv-loop text page₀ at i₀ page i = (i ≤ length text) × Put page₀ at (ta
 abbrev μ-loop : tie.MeasureT-loop
 μ-loop text page₀ at i₀ page i = length text - i
 
-loop-holds : tie.Need-loop-holds Inv-loop μ-loop
-loop-holds c = (search needs, simp add-zero (put-none (omega arith)))
-
-loop-again : tie.Need-loop-again Inv-loop μ-loop
-loop-again c = (search needs, put-more _ _ _ (omega arith) (omega arith) (c .before .before .loop .inv .1))
-
 returns : tie.Need-returns Inv-loop μ-loop
 returns c =
     let l = c .before .loop in
@@ -40,13 +34,13 @@ put-spec =
     (tie.spec
     Inv-loop
     μ-loop
-    loop-holds
+    (λ c. (search needs, simp add-zero (put-none (omega arith))))  -- loop-holds
     (λ c. search needs)  -- shared-slice-read-page
     (λ c. search needs)  -- add-page
     (λ c. search needs)  -- slice-write-page
     (λ c. search needs)  -- add-i
     (λ c. search needs)  -- loop-less
-    loop-again
+    (λ c. (search needs, put-more _ _ _ (omega arith) (omega arith) (c .before .before .loop .inv .1)))  -- loop-again
     (λ c. search needs)  -- add-result
     (λ c. search needs)  -- same-length
     returns)

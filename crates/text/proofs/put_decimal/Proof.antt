@@ -21,22 +21,10 @@ negative c = rw (size-is (c .before)) (decimal-negative _ (rw (toZ-ofZ (c .befor
 natural : (c : tie.Else1) → decimal (c .before .before .before .args .x) ≡ number (c .before .magnitude .result)
 natural c = rw (size-is (c .before)) (decimal-natural _ (rw (toZ-ofZ (c .before .before .before .fits .x)) at (c .if1 .left)))
 
-put-requires : tie.Need-put-requires
-put-requires c κs = omega (arith, ap length (negative (c .before .before)))
-
-put-number-requires : tie.Need-put-number-requires
-put-number-requires c κs = omega (arith, ap length (negative (c .before .before .before .before .before .before)))
-
 returns : tie.Need-returns
 returns c =
     let p = c .before .before .before .before .before .before in
     rw (negative (p .before .before .before)) (p .put .ensures then c .before .before .put-number .ensures)
-
-put-number-requires-2 : tie.Need-put-number-requires-2
-put-number-requires-2 c κs = omega (arith, ap length (natural (c .before)))
-
-returns-2 : tie.Need-returns-2
-returns-2 c = rw (natural (c .before .before .before .before)) (c .before .before .put-number2 .ensures)
 
 pub put-decimal-spec : {M : Type 1} → statement M
 put-decimal-spec =
@@ -44,10 +32,10 @@ put-decimal-spec =
     (tie.spec
     (λ c κs. search needs)  -- magnitude-requires
     (λ c. search needs)  -- slice-aggregate-put
-    put-requires
-    put-number-requires
+    (λ c κs. omega (arith, ap length (negative (c .before .before))))  -- put-requires
+    (λ c κs. omega (arith, ap length (negative (c .before .before .before .before .before .before))))  -- put-number-requires
     (λ c. search needs)  -- same-length
     returns
-    put-number-requires-2
+    (λ c κs. omega (arith, ap length (natural (c .before))))  -- put-number-requires-2
     (λ c. search needs)  -- same-length-2
-    returns-2)
+    (λ c. rw (natural (c .before .before .before .before)) (c .before .before .put-number2 .ensures)))  -- returns-2

@@ -50,27 +50,6 @@ widths s = (
   rw (toZ-ofZ (s .fits .im)) (decimal-length _ (s .fits .im)),
 )
 
-put-number-requires : tie.Need-put-number-requires
-put-number-requires c κs = omega (arith, widths (c .before .before))
-
-put-requires : tie.Need-put-requires
-put-requires c κs = omega (arith, widths (c .before .before .before .before .before .before .before))
-
-put-number-requires-2 : tie.Need-put-number-requires-2
-put-number-requires-2 c κs = omega (arith, widths (begin (c .before .before .before)))
-
-put-requires-2 : tie.Need-put-requires-2
-put-requires-2 c κs = omega (arith, widths (begin (from-c (c .before .before .before .before))))
-
-put-decimal-requires : tie.Need-put-decimal-requires
-put-decimal-requires c κs = omega (arith, widths (begin (from-d (c .before .before .before))))
-
-put-requires-3 : tie.Need-put-requires-3
-put-requires-3 c κs = omega (arith, widths (begin (from-e (c .before .before .before .before))))
-
-put-decimal-requires-2 : tie.Need-put-decimal-requires-2
-put-decimal-requires-2 c κs = omega (arith, widths (begin (from-f (c .before .before .before))))
-
 -- omega enters 128 records: what lies further back is listed, and by no `let`, which would count
 put-requires-4 : tie.Need-put-requires-4
 put-requires-4 c κs =
@@ -101,9 +80,6 @@ line-put h =
     then re then f .put3 .ensures
     then im then h .put4 .ensures
 
-same-length : tie.Need-same-length
-same-length c = line-put (c .before .before) .len
-
 returns : tie.Need-returns
 returns c =
     let s = begin (from-h (c .before .before)) in
@@ -114,17 +90,17 @@ pub put-line-spec : {M : Type 1} → statement M
 put-line-spec =
     tie.close
     (tie.spec
-    put-number-requires
+    (λ c κs. omega (arith, widths (c .before .before)))  -- put-number-requires
     (λ c. search needs)  -- slice-aggregate-put
-    put-requires
-    put-number-requires-2
+    (λ c κs. omega (arith, widths (c .before .before .before .before .before .before .before)))  -- put-requires
+    (λ c κs. omega (arith, widths (begin (c .before .before .before))))  -- put-number-requires-2
     (λ c. search needs)  -- slice-aggregate-put-2
-    put-requires-2
-    put-decimal-requires
+    (λ c κs. omega (arith, widths (begin (from-c (c .before .before .before .before)))))  -- put-requires-2
+    (λ c κs. omega (arith, widths (begin (from-d (c .before .before .before)))))  -- put-decimal-requires
     (λ c. search needs)  -- slice-aggregate-put-3
-    put-requires-3
-    put-decimal-requires-2
+    (λ c κs. omega (arith, widths (begin (from-e (c .before .before .before .before)))))  -- put-requires-3
+    (λ c κs. omega (arith, widths (begin (from-f (c .before .before .before)))))  -- put-decimal-requires-2
     (λ c. search needs)  -- slice-aggregate-put-4
     put-requires-4
-    same-length
+    (λ c. line-put (c .before .before) .len)  -- same-length
     returns)

@@ -33,9 +33,6 @@ one-more :
 unfolding lines
 one-more block re im k p l = rw add-one (p then l)
 
-loop-holds : tie.Need-loop-holds Inv-loop μ-loop
-loop-holds c = (search needs, search needs, no-lines _ _ _ (omega arith))
-
 loop-again : tie.Need-loop-again Inv-loop μ-loop
 loop-again c =
     let l = c .before .before .before .before .before .before .before in
@@ -60,7 +57,7 @@ put-lines-spec =
     (tie.spec
     Inv-loop
     μ-loop
-    loop-holds
+    (λ c. (search needs, search needs, no-lines _ _ _ (omega arith)))  -- loop-holds
     (λ c. search needs)  -- mul-re
     (λ c. search needs)  -- shared-slice-copy-out-re
     (λ c. search needs)  -- mul-im

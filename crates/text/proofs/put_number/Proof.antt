@@ -10,12 +10,6 @@ use Rattle.text.proofs.put_number.Tie as tie
 spelled-out : (c : tie.After-decimal) → take (c .decimal .result) (c .decimal .last .1 .0) ≡ number (c .before .before .before .args .n)
 spelled-out c = c .decimal .ensures .1 .1 ∙ digits-number _ _ (search needs) (c .decimal .ensures .1 .0)
 
-put-requires : tie.Need-put-requires
-put-requires c κs = rw (spelled-out (c .before .before)) (c .before .before .before .before .before .pre)
-
-returns : tie.Need-returns
-returns c = rw (spelled-out (c .before .before .before .before .before)) at (c .before .before .put .ensures)
-
 pub put-number-spec : {M : Type 1} → statement M
 put-number-spec =
     tie.close
@@ -23,6 +17,6 @@ put-number-spec =
     (λ c κs. search needs)  -- decimal-requires
     (λ c. search needs)  -- array-share-prefix-digits
     (λ c. search needs)  -- slice-aggregate-put
-    put-requires
+    (λ c κs. rw (spelled-out (c .before .before)) (c .before .before .before .before .before .pre))  -- put-requires
     (λ c. search needs)  -- same-length
-    returns)
+    (λ c. rw (spelled-out (c .before .before .before .before .before)) at (c .before .before .put .ensures)))  -- returns

@@ -16,12 +16,6 @@ begin c = c .before .before .before .before
 one-digit : (s : tie.Start) → length (number (s .args .number)) ≤ 1
 one-digit s = number-length 0 _ (s .pre .0)
 
-put-number-requires : tie.Need-put-number-requires
-put-number-requires c κs = omega (arith, one-digit (begin (c .before .before .before)))
-
-put-requires-2 : tie.Need-put-requires-2
-put-requires-2 c κs = omega (arith, one-digit (begin (c .before .before .before .before .before .before .before .before)))
-
 returns : tie.Need-returns
 returns c =
     let e = c .before .before in
@@ -35,8 +29,8 @@ put-refusal-spec =
     (tie.spec
     (λ c. search needs)  -- slice-aggregate-put
     (λ c κs. search needs)  -- put-requires
-    put-number-requires
+    (λ c κs. omega (arith, one-digit (begin (c .before .before .before))))  -- put-number-requires
     (λ c. search needs)  -- slice-aggregate-put-2
-    put-requires-2
+    (λ c κs. omega (arith, one-digit (begin (c .before .before .before .before .before .before .before .before))))  -- put-requires-2
     (λ c. search needs)  -- same-length
     returns)
