@@ -8,8 +8,9 @@ use spectra::cosine;
 use spectra::count_query;
 use spectra::pair;
 use spectra::spectrum;
+use text::magnitude;
 ghost use mathlib.Core.Path.{_≡_};
-ghost use Prim.Native.Nat.{_^_, _≤_, _<_};
+ghost use Prim.Native.Nat.{_≤_};
 ghost use lib.ListN.{length};
 
 // ---- numbers
@@ -20,37 +21,20 @@ fn at_most(most: usize, n: usize) -> usize
     if n < most { n } else { most }
 }
 
-fn widen(word: i32) -> i64 {
-    word as i64
-}
-
-// How far a word is from 0, or a negative one from -1.
-fn distance(word: i64) -> u64
-    ensures { λ r. ⌜ r < 2 ^ 63 ⌝ }
-{
-    if word < 0 {
-        (!word) as u64
-    } else {
-        word as u64
-    }
-}
-
 // ---- what is written
-
-fn write_number(value: i64) {
-    let n = distance(value);
-    if value < 0 {
-        io::write_all(STDOUT_FILENO, b" -");
-        io::print_decimal(STDOUT_FILENO, n + 1);
-    } else {
-        io::write_all(STDOUT_FILENO, b" ");
-        io::print_decimal(STDOUT_FILENO, n);
-    }
-}
 
 fn write_count(value: u64) {
     io::write_all(STDOUT_FILENO, b" ");
     io::print_decimal(STDOUT_FILENO, value);
+}
+
+fn write_number(value: i32) {
+    if value < 0 {
+        io::write_all(STDOUT_FILENO, b" -");
+    } else {
+        io::write_all(STDOUT_FILENO, b" ");
+    }
+    io::print_decimal(STDOUT_FILENO, magnitude(value));
 }
 
 fn write_tally(tally: Tally) {
@@ -76,57 +60,45 @@ fn write_answer(answer: Answer) {
     }
 }
 
-// A word of 32 bits, and 2^31 more; 0 for a longer word.
-fn shifted(word: i64) -> u64
-    ensures { λ r. ⌜ r < 2 ^ 32 ⌝ }
-{
-    let n = distance(word);
-    if n > 2147483647 {
-        return 0;
-    }
-    if word < 0 {
-        2147483647 - n
-    } else {
-        2147483648 + n
-    }
-}
+const PRIME: u64 = 4294967291;
 
-// One more word of a digest.
-fn digested(digest: u64, word: i64) -> u64 {
-    (digest % 4294967291 * 65599 + shifted(word)) % 4294967291
-}
-
-fn write_digest(words: &[i32]) {
-    let mut digest: u64 = 0;
-    let mut i = 0;
-    while i < words.len() {
-        digest = digested(digest, widen(words[i]));
-        i += 1;
-    }
-    write_count(digest);
-}
-
-fn write_digest_64(words: &[i64]) {
-    let mut digest: u64 = 0;
-    let mut i = 0;
-    while i < words.len() {
-        digest = digested(digest, words[i]);
-        i += 1;
-    }
-    write_count(digest);
+// One more word of a digest: 2^31 more than the word, modulo the prime.
+fn digested(digest: u64, word: i32) -> u64 {
+    let size = magnitude(word) % PRIME;
+    let residue = if word < 0 { PRIME - size } else { size };
+    (digest % PRIME * 65599 + 2147483648 + residue % PRIME) % PRIME
 }
 
 // A short row word by word, a long one as a digest.
 fn write_words(words: &[i32]) {
+    let mut digest = 0;
+    for i in 0..words.len() {
+        let word = words[i];
+        digest = digested(digest, word);
+        if words.len() <= 20 {
+            write_number(word);
+        }
+    }
     if words.len() > 20 {
-        write_digest(words);
-        return;
+        write_count(digest);
     }
-    let mut i = 0;
-    while i < words.len() {
-        write_number(widen(words[i]));
-        i += 1;
+}
+
+// A word of scratch is to be 0 or 90. Any other counts as -1.
+fn scratch_word(word: i64) -> i32 {
+    match word {
+        0 => 0,
+        90 => 90,
+        _ => -1,
     }
+}
+
+fn write_scratch(words: &[i64]) {
+    let mut digest = 0;
+    for i in 0..words.len() {
+        digest = digested(digest, scratch_word(words[i]));
+    }
+    write_count(digest);
 }
 
 // ---- the recordings
@@ -222,7 +194,7 @@ fn write_spectrum(
     ));
     write_words(cosines);
     write_words(sines);
-    write_digest_64(scratch);
+    write_scratch(scratch);
     io::write_all(STDOUT_FILENO, b"\n");
 }
 
@@ -254,7 +226,7 @@ fn write_cosine(a: &[i32], case: Case, coefficients: &mut [i32], scratch: &mut [
         scratch,
     ));
     write_words(coefficients);
-    write_digest_64(scratch);
+    write_scratch(scratch);
     io::write_all(STDOUT_FILENO, b"\n");
 }
 
@@ -293,7 +265,7 @@ fn write_pair(
     ));
     write_words(reals);
     write_words(imaginaries);
-    write_digest_64(scratch);
+    write_scratch(scratch);
     io::write_all(STDOUT_FILENO, b"\n");
 }
 
