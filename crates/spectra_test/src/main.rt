@@ -13,14 +13,6 @@ ghost use mathlib.Core.Path.{_≡_};
 ghost use Prim.Native.Nat.{_≤_};
 ghost use lib.ListN.{length};
 
-// ---- numbers
-
-fn at_most(most: usize, n: usize) -> usize
-    ensures { λ r. ⌜ r ≤ most ⌝ }
-{
-    if n < most { n } else { most }
-}
-
 // ---- what is written
 
 fn write_count(value: u64) {
@@ -119,33 +111,27 @@ fn random_sample(state: u64) -> i32 {
 }
 
 // The sample at place i of a kind of recording: the ends of the range, alternating signs, one large sample, two ones, or random.
-fn sample(kind: u64, i: usize, state: u64) -> i32 {
-    if kind == 0 {
-        return 1000000;
+fn sample(kind: usize, i: usize, state: u64) -> i32 {
+    match kind {
+        0 => 1000000,
+        1 => -1000000,
+        2 => if i % 2 == 0 { 1000000 } else { -1000000 },
+        3 => if i == 4 { 1000000 } else { 0 },
+        4 => if i == 4 || i == 5 { 1 } else { 0 },
+        _ => random_sample(state),
     }
-    if kind == 1 {
-        return -1000000;
-    }
-    if kind == 2 {
-        return if i % 2 == 0 { 1000000 } else { -1000000 };
-    }
-    if kind == 3 {
-        return if i == 4 { 1000000 } else { 0 };
-    }
-    if kind == 4 {
-        return if i == 4 || i == 5 { 1 } else { 0 };
-    }
-    random_sample(state)
 }
 
-fn fill(recording: &mut [i32], kind: u64, seed: u64) {
+fn recording(kind: usize, seed: u64) -> [i32; 1040]
+    ensures { λ r. ⌜ 1040 ≡ length r ⌝ }
+{
+    let mut samples = row(0);
     let mut state = seed;
-    let mut i = 0;
-    while i < recording.len() {
+    for i in 0..1040 {
         state = next(state);
-        recording[i] = sample(kind, i, state);
-        i += 1;
+        samples[i] = sample(kind, i, state);
     }
+    samples
 }
 
 // ---- a case: where the block stands and what is lent
@@ -154,11 +140,15 @@ struct Case {
     start: usize,
     length: usize,
     allowance: u64,
-    a: usize,
-    b: usize,
     first: usize,
     second: usize,
     scratch: usize,
+}
+
+enum Call {
+    Spectrum,
+    Cosine,
+    Pair,
 }
 
 // A result as it is before a call, or a recording before it is filled.
@@ -175,123 +165,71 @@ fn scratch_words() -> [i64; 8260]
     [90; 8260]
 }
 
-fn write_spectrum(
-    a: &[i32],
-    case: Case,
-    cosines: &mut [i32],
-    sines: &mut [i32],
-    scratch: &mut [i64],
-) {
-    io::write_all(STDOUT_FILENO, b"spectrum");
-    write_answer(spectrum(
-        a,
-        case.start,
-        case.length,
-        case.allowance,
-        cosines,
-        sines,
-        scratch,
-    ));
-    write_words(cosines);
-    write_words(sines);
+fn write_buffers(first: &[i32], second: &[i32], scratch: &[i64]) {
+    write_words(first);
+    write_words(second);
     write_scratch(scratch);
     io::write_all(STDOUT_FILENO, b"\n");
 }
 
-fn run_spectrum(a: &[i32], case: Case) {
-    let mut cosines = row(70);
-    let mut sines = row(80);
-    let mut scratch = scratch_words();
-    let lent = at_most(a.len(), case.a);
-    let first = at_most(1040, case.first);
-    let second = at_most(1040, case.second);
-    let words = at_most(8260, case.scratch);
-    write_spectrum(
-        &a[..lent],
-        case,
-        &mut cosines[..first],
-        &mut sines[..second],
-        &mut scratch[..words],
-    );
-}
-
-fn write_cosine(a: &[i32], case: Case, coefficients: &mut [i32], scratch: &mut [i64]) {
-    io::write_all(STDOUT_FILENO, b"cosine");
-    write_answer(cosine(
-        a,
-        case.start,
-        case.length,
-        case.allowance,
-        coefficients,
-        scratch,
-    ));
-    write_words(coefficients);
-    write_scratch(scratch);
-    io::write_all(STDOUT_FILENO, b"\n");
-}
-
-fn run_cosine(a: &[i32], case: Case) {
-    let mut coefficients = row(70);
-    let mut scratch = scratch_words();
-    let lent = at_most(a.len(), case.a);
-    let first = at_most(1040, case.first);
-    let words = at_most(8260, case.scratch);
-    write_cosine(
-        &a[..lent],
-        case,
-        &mut coefficients[..first],
-        &mut scratch[..words],
-    );
-}
-
-fn write_pair(
+// Cosine has one result, so nothing of the second is written.
+fn write_call(
+    call: Call,
     a: &[i32],
     b: &[i32],
     case: Case,
-    reals: &mut [i32],
-    imaginaries: &mut [i32],
+    first: &mut [i32],
+    second: &mut [i32],
     scratch: &mut [i64],
 ) {
-    io::write_all(STDOUT_FILENO, b"pair");
-    write_answer(pair(
-        a,
-        b,
-        case.start,
-        case.length,
-        case.allowance,
-        reals,
-        imaginaries,
-        scratch,
-    ));
-    write_words(reals);
-    write_words(imaginaries);
-    write_scratch(scratch);
-    io::write_all(STDOUT_FILENO, b"\n");
+    let start = case.start;
+    let length = case.length;
+    let allowance = case.allowance;
+    match call {
+        Call::Spectrum => {
+            io::write_all(STDOUT_FILENO, b"spectrum");
+            write_answer(spectrum(a, start, length, allowance, first, second, scratch));
+            write_buffers(first, second, scratch);
+        }
+        Call::Cosine => {
+            io::write_all(STDOUT_FILENO, b"cosine");
+            write_answer(cosine(a, start, length, allowance, first, scratch));
+            write_buffers(first, &second[0..0], scratch);
+        }
+        Call::Pair => {
+            io::write_all(STDOUT_FILENO, b"pair");
+            write_answer(pair(a, b, start, length, allowance, first, second, scratch));
+            write_buffers(first, second, scratch);
+        }
+    }
 }
 
-fn run_pair(a: &[i32], b: &[i32], case: Case) {
-    let mut reals = row(70);
-    let mut imaginaries = row(80);
+fn run_call(call: Call, a: &[i32], b: &[i32], case: Case)
+    requires { ⌜ (case .first ≤ 1040) × (case .second ≤ 1040) × (case .scratch ≤ 8260) ⌝ }
+{
+    let mut firsts = row(70);
+    let mut seconds = row(80);
     let mut scratch = scratch_words();
-    let lent_a = at_most(a.len(), case.a);
-    let lent_b = at_most(b.len(), case.b);
-    let first = at_most(1040, case.first);
-    let second = at_most(1040, case.second);
-    let words = at_most(8260, case.scratch);
-    write_pair(
-        &a[..lent_a],
-        &b[..lent_b],
+    let first = case.first;
+    let second = case.second;
+    let words = case.scratch;
+    write_call(
+        call,
+        a,
+        b,
         case,
-        &mut reals[..first],
-        &mut imaginaries[..second],
-        &mut scratch[..words],
+        &mut firsts[0..first],
+        &mut seconds[0..second],
+        &mut scratch[0..words],
     );
 }
 
-fn run_calls(a: &[i32], b: &[i32], case: Case) {
-    run_spectrum(a, case);
-    run_cosine(a, case);
-    run_pair(a, b, case);
+fn run_calls(a: &[i32], b: &[i32], case: Case)
+    requires { ⌜ (case .first ≤ 1040) × (case .second ≤ 1040) × (case .scratch ≤ 8260) ⌝ }
+{
+    run_call(Call::Spectrum, a, b, case);
+    run_call(Call::Cosine, a, b, case);
+    run_call(Call::Pair, a, b, case);
 }
 
 fn run_query(length: usize) {
@@ -307,15 +245,19 @@ fn run_query(length: usize) {
     io::write_all(STDOUT_FILENO, b"\n");
 }
 
+fn at_most(most: usize, n: usize) -> usize
+    ensures { λ r. ⌜ r ≤ most ⌝ }
+{
+    if n < most { n } else { most }
+}
+
 // All three calls, with words to spare in every buffer.
 fn run_roomy(a: &[i32], b: &[i32], start: usize, length: usize, allowance: u64) {
     let room = at_most(1024, length);
     let case = Case {
-        start: start,
-        length: length,
-        allowance: allowance,
-        a: a.len(),
-        b: b.len(),
+        start,
+        length,
+        allowance,
         first: room + 2,
         second: room + 3,
         scratch: 8 * room + 66,
@@ -325,11 +267,9 @@ fn run_roomy(a: &[i32], b: &[i32], start: usize, length: usize, allowance: u64) 
 
 // ---- every length of every kind of block, from start 3
 
-fn run_kind(kind: u64) {
-    let mut a = row(0);
-    let mut b = row(0);
-    fill(&mut a, kind, 1);
-    fill(&mut b, 5 - kind % 6, 2);
+fn run_kind(kind: usize) {
+    let a = recording(kind, 1);
+    let b = recording(5 - kind % 6, 2);
     let mut level: u32 = 0;
     while level <= 10 {
         run_roomy(&a, &b, 3, 1 << level, 20000);
@@ -338,7 +278,7 @@ fn run_kind(kind: u64) {
 }
 
 fn run_kinds() {
-    let mut kind: u64 = 0;
+    let mut kind: usize = 0;
     while kind < 6 {
         run_kind(kind);
         kind += 1;
@@ -347,53 +287,36 @@ fn run_kinds() {
 
 // ---- every pair of refusals that can hold together, at 8 samples from start 2. The samples before the block are out of range
 
-// The first number if the condition is among two, or else the second.
-fn among(condition: usize, i: usize, j: usize, yes: usize, no: usize) -> usize {
-    if i == condition {
-        return yes;
-    }
-    if j == condition {
-        return yes;
-    }
-    no
-}
-
-fn sample_among(condition: usize, i: usize, j: usize, yes: i32, no: i32) -> i32 {
-    if among(condition, i, j, 1, 0) == 1 {
-        yes
+// The first number, or the second if the condition is among two.
+fn pick(condition: usize, i: usize, j: usize, good: usize, bad: usize) -> usize
+    requires { ⌜ bad ≤ good ⌝ }
+    ensures { λ r. ⌜ r ≤ good ⌝ }
+{
+    if i == condition || j == condition {
+        bad
     } else {
-        no
-    }
-}
-
-fn put_from(words: &mut [i32], start: usize, value: i32) {
-    let mut i = start;
-    while i < words.len() {
-        words[i] = value;
-        i += 1;
+        good
     }
 }
 
 // 1: the length; 2, 3: recording a, b; 4, 5: the first, the second result; 6: scratch; 7: the allowance; 8, 9: a sample of a, of b;
 // 0: none.
 fn run_refusals(i: usize, j: usize) {
-    let mut a = [2000000i32; 10];
-    let mut b = [-2000000i32; 10];
-    put_from(&mut a, 2, 5);
-    put_from(&mut b, 2, 6);
-    a[4] = sample_among(8, i, j, 1000005, 5);
-    b[3] = sample_among(9, i, j, -1000001, 6);
+    let x = if i == 8 || j == 8 { 1000005 } else { 5 };
+    let y = if i == 9 || j == 9 { -1000001 } else { 6 };
+    let a = [2000000, 2000000, 5, 5, x, 5, 5, 5, 5, 5];
+    let b = [-2000000, -2000000, 6, y, 6, 6, 6, 6, 6, 6];
+    let lent_a = pick(2, i, j, 10, 7);
+    let lent_b = pick(3, i, j, 10, 7);
     let case = Case {
         start: 2,
-        length: among(1, i, j, 6, 8),
-        allowance: among(7, i, j, 1, 100) as u64,
-        a: among(2, i, j, 7, 10),
-        b: among(3, i, j, 7, 10),
-        first: among(4, i, j, 3, 8),
-        second: among(5, i, j, 3, 8),
-        scratch: among(6, i, j, 103, 128),
+        length: pick(1, i, j, 8, 6),
+        allowance: pick(7, i, j, 100, 1) as u64,
+        first: pick(4, i, j, 8, 3),
+        second: pick(5, i, j, 8, 3),
+        scratch: pick(6, i, j, 128, 103),
     };
-    run_calls(&a, &b, case);
+    run_calls(&a[0..lent_a], &b[0..lent_b], case);
 }
 
 fn run_refusals_with(i: usize) {
@@ -430,10 +353,8 @@ fn run_blocks_to_try() {
     run_small(-13726, 0, -11996, 0, 4);
     run_small(-11996, 0, 13726, 0, 4);
     run_small(11996, 0, -13726, 0, 4);
-    let mut a = [0i32; 16];
-    let mut b = [0i32; 16];
-    fill(&mut a, 3, 1);
-    fill(&mut b, 5, 2);
+    let mut a = recording(3, 1);
+    let b = recording(5, 2);
     run_roomy(&a, &b, 4, 8, 12);
     run_roomy(&a, &b, 4, 8, 11);
     run_roomy(&a, &b, 3, 8, 20000);

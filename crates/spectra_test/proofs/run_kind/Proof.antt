@@ -16,13 +16,9 @@ run-kind-spec =
     (tie.spec
     Inv-loop
     μ-loop
-    (λ c κs. search needs)  -- row-requires
-    (λ c κs. search needs)  -- row-requires-2
-    (λ c. search needs)  -- slice-aggregate-fill
-    (λ c κs. search needs)  -- fill-requires
-    (λ c. search needs)  -- slice-aggregate-fill-2
-    (λ c. search needs)  -- sub-fill
-    (λ c κs. search needs)  -- fill-requires-2
+    (λ c κs. search needs)  -- recording-requires
+    (λ c. search needs)  -- sub-recording
+    (λ c κs. search needs)  -- recording-requires-2
     (λ c. search needs)  -- loop-holds
     (λ c. search needs)  -- slice-aggregate-run-roomy
     (λ c. search needs)  -- slice-aggregate-run-roomy-2
