@@ -267,22 +267,12 @@ fn run_roomy(a: &[i32], b: &[i32], start: usize, length: usize, allowance: u64) 
 
 // ---- every length of every kind of block, from start 3
 
-fn run_kind(kind: usize) {
+fn run_kind(kind: usize, level: usize)
+    requires { ⌜ (kind ≤ 5) × (level ≤ 10) ⌝ }
+{
     let a = recording(kind, 1);
-    let b = recording(5 - kind % 6, 2);
-    let mut level: u32 = 0;
-    while level <= 10 {
-        run_roomy(&a, &b, 3, 1 << level, 20000);
-        level += 1;
-    }
-}
-
-fn run_kinds() {
-    let mut kind: usize = 0;
-    while kind < 6 {
-        run_kind(kind);
-        kind += 1;
-    }
+    let b = recording(5 - kind, 2);
+    run_roomy(&a, &b, 3, 1 << level, 20000);
 }
 
 // ---- every pair of refusals that can hold together, at 8 samples from start 2. The samples before the block are out of range
@@ -300,8 +290,11 @@ fn pick(condition: usize, i: usize, j: usize, good: usize, bad: usize) -> usize
 }
 
 // 1: the length; 2, 3: recording a, b; 4, 5: the first, the second result; 6: scratch; 7: the allowance; 8, 9: a sample of a, of b;
-// 0: none.
+// 0: none. Each pair runs once.
 fn run_refusals(i: usize, j: usize) {
+    if i > j {
+        return;
+    }
     let x = if i == 8 || j == 8 { 1000005 } else { 5 };
     let y = if i == 9 || j == 9 { -1000001 } else { 6 };
     let a = [2000000, 2000000, 5, 5, x, 5, 5, 5, 5, 5];
@@ -317,22 +310,6 @@ fn run_refusals(i: usize, j: usize) {
         scratch: pick(6, i, j, 128, 103),
     };
     run_calls(&a[0..lent_a], &b[0..lent_b], case);
-}
-
-fn run_refusals_with(i: usize) {
-    let mut j = i;
-    while j < 10 {
-        run_refusals(i, j);
-        j += 1;
-    }
-}
-
-fn run_pairs_of_refusals() {
-    let mut i: usize = 0;
-    while i < 10 {
-        run_refusals_with(i);
-        i += 1;
-    }
 }
 
 // ---- document 01's blocks to try, and blocks with a tie
@@ -371,44 +348,52 @@ fn run_starts(length: usize) {
     run_roomy(&a, &b, 7, length, 20000);
     run_roomy(&a, &b, 8, length, 0);
     run_roomy(&a, &b, 18446744073709551615, length, 20000);
-    run_roomy(&a[..0], &b, 0, length, 20000);
+    run_roomy(&a[0..0], &b, 0, length, 20000);
     run_query(length);
-}
-
-fn run_lengths() {
-    let mut length: usize = 0;
-    while length < 10 {
-        run_starts(length);
-        length += 1;
-    }
-    run_starts(1024);
-    run_starts(2048);
-    run_starts(18446744073709551615);
 }
 
 // A length, and the lengths below it and above it.
 fn run_queries_near(length: usize) {
-    if length > 0 {
-        run_query(length - 1);
-    }
-    run_query(length);
-    if length < 10000 {
-        run_query(length + 1);
+    let near = at_most(4096, length);
+    if near > 0 {
+        run_query(near - 1);
+        run_query(near);
+        run_query(near + 1);
     }
 }
 
-fn run_queries() {
-    let mut level: u32 = 0;
-    while level <= 12 {
-        run_queries_near(1 << level);
-        level += 1;
+// ---- all of them, part by part and turn by turn
+
+enum Part {
+    Kinds,
+    Refusals,
+    Starts,
+    Queries,
+}
+
+// A kind and one of 11 lengths; two refusals; a length; a power of 2 up to 4096.
+fn run_turn(part: Part, n: usize) {
+    match part {
+        Part::Kinds => run_kind(n / 11 % 6, n % 11),
+        Part::Refusals => run_refusals(n / 10, n % 10),
+        Part::Starts => run_starts(n),
+        Part::Queries => run_queries_near(1 << (n % 13)),
+    }
+}
+
+fn run_part(part: Part, turns: usize) {
+    for n in 0..turns {
+        run_turn(part, n);
     }
 }
 
 fn main() {
-    run_kinds();
-    run_pairs_of_refusals();
+    run_part(Part::Kinds, 66);
+    run_part(Part::Refusals, 100);
     run_blocks_to_try();
-    run_lengths();
-    run_queries();
+    run_part(Part::Starts, 10);
+    run_starts(1024);
+    run_starts(2048);
+    run_starts(18446744073709551615);
+    run_part(Part::Queries, 13);
 }
