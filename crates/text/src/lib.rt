@@ -29,6 +29,7 @@ fn put_number(n: u64, page: &mut [u8], at: usize) -> usize
     put(&digits[..count], page, at)
 }
 
+// The size of a number, without its sign.
 pub fn magnitude(x: i32) -> u64
     ensures { λ r. ⌜ r ≡ natAbs x ⌝ }
 {
