@@ -8,49 +8,25 @@ use spectra::cosine;
 use spectra::count_query;
 use spectra::pair;
 use spectra::spectrum;
+use text::magnitude;
 ghost use mathlib.Core.Path.{_≡_};
-ghost use Prim.Native.Nat.{_^_, _≤_, _<_};
+ghost use Prim.Native.Nat.{_≤_};
 ghost use lib.ListN.{length};
 
-// ---- numbers
-
-fn at_most(most: usize, n: usize) -> usize
-    ensures { λ r. ⌜ r ≤ most ⌝ }
-{
-    if n < most { n } else { most }
-}
-
-fn widen(word: i32) -> i64 {
-    word as i64
-}
-
-// How far a word is from 0, or a negative one from -1.
-fn distance(word: i64) -> u64
-    ensures { λ r. ⌜ r < 2 ^ 63 ⌝ }
-{
-    if word < 0 {
-        (!word) as u64
-    } else {
-        word as u64
-    }
-}
-
 // ---- what is written
-
-fn write_number(value: i64) {
-    let n = distance(value);
-    if value < 0 {
-        io::write_all(STDOUT_FILENO, b" -");
-        io::print_decimal(STDOUT_FILENO, n + 1);
-    } else {
-        io::write_all(STDOUT_FILENO, b" ");
-        io::print_decimal(STDOUT_FILENO, n);
-    }
-}
 
 fn write_count(value: u64) {
     io::write_all(STDOUT_FILENO, b" ");
     io::print_decimal(STDOUT_FILENO, value);
+}
+
+fn write_number(value: i32) {
+    if value < 0 {
+        io::write_all(STDOUT_FILENO, b" -");
+    } else {
+        io::write_all(STDOUT_FILENO, b" ");
+    }
+    io::print_decimal(STDOUT_FILENO, magnitude(value));
 }
 
 fn write_tally(tally: Tally) {
@@ -76,57 +52,45 @@ fn write_answer(answer: Answer) {
     }
 }
 
-// A word of 32 bits, and 2^31 more; 0 for a longer word.
-fn shifted(word: i64) -> u64
-    ensures { λ r. ⌜ r < 2 ^ 32 ⌝ }
-{
-    let n = distance(word);
-    if n > 2147483647 {
-        return 0;
-    }
-    if word < 0 {
-        2147483647 - n
-    } else {
-        2147483648 + n
-    }
-}
+const PRIME: u64 = 4294967291;
 
-// One more word of a digest.
-fn digested(digest: u64, word: i64) -> u64 {
-    (digest % 4294967291 * 65599 + shifted(word)) % 4294967291
-}
-
-fn write_digest(words: &[i32]) {
-    let mut digest: u64 = 0;
-    let mut i = 0;
-    while i < words.len() {
-        digest = digested(digest, widen(words[i]));
-        i += 1;
-    }
-    write_count(digest);
-}
-
-fn write_digest_64(words: &[i64]) {
-    let mut digest: u64 = 0;
-    let mut i = 0;
-    while i < words.len() {
-        digest = digested(digest, words[i]);
-        i += 1;
-    }
-    write_count(digest);
+// One more word of a digest: 2^31 more than the word, modulo the prime.
+fn digested(digest: u64, word: i32) -> u64 {
+    let size = magnitude(word) % PRIME;
+    let residue = if word < 0 { PRIME - size } else { size };
+    (digest % PRIME * 65599 + 2147483648 + residue % PRIME) % PRIME
 }
 
 // A short row word by word, a long one as a digest.
 fn write_words(words: &[i32]) {
+    let mut digest = 0;
+    for i in 0..words.len() {
+        let word = words[i];
+        digest = digested(digest, word);
+        if words.len() <= 20 {
+            write_number(word);
+        }
+    }
     if words.len() > 20 {
-        write_digest(words);
-        return;
+        write_count(digest);
     }
-    let mut i = 0;
-    while i < words.len() {
-        write_number(widen(words[i]));
-        i += 1;
+}
+
+// A word of scratch is to be 0 or 90. Any other counts as -1.
+fn scratch_word(word: i64) -> i32 {
+    match word {
+        0 => 0,
+        90 => 90,
+        _ => -1,
     }
+}
+
+fn write_scratch(words: &[i64]) {
+    let mut digest = 0;
+    for i in 0..words.len() {
+        digest = digested(digest, scratch_word(words[i]));
+    }
+    write_count(digest);
 }
 
 // ---- the recordings
@@ -147,33 +111,27 @@ fn random_sample(state: u64) -> i32 {
 }
 
 // The sample at place i of a kind of recording: the ends of the range, alternating signs, one large sample, two ones, or random.
-fn sample(kind: u64, i: usize, state: u64) -> i32 {
-    if kind == 0 {
-        return 1000000;
+fn sample(kind: usize, i: usize, state: u64) -> i32 {
+    match kind {
+        0 => 1000000,
+        1 => -1000000,
+        2 => if i % 2 == 0 { 1000000 } else { -1000000 },
+        3 => if i == 4 { 1000000 } else { 0 },
+        4 => if i == 4 || i == 5 { 1 } else { 0 },
+        _ => random_sample(state),
     }
-    if kind == 1 {
-        return -1000000;
-    }
-    if kind == 2 {
-        return if i % 2 == 0 { 1000000 } else { -1000000 };
-    }
-    if kind == 3 {
-        return if i == 4 { 1000000 } else { 0 };
-    }
-    if kind == 4 {
-        return if i == 4 || i == 5 { 1 } else { 0 };
-    }
-    random_sample(state)
 }
 
-fn fill(recording: &mut [i32], kind: u64, seed: u64) {
+fn recording(kind: usize, seed: u64) -> [i32; 1040]
+    ensures { λ r. ⌜ 1040 ≡ length r ⌝ }
+{
+    let mut samples = row(0);
     let mut state = seed;
-    let mut i = 0;
-    while i < recording.len() {
+    for i in 0..1040 {
         state = next(state);
-        recording[i] = sample(kind, i, state);
-        i += 1;
+        samples[i] = sample(kind, i, state);
     }
+    samples
 }
 
 // ---- a case: where the block stands and what is lent
@@ -182,11 +140,15 @@ struct Case {
     start: usize,
     length: usize,
     allowance: u64,
-    a: usize,
-    b: usize,
     first: usize,
     second: usize,
     scratch: usize,
+}
+
+enum Call {
+    Spectrum,
+    Cosine,
+    Pair,
 }
 
 // A result as it is before a call, or a recording before it is filled.
@@ -203,123 +165,71 @@ fn scratch_words() -> [i64; 8260]
     [90; 8260]
 }
 
-fn write_spectrum(
-    a: &[i32],
-    case: Case,
-    cosines: &mut [i32],
-    sines: &mut [i32],
-    scratch: &mut [i64],
-) {
-    io::write_all(STDOUT_FILENO, b"spectrum");
-    write_answer(spectrum(
-        a,
-        case.start,
-        case.length,
-        case.allowance,
-        cosines,
-        sines,
-        scratch,
-    ));
-    write_words(cosines);
-    write_words(sines);
-    write_digest_64(scratch);
+fn write_buffers(first: &[i32], second: &[i32], scratch: &[i64]) {
+    write_words(first);
+    write_words(second);
+    write_scratch(scratch);
     io::write_all(STDOUT_FILENO, b"\n");
 }
 
-fn run_spectrum(a: &[i32], case: Case) {
-    let mut cosines = row(70);
-    let mut sines = row(80);
-    let mut scratch = scratch_words();
-    let lent = at_most(a.len(), case.a);
-    let first = at_most(1040, case.first);
-    let second = at_most(1040, case.second);
-    let words = at_most(8260, case.scratch);
-    write_spectrum(
-        &a[..lent],
-        case,
-        &mut cosines[..first],
-        &mut sines[..second],
-        &mut scratch[..words],
-    );
-}
-
-fn write_cosine(a: &[i32], case: Case, coefficients: &mut [i32], scratch: &mut [i64]) {
-    io::write_all(STDOUT_FILENO, b"cosine");
-    write_answer(cosine(
-        a,
-        case.start,
-        case.length,
-        case.allowance,
-        coefficients,
-        scratch,
-    ));
-    write_words(coefficients);
-    write_digest_64(scratch);
-    io::write_all(STDOUT_FILENO, b"\n");
-}
-
-fn run_cosine(a: &[i32], case: Case) {
-    let mut coefficients = row(70);
-    let mut scratch = scratch_words();
-    let lent = at_most(a.len(), case.a);
-    let first = at_most(1040, case.first);
-    let words = at_most(8260, case.scratch);
-    write_cosine(
-        &a[..lent],
-        case,
-        &mut coefficients[..first],
-        &mut scratch[..words],
-    );
-}
-
-fn write_pair(
+// Cosine has one result, so nothing of the second is written.
+fn write_call(
+    call: Call,
     a: &[i32],
     b: &[i32],
     case: Case,
-    reals: &mut [i32],
-    imaginaries: &mut [i32],
+    first: &mut [i32],
+    second: &mut [i32],
     scratch: &mut [i64],
 ) {
-    io::write_all(STDOUT_FILENO, b"pair");
-    write_answer(pair(
-        a,
-        b,
-        case.start,
-        case.length,
-        case.allowance,
-        reals,
-        imaginaries,
-        scratch,
-    ));
-    write_words(reals);
-    write_words(imaginaries);
-    write_digest_64(scratch);
-    io::write_all(STDOUT_FILENO, b"\n");
+    let start = case.start;
+    let length = case.length;
+    let allowance = case.allowance;
+    match call {
+        Call::Spectrum => {
+            io::write_all(STDOUT_FILENO, b"spectrum");
+            write_answer(spectrum(a, start, length, allowance, first, second, scratch));
+            write_buffers(first, second, scratch);
+        }
+        Call::Cosine => {
+            io::write_all(STDOUT_FILENO, b"cosine");
+            write_answer(cosine(a, start, length, allowance, first, scratch));
+            write_buffers(first, &second[0..0], scratch);
+        }
+        Call::Pair => {
+            io::write_all(STDOUT_FILENO, b"pair");
+            write_answer(pair(a, b, start, length, allowance, first, second, scratch));
+            write_buffers(first, second, scratch);
+        }
+    }
 }
 
-fn run_pair(a: &[i32], b: &[i32], case: Case) {
-    let mut reals = row(70);
-    let mut imaginaries = row(80);
+fn run_call(call: Call, a: &[i32], b: &[i32], case: Case)
+    requires { ⌜ (case .first ≤ 1040) × (case .second ≤ 1040) × (case .scratch ≤ 8260) ⌝ }
+{
+    let mut firsts = row(70);
+    let mut seconds = row(80);
     let mut scratch = scratch_words();
-    let lent_a = at_most(a.len(), case.a);
-    let lent_b = at_most(b.len(), case.b);
-    let first = at_most(1040, case.first);
-    let second = at_most(1040, case.second);
-    let words = at_most(8260, case.scratch);
-    write_pair(
-        &a[..lent_a],
-        &b[..lent_b],
+    let first = case.first;
+    let second = case.second;
+    let words = case.scratch;
+    write_call(
+        call,
+        a,
+        b,
         case,
-        &mut reals[..first],
-        &mut imaginaries[..second],
-        &mut scratch[..words],
+        &mut firsts[0..first],
+        &mut seconds[0..second],
+        &mut scratch[0..words],
     );
 }
 
-fn run_calls(a: &[i32], b: &[i32], case: Case) {
-    run_spectrum(a, case);
-    run_cosine(a, case);
-    run_pair(a, b, case);
+fn run_calls(a: &[i32], b: &[i32], case: Case)
+    requires { ⌜ (case .first ≤ 1040) × (case .second ≤ 1040) × (case .scratch ≤ 8260) ⌝ }
+{
+    run_call(Call::Spectrum, a, b, case);
+    run_call(Call::Cosine, a, b, case);
+    run_call(Call::Pair, a, b, case);
 }
 
 fn run_query(length: usize) {
@@ -335,15 +245,19 @@ fn run_query(length: usize) {
     io::write_all(STDOUT_FILENO, b"\n");
 }
 
+fn at_most(most: usize, n: usize) -> usize
+    ensures { λ r. ⌜ r ≤ most ⌝ }
+{
+    if n < most { n } else { most }
+}
+
 // All three calls, with words to spare in every buffer.
 fn run_roomy(a: &[i32], b: &[i32], start: usize, length: usize, allowance: u64) {
     let room = at_most(1024, length);
     let case = Case {
-        start: start,
-        length: length,
-        allowance: allowance,
-        a: a.len(),
-        b: b.len(),
+        start,
+        length,
+        allowance,
         first: room + 2,
         second: room + 3,
         scratch: 8 * room + 66,
@@ -353,91 +267,49 @@ fn run_roomy(a: &[i32], b: &[i32], start: usize, length: usize, allowance: u64) 
 
 // ---- every length of every kind of block, from start 3
 
-fn run_kind(kind: u64) {
-    let mut a = row(0);
-    let mut b = row(0);
-    fill(&mut a, kind, 1);
-    fill(&mut b, 5 - kind % 6, 2);
-    let mut level: u32 = 0;
-    while level <= 10 {
-        run_roomy(&a, &b, 3, 1 << level, 20000);
-        level += 1;
-    }
-}
-
-fn run_kinds() {
-    let mut kind: u64 = 0;
-    while kind < 6 {
-        run_kind(kind);
-        kind += 1;
-    }
+fn run_kind(kind: usize, level: usize)
+    requires { ⌜ (kind ≤ 5) × (level ≤ 10) ⌝ }
+{
+    let a = recording(kind, 1);
+    let b = recording(5 - kind, 2);
+    run_roomy(&a, &b, 3, 1 << level, 20000);
 }
 
 // ---- every pair of refusals that can hold together, at 8 samples from start 2. The samples before the block are out of range
 
-// The first number if the condition is among two, or else the second.
-fn among(condition: usize, i: usize, j: usize, yes: usize, no: usize) -> usize {
-    if i == condition {
-        return yes;
-    }
-    if j == condition {
-        return yes;
-    }
-    no
-}
-
-fn sample_among(condition: usize, i: usize, j: usize, yes: i32, no: i32) -> i32 {
-    if among(condition, i, j, 1, 0) == 1 {
-        yes
+// The first number, or the second if the condition is among two.
+fn pick(condition: usize, i: usize, j: usize, good: usize, bad: usize) -> usize
+    requires { ⌜ bad ≤ good ⌝ }
+    ensures { λ r. ⌜ r ≤ good ⌝ }
+{
+    if i == condition || j == condition {
+        bad
     } else {
-        no
-    }
-}
-
-fn put_from(words: &mut [i32], start: usize, value: i32) {
-    let mut i = start;
-    while i < words.len() {
-        words[i] = value;
-        i += 1;
+        good
     }
 }
 
 // 1: the length; 2, 3: recording a, b; 4, 5: the first, the second result; 6: scratch; 7: the allowance; 8, 9: a sample of a, of b;
-// 0: none.
+// 0: none. Each pair runs once.
 fn run_refusals(i: usize, j: usize) {
-    let mut a = [2000000i32; 10];
-    let mut b = [-2000000i32; 10];
-    put_from(&mut a, 2, 5);
-    put_from(&mut b, 2, 6);
-    a[4] = sample_among(8, i, j, 1000005, 5);
-    b[3] = sample_among(9, i, j, -1000001, 6);
+    if i > j {
+        return;
+    }
+    let x = if i == 8 || j == 8 { 1000005 } else { 5 };
+    let y = if i == 9 || j == 9 { -1000001 } else { 6 };
+    let a = [2000000, 2000000, 5, 5, x, 5, 5, 5, 5, 5];
+    let b = [-2000000, -2000000, 6, y, 6, 6, 6, 6, 6, 6];
+    let lent_a = pick(2, i, j, 10, 7);
+    let lent_b = pick(3, i, j, 10, 7);
     let case = Case {
         start: 2,
-        length: among(1, i, j, 6, 8),
-        allowance: among(7, i, j, 1, 100) as u64,
-        a: among(2, i, j, 7, 10),
-        b: among(3, i, j, 7, 10),
-        first: among(4, i, j, 3, 8),
-        second: among(5, i, j, 3, 8),
-        scratch: among(6, i, j, 103, 128),
+        length: pick(1, i, j, 8, 6),
+        allowance: pick(7, i, j, 100, 1) as u64,
+        first: pick(4, i, j, 8, 3),
+        second: pick(5, i, j, 8, 3),
+        scratch: pick(6, i, j, 128, 103),
     };
-    run_calls(&a, &b, case);
-}
-
-fn run_refusals_with(i: usize) {
-    let mut j = i;
-    while j < 10 {
-        run_refusals(i, j);
-        j += 1;
-    }
-}
-
-fn run_pairs_of_refusals() {
-    let mut i: usize = 0;
-    while i < 10 {
-        run_refusals_with(i);
-        i += 1;
-    }
+    run_calls(&a[0..lent_a], &b[0..lent_b], case);
 }
 
 // ---- document 01's blocks to try, and blocks with a tie
@@ -458,10 +330,8 @@ fn run_blocks_to_try() {
     run_small(-13726, 0, -11996, 0, 4);
     run_small(-11996, 0, 13726, 0, 4);
     run_small(11996, 0, -13726, 0, 4);
-    let mut a = [0i32; 16];
-    let mut b = [0i32; 16];
-    fill(&mut a, 3, 1);
-    fill(&mut b, 5, 2);
+    let mut a = recording(3, 1);
+    let b = recording(5, 2);
     run_roomy(&a, &b, 4, 8, 12);
     run_roomy(&a, &b, 4, 8, 11);
     run_roomy(&a, &b, 3, 8, 20000);
@@ -478,44 +348,52 @@ fn run_starts(length: usize) {
     run_roomy(&a, &b, 7, length, 20000);
     run_roomy(&a, &b, 8, length, 0);
     run_roomy(&a, &b, 18446744073709551615, length, 20000);
-    run_roomy(&a[..0], &b, 0, length, 20000);
+    run_roomy(&a[0..0], &b, 0, length, 20000);
     run_query(length);
-}
-
-fn run_lengths() {
-    let mut length: usize = 0;
-    while length < 10 {
-        run_starts(length);
-        length += 1;
-    }
-    run_starts(1024);
-    run_starts(2048);
-    run_starts(18446744073709551615);
 }
 
 // A length, and the lengths below it and above it.
 fn run_queries_near(length: usize) {
-    if length > 0 {
-        run_query(length - 1);
-    }
-    run_query(length);
-    if length < 10000 {
-        run_query(length + 1);
+    let near = at_most(4096, length);
+    if near > 0 {
+        run_query(near - 1);
+        run_query(near);
+        run_query(near + 1);
     }
 }
 
-fn run_queries() {
-    let mut level: u32 = 0;
-    while level <= 12 {
-        run_queries_near(1 << level);
-        level += 1;
+// ---- all of them, part by part and turn by turn
+
+enum Part {
+    Kinds,
+    Refusals,
+    Starts,
+    Queries,
+}
+
+// A kind and one of 11 lengths; two refusals; a length; a power of 2 up to 4096.
+fn run_turn(part: Part, n: usize) {
+    match part {
+        Part::Kinds => run_kind(n / 11 % 6, n % 11),
+        Part::Refusals => run_refusals(n / 10, n % 10),
+        Part::Starts => run_starts(n),
+        Part::Queries => run_queries_near(1 << (n % 13)),
+    }
+}
+
+fn run_part(part: Part, turns: usize) {
+    for n in 0..turns {
+        run_turn(part, n);
     }
 }
 
 fn main() {
-    run_kinds();
-    run_pairs_of_refusals();
+    run_part(Part::Kinds, 66);
+    run_part(Part::Refusals, 100);
     run_blocks_to_try();
-    run_lengths();
-    run_queries();
+    run_part(Part::Starts, 10);
+    run_starts(1024);
+    run_starts(2048);
+    run_starts(18446744073709551615);
+    run_part(Part::Queries, 13);
 }

@@ -29,7 +29,8 @@ fn put_number(n: u64, page: &mut [u8], at: usize) -> usize
     put(&digits[..count], page, at)
 }
 
-fn magnitude(x: i32) -> u64
+// The size of a number, without its sign.
+pub fn magnitude(x: i32) -> u64
     ensures { λ r. ⌜ r ≡ natAbs x ⌝ }
 {
     if x < 0 { (!x) as u64 + 1 } else { x as u64 }
