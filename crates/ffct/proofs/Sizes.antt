@@ -13,7 +13,7 @@ use mir.Syntax.{w64}
 use mir.Val.{SFits}
 use Rattle.whole.proofs.Cases.{le-or-lt, both, below, below-at}
 use Rattle.whole.proofs.Difference.{int, parts, diff}
-use Rattle.whole.proofs.Size.{near, _within_, size-within, within-size, within-neg, within-le}
+use Rattle.whole.proofs.Size.{near, _within_, size-within, within-neg, within-le}
 use Rattle.whole.proofs.Size.{within-add, within-sub, within-mul, within-fits}
 use Rattle.whole.proofs.Words.{Word}
 use Rattle.whole.proofs.Operations.{Computes, computes}
