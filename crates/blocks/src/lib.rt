@@ -14,13 +14,16 @@ use transforms::sine_dft;
 ghost use mathlib.Core.Path.{_≡_};
 ghost use Prim.Native.Nat.{_+_, _/_, _≤_};
 ghost use lib.ListN.{length};
+ghost use Rattle.words.specs.Words.{word};
+ghost use Rattle.ffct.specs.Block.{level};
+ghost use Rattle.ffct.specs.Transforms.{dct as dctOf, spectrum as spectrumOf, pair as pairOf};
 ghost use Rattle.circle.specs.Circle.{IsQuarterWave};
 ghost use Rattle.blocks.specs.Blocks.{Workable, DftsReady, DftsMade, SpectrumMade, CosineMade, PairMade};
 
 // The cosine-DFT of a block at `at` and its sine-DFT behind it.
 fn both_dfts(wave: &[i32; 1025], block: &[i32], w: &mut [i64], at: usize, spent: Tally) -> Tally
-    requires { ⌜ IsQuarterWave (now wave) × DftsReady (now block) at (now w) spent ⌝ }
-    ensures { λ r. ⌜ DftsMade (now (block .entry)) at (now (w .entry)) (now (w .exit)) spent r ⌝ }
+    requires { ⌜ IsQuarterWave (now wave) × DftsReady (length (now block)) (word (now block)) at (now w) spent ⌝ }
+    ensures { λ r. ⌜ DftsMade (length (now (block .entry))) (word (now (block .entry))) at (now (w .entry)) (now (w .exit)) spent r ⌝ }
 {
     let n = block.len();
     load_pairs(block, w);
@@ -31,7 +34,9 @@ fn both_dfts(wave: &[i32; 1025], block: &[i32], w: &mut [i64], at: usize, spent:
 pub fn spectrum_of(block: &[i32], cosine: &mut [i32], sine: &mut [i32], w: &mut [i64]) -> Tally
     requires { ⌜ Workable (now block) (now w)
         × (length (now block) / 2 + 1 ≤ length (now cosine)) × (length (now block) / 2 + 1 ≤ length (now sine)) ⌝ }
-    ensures { λ r. ⌜ SpectrumMade (now (block .entry)) (now (cosine .entry)) (now (sine .entry)) (now (w .entry))
+    ensures { λ r.
+        let n = length (now (block .entry)) in
+        ⌜ SpectrumMade n (spectrumOf (level n) (word (now (block .entry)))) (now (cosine .entry)) (now (sine .entry)) (now (w .entry))
         (now (cosine .exit)) (now (sine .exit)) (now (w .exit)) r ⌝ }
 {
     let n = block.len();
@@ -41,16 +46,17 @@ pub fn spectrum_of(block: &[i32], cosine: &mut [i32], sine: &mut [i32], w: &mut 
         sums: 0,
     };
     let spent = both_dfts(&wave, block, w, n, none);
-    store(&w[n..], cosine, n / 2 + 1);
-    let behind = n + n / 2 + 1;
-    store(&w[behind..], sine, n / 2 + 1);
+    store(w, n, cosine, n / 2 + 1);
+    store(w, n + n / 2 + 1, sine, n / 2 + 1);
     clear(w);
     spent
 }
 
 pub fn cosine_of(block: &[i32], coefficients: &mut [i32], w: &mut [i64]) -> Tally
     requires { ⌜ Workable (now block) (now w) × (length (now block) ≤ length (now coefficients)) ⌝ }
-    ensures { λ r. ⌜ CosineMade (now (block .entry)) (now (coefficients .entry)) (now (w .entry))
+    ensures { λ r.
+        let n = length (now (block .entry)) in
+        ⌜ CosineMade n (dctOf (level n) (word (now (block .entry)))) (now (coefficients .entry)) (now (w .entry))
         (now (coefficients .exit)) (now (w .exit)) r ⌝ }
 {
     let n = block.len();
@@ -61,7 +67,7 @@ pub fn cosine_of(block: &[i32], coefficients: &mut [i32], w: &mut [i64]) -> Tall
     };
     load(block, w);
     let spent = dct(&wave, w, n, none);
-    store(w, coefficients, n);
+    store(w, 0, coefficients, n);
     clear(w);
     spent
 }
@@ -74,10 +80,12 @@ pub fn pair_of(
     imaginary: &mut [i32],
     w: &mut [i64],
 ) -> Tally
-    requires { ⌜ Workable (now a) (now w) × Workable (now b) (now w) × (length (now b) ≡ length (now a)) ⌝ }
-    requires { ⌜ (length (now a) ≤ length (now real)) × (length (now a) ≤ length (now imaginary)) ⌝ }
-    ensures { λ r. ⌜ PairMade (now (a .entry)) (now (b .entry)) (now (real .entry)) (now (imaginary .entry)) (now (w .entry))
-        (now (real .exit)) (now (imaginary .exit)) (now (w .exit)) r ⌝ }
+    requires { ⌜ Workable (now a) (now w) × Workable (now b) (now w) × (length (now b) ≡ length (now a))
+        × (length (now a) ≤ length (now real)) × (length (now a) ≤ length (now imaginary)) ⌝ }
+    ensures { λ r.
+        let n = length (now (a .entry)) in
+        ⌜ PairMade n (pairOf (level n) (word (now (a .entry))) (word (now (b .entry)))) (now (real .entry)) (now (imaginary .entry))
+        (now (w .entry)) (now (real .exit)) (now (imaginary .exit)) (now (w .exit)) r ⌝ }
 {
     let n = a.len();
     let wave = quarter_wave();
@@ -87,7 +95,7 @@ pub fn pair_of(
     };
     let of_a = both_dfts(&wave, a, w, n, none);
     let of_b = both_dfts(&wave, b, w, n + 2 * (n / 2 + 1), of_a);
-    let spent = join_parts(&w[n..], real, imaginary, n, of_b);
+    let spent = join_parts(w, n, real, imaginary, n, of_b);
     clear(w);
     spent
 }

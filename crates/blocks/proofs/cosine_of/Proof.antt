@@ -1,14 +1,14 @@
 -- `blocks::cosine_of` meets its contract: the DCT of the block loaded in its order. Assumes nothing.
 use mathlib.Core.Path.{refl}
 use native.Mathlib.Omega.{arith}
-use borrow.Author.Needs.{needs}
 use lib.ListN.{length}
+use borrow.Author.Needs.{needs}
 use Rattle.words.specs.Words.{word}
 use Rattle.words.proofs.Writing.{written-same}
 use Rattle.ffct.specs.Block.{level}
 use Rattle.ffct.specs.Transforms.{dct}
 use Rattle.transforms.specs.Steps.{Gives}
-use Rattle.blocks.proofs.BlockRuns.{few, dct-ready, dct-made, dct-small, front-word, cleared}
+use Rattle.blocks.proofs.BlockRuns.{few, dct-ready, dct-made, dct-small, cleared}
 use Rattle.blocks.proofs.cosine_of.Statement.{statement}
 use Rattle.blocks.proofs.cosine_of.Tie as tie
 
@@ -37,17 +37,16 @@ store-requires c κs =
     let d = c .before .before .before in
     let s = d .before .before .before .before .before .before .before in
     let g = made d in
-    ((omega (arith, s .pre .0 .room, g .len), s .pre .1), λ k h. rw (front-word g k h) (dct-small (s .pre .0 .block-ok) k h))
+    ((omega (arith, s .pre .0 .room, g .len), s .pre .1), λ k h. rw (g .coefficients k h) (dct-small (s .pre .0 .block-ok) k h))
 
 returns : tie.Need-returns
 returns c =
     let d = c .before .before .before .before .before .before .before .before in
     let g = made d in
     record {
-      words = written-same (c .before .before .before .before .store .ensures) refl (front-word g);
+      words = written-same (c .before .before .before .before .store .ensures) refl (g .coefficients);
       cleared = cleared (g .len) (c .before .clear .ensures);
-      products = omega (arith, g .tallied);
-      sums = omega (arith, g .tallied);
+      tallied = omega (arith, g .tallied);
     }
 
 pub cosine-of-spec : {M : Type 1} → statement M

@@ -1,34 +1,43 @@
 -- `blocks::buffers::store_ends` meets its contract. Assumes nothing.
-use Prim.Native.Nat.{_/_}
+use mathlib.Core.Path.{_≡_, ap, _∙_}
+use Prim.Native.Nat.{_+_, _/_, _≤_}
 use native.Mathlib.Omega.{arith}
+use lib.IntN.{natAbs}
 use lib.ListN.{length-set}
 use borrow.Author.Needs.{needs}
 use Rattle.words.specs.Words.{word}
+use Rattle.ffct.specs.Block.{largestSum}
 use Rattle.blocks.proofs.Casting.{coefficient-narrows, coefficient-narrowed}
 use Rattle.blocks.proofs.Parts.{ends-put}
 use Rattle.blocks.proofs.buffers.store_ends.Statement.{statement}
 use Rattle.blocks.proofs.buffers.store_ends.Tie as tie
 
-cast-x : tie.Need-cast-x
-cast-x c = coefficient-narrows (word (c .before .args .w .now) 0) (c .before .pre .1 0 (omega arith))
+-- coefficient 0 stands at `at`
+zeroth : (c : tie.Start) → word (c .args .w .now) (c .args .at) ≡ word (c .args .w .now) (c .args .at + 0)
+zeroth c = ap (word (c .args .w .now)) (omega arith)
+
+small : (c : tie.Start) → natAbs (word (c .args .w .now) (c .args .at)) ≤ largestSum + 257
+small c = rw (zeroth c) (c .pre .1 0 (omega arith))
 
 cast-y : tie.Need-cast-y
 cast-y c =
     let s = c .before .before in
-    coefficient-narrows (word (s .args .w .now) (s .args .n / 2)) (s .pre .1 (s .args .n / 2) (omega arith))
+    coefficient-narrows (word (s .args .w .now) (s .args .at + s .args .n / 2)) (s .pre .1 (s .args .n / 2) (omega arith))
 
 returns : tie.Need-returns
 returns c =
     let s = c .before .before in
-    ends-put (s .pre .0 .1) (coefficient-narrowed _ (s .pre .1 0 (omega arith)))
+    ends-put (s .pre .0 .1) (coefficient-narrowed _ (small s) ∙ zeroth s)
     (coefficient-narrowed _ (s .pre .1 (s .args .n / 2) (omega arith)))
 
 pub store-ends-spec : {M : Type 1} → statement M
 store-ends-spec =
     tie.close
     (tie.spec
+    (λ c. search needs)  -- mul-x
     (λ c. search needs)  -- shared-slice-copy-out-x
-    cast-x
+    (λ c. coefficient-narrows (word (c .before .args .w .now) (c .before .args .at)) (small (c .before)))  -- cast-x
+    (λ c. search needs)  -- add-y
     (λ c. search needs)  -- mul-y
     (λ c. search needs)  -- shared-slice-copy-out-y
     cast-y
