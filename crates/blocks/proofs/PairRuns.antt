@@ -41,49 +41,49 @@ joinable {n} {x} {y} okX okY c s = record {
 pub a-ready : {n : ℕ} {x : Samples} {w : List ℤ} → InRange n x → 4 * n + 64 ≤ length w → DftsReady n x n w none
 a-ready ok room = dfts-ready ok (omega arith) (omega arith) (omega arith)
 
-module _ {n : ℕ} {x y : Samples} {w : List ℤ} (okX : InRange n x) (okY : InRange n y) (room : 4 * n + 64 ≤ length w) where
-  module _ {w₁ : List ℤ} {t₁ : Tally} (A : DftsMade n x n w w₁ none t₁) where
-    pub b-ready : DftsReady n y (n + 2 * (n / 2 + 1)) w₁ t₁
-    b-ready = dfts-ready okY (omega arith) (omega (arith, A .len)) (omega (arith, A .tallied, spectrum-few okX))
+module _ {n : ℕ} {x y : Samples} {w w₁ : List ℤ} {t₁ : Tally} (okX : InRange n x) (okY : InRange n y) (room : 4 * n + 64 ≤ length w)
+    (A : DftsMade n x n w w₁ none t₁) where
+  pub b-ready : DftsReady n y (n + 2 * (n / 2 + 1)) w₁ t₁
+  b-ready = dfts-ready okY (omega arith) (omega (arith, A .len)) (omega (arith, A .tallied, spectrum-few okX))
 
-    module _ {w₂ : List ℤ} {t₂ : Tally} (B : DftsMade n y (n + 2 * (n / 2 + 1)) w₁ w₂ t₁ t₂) where
-      cosine-a : (k : ℕ) → k < n / 2 + 1 → cosineOfA n n w₂ k ≡ spectrum (level n) x .cosine k
-      cosine-a k h = B .between (n + k) (omega arith) (omega arith) ∙ A .cosineWords k h
+  module _ {w₂ : List ℤ} {t₂ : Tally} (B : DftsMade n y (n + 2 * (n / 2 + 1)) w₁ w₂ t₁ t₂) where
+    cosine-a : (k : ℕ) → k < n / 2 + 1 → cosineOfA n n w₂ k ≡ spectrum (level n) x .cosine k
+    cosine-a k h = B .between (n + k) (omega arith) (omega arith) ∙ A .cosineWords k h
 
-      sine-a : (k : ℕ) → k < n / 2 + 1 → sineOfA n n w₂ k ≡ spectrum (level n) x .sine k
-      sine-a k h = B .between (n + n / 2 + 1 + k) (omega arith) (omega arith) ∙ A .sineWords k h
+    sine-a : (k : ℕ) → k < n / 2 + 1 → sineOfA n n w₂ k ≡ spectrum (level n) x .sine k
+    sine-a k h = B .between (n + n / 2 + 1 + k) (omega arith) (omega arith) ∙ A .sineWords k h
 
-      pub parts-ready : {real imaginary : List ℤ} → (n ≤ length real) × (n ≤ length imaginary) → PartsReady n n w₂ real imaginary t₂
-      parts-ready f =
-          let ok = okX .length-ok in
-          record {
-            some = length-pos n ok;
-            whole = λ h. omega (arith, half n ok (omega (arith, length-pos n ok)) .twice);
-            fits = omega (arith, A .len, B .len);
-            real-fits = f .0;
-            imaginary-fits = f .1;
-            ofReal = joinable okX okY cosine-a (B .sineWords);
-            ofImaginary = joinable okY okX (B .cosineWords) sine-a;
-            room = omega (arith, A .tallied, B .tallied, spectrum-few okX, spectrum-few okY, length-le n ok);
-          }
+    pub parts-ready : {real imaginary : List ℤ} → (n ≤ length real) × (n ≤ length imaginary) → PartsReady n n w₂ real imaginary t₂
+    parts-ready f =
+        let ok = okX .length-ok in
+        record {
+          some = length-pos n ok;
+          whole = λ h. omega (arith, half n ok (omega (arith, length-pos n ok)) .twice);
+          fits = omega (arith, A .len, B .len);
+          real-fits = f .0;
+          imaginary-fits = f .1;
+          ofReal = joinable okX okY cosine-a (B .sineWords);
+          ofImaginary = joinable okY okX (B .cosineWords) sine-a;
+          room = omega (arith, A .tallied, B .tallied, spectrum-few okX, spectrum-few okY, length-le n ok);
+        }
 
-      pub pair-made : {real imaginary real′ imaginary′ w′ : List ℤ} {t₃ : Tally} → PartsPut n n w₂ real imaginary real′ imaginary′ t₂ t₃ →
-          Cleared w₂ w′ →
-          PairMade n (pair (level n) x y) real imaginary w real′ imaginary′ w′ t₃
-      unfolding pair
-      pair-made p c =
-          let power : n ≡ 2 ^ level n = is-power n (okX .length-ok) in
-          record {
-            realWords = written-same (p .realWords) refl (joined _+ℤ_ power cosine-a (B .sineWords));
-            imaginaryWords = written-same (p .imaginaryWords) refl (joined _-ℤ_ power (B .cosineWords) sine-a);
-            cleared = cleared (B .len ∙ A .len) c;
-            tallied = omega (arith, A .tallied, B .tallied, p .tallied, power);
-          }
-        where
-          joined : (op : ℤ → ℤ → ℤ) → n ≡ 2 ^ level n → {C S C′ S′ : ℕ → ℤ} → ((j : ℕ) → j < n / 2 + 1 → C j ≡ C′ j) →
-              ((j : ℕ) → j < n / 2 + 1 → S j ≡ S′ j) → (k : ℕ) → k < n →
-              op (cosineBeyond n C k) (sineBeyond n S k) ≡ op (cosineBeyond (2 ^ level n) C′ k) (sineBeyond (2 ^ level n) S′ k)
-          joined op power {C} {S} {C′} {S′} c s k h =
-              ap₂ op (cosine-beyond-same n C C′ k (omega arith) (λ j l. c j (omega arith)))
-              (sine-beyond-same n S S′ k (omega arith) (λ j l. s j (omega arith)))
-              ∙ ap (λ N. op (cosineBeyond N C′ k) (sineBeyond N S′ k)) power
+    pub pair-made : {real imaginary real′ imaginary′ w′ : List ℤ} {t₃ : Tally} → PartsPut n n w₂ real imaginary real′ imaginary′ t₂ t₃ →
+        Cleared w₂ w′ →
+        PairMade n (pair (level n) x y) real imaginary w real′ imaginary′ w′ t₃
+    unfolding pair
+    pair-made p c =
+        let power : n ≡ 2 ^ level n = is-power n (okX .length-ok) in
+        record {
+          realWords = written-same (p .realWords) refl (joined _+ℤ_ power cosine-a (B .sineWords));
+          imaginaryWords = written-same (p .imaginaryWords) refl (joined _-ℤ_ power (B .cosineWords) sine-a);
+          cleared = cleared (B .len ∙ A .len) c;
+          tallied = omega (arith, A .tallied, B .tallied, p .tallied, power);
+        }
+      where
+        joined : (op : ℤ → ℤ → ℤ) → n ≡ 2 ^ level n → {C S C′ S′ : ℕ → ℤ} → ((j : ℕ) → j < n / 2 + 1 → C j ≡ C′ j) →
+            ((j : ℕ) → j < n / 2 + 1 → S j ≡ S′ j) → (k : ℕ) → k < n →
+            op (cosineBeyond n C k) (sineBeyond n S k) ≡ op (cosineBeyond (2 ^ level n) C′ k) (sineBeyond (2 ^ level n) S′ k)
+        joined op power {C} {S} {C′} {S′} c s k h =
+            ap₂ op (cosine-beyond-same n C C′ k (omega arith) (λ j l. c j (omega arith)))
+            (sine-beyond-same n S S′ k (omega arith) (λ j l. s j (omega arith)))
+            ∙ ap (λ N. op (cosineBeyond N C′ k) (sineBeyond N S′ k)) power

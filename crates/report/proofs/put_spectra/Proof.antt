@@ -1,18 +1,22 @@
 -- `report::put_spectra` meets its contract: when the loop comes to a block, the lines of the blocks before it are put behind the heading.
 -- Assumes nothing.
 use mathlib.Core.Path.{_≡_}
-use Prim.Native.Nat.{_+_, _-_, _/_, _≤_}
+use Prim.Native.Nat.{_+_, _-_, _*_, _/_, _≤_}
 use native.Mathlib.Nat.{div-le-self}
 use native.Mathlib.Omega.{arith}
 use borrow.Author.Needs.{needs}
+use Rattle.words.specs.Words.{word}
 use Rattle.text.proofs.Putting.{_then_}
-use Rattle.report.proofs.Printing.{some-samples, whole-blocks, next-block, printable-block, Blocks, no-blocks, one-more}
+use Rattle.report.specs.Output.{blockLines}
+use Rattle.report.specs.Puts.{PutFrom}
+use Rattle.report.proofs.Printing.{some-samples, whole-blocks, next-block, printable-block, no-blocks, one-more}
 use Rattle.report.proofs.put_spectra.Statement.{statement}
 use Rattle.report.proofs.put_spectra.Tie as tie
 
 abbrev Inv-loop : tie.InvT-loop
 Inv-loop a b m n real₀ imaginary₀ scratch₀ page₀ count at₀ block₀ real imaginary scratch page at block =
-    (block ≤ count) × (count ≤ 4096) × Blocks n a b block at₀ page₀ at page real₀ imaginary₀ scratch₀ real imaginary scratch
+    (block ≤ count) × (count ≤ 4096)
+    × PutFrom page₀ at₀ (blockLines n (word a) (word b) block) (34 * (block * n)) at page real₀ imaginary₀ scratch₀ real imaginary scratch
 
 abbrev μ-loop : tie.MeasureT-loop
 μ-loop a b m n real₀ imaginary₀ scratch₀ page₀ count at₀ block₀ real imaginary scratch page at block = count - block

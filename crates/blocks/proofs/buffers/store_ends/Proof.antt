@@ -1,6 +1,6 @@
 -- `blocks::buffers::store_ends` meets its contract. Assumes nothing.
-use mathlib.Core.Path.{_≡_, ap, _∙_}
 use Prim.Native.Nat.{_+_, _/_, _≤_}
+use native.Mathlib.Nat.{add-zero}
 use native.Mathlib.Omega.{arith}
 use lib.IntN.{natAbs}
 use lib.ListN.{length-set}
@@ -12,12 +12,8 @@ use Rattle.blocks.proofs.Parts.{ends-put}
 use Rattle.blocks.proofs.buffers.store_ends.Statement.{statement}
 use Rattle.blocks.proofs.buffers.store_ends.Tie as tie
 
--- coefficient 0 stands at `at`
-zeroth : (c : tie.Start) → word (c .args .w .now) (c .args .at) ≡ word (c .args .w .now) (c .args .at + 0)
-zeroth c = ap (word (c .args .w .now)) (omega arith)
-
 small : (c : tie.Start) → natAbs (word (c .args .w .now) (c .args .at)) ≤ largestSum + 257
-small c = rw (zeroth c) (c .pre .1 0 (omega arith))
+small c = rw add-zero at (c .pre .1 0 (omega arith))
 
 cast-y : tie.Need-cast-y
 cast-y c =
@@ -27,7 +23,7 @@ cast-y c =
 returns : tie.Need-returns
 returns c =
     let s = c .before .before in
-    ends-put (s .pre .0 .1) (coefficient-narrowed _ (small s) ∙ zeroth s)
+    ends-put (s .pre .0 .1) (rw add-zero (coefficient-narrowed _ (small s)))
     (coefficient-narrowed _ (s .pre .1 (s .args .n / 2) (omega arith)))
 
 pub store-ends-spec : {M : Type 1} → statement M
