@@ -21,6 +21,13 @@ wordsFrom w at k = word w (at + k)
 unfoldable pub inPairs : ℕ → Samples → Samples
 inPairs n x p = cond (eqb (p % 2) 0) (x (p / 2)) (x (n - 1 - p / 2))
 
+-- u put at place i of a buffer, and v at place j
+pub record TwoPut (i j : ℕ) (u v : ℤ) (before after : List ℤ) : Type 0 where
+  pub first : word after i ≡ u
+  pub second : word after j ≡ v
+  pub others : (k : ℕ) → (k ≡ i → ⊥) → (k ≡ j → ⊥) → word after k ≡ word before k
+  pub len : length after ≡ length before
+
 -- words c and s of w: their sum put at place i of a buffer, and their difference at place j
 pub record SumReady (w : List ℤ) (c s i j : ℕ) (out : List ℤ) (spent : Tally) : Type 0 where
   pub fits : (c < length w) × (s < length w) × (i < length out) × (j < length out)
@@ -30,18 +37,8 @@ pub record SumReady (w : List ℤ) (c s i j : ℕ) (out : List ℤ) (spent : Tal
   pub room : HasRoom 0 2 spent
 
 pub record SumPut (w : List ℤ) (c s i j : ℕ) (before after : List ℤ) (spent total : Tally) : Type 0 where
-  pub sum : word after i ≡ word w c +ℤ word w s
-  pub difference : word after j ≡ word w c -ℤ word w s
-  pub others : (k : ℕ) → (k ≡ i → ⊥) → (k ≡ j → ⊥) → word after k ≡ word before k
-  pub len : length after ≡ length before
+  pub both : TwoPut i j (word w c +ℤ word w s) (word w c -ℤ word w s) before after
   pub tallied : Tallied 0 2 spent total
-
--- coefficients 0 and n/2, put at these places of a buffer
-pub record EndsPut (n : ℕ) (C : ℕ → ℤ) (before after : List ℤ) : Type 0 where
-  pub first : word after 0 ≡ C 0
-  pub half : word after (n / 2) ≡ C (n / 2)
-  pub others : (k : ℕ) → (k ≡ 0 → ⊥) → (k ≡ n / 2 → ⊥) → word after k ≡ word before k
-  pub len : length after ≡ length before
 
 -- ---- the DFTs of two blocks a and b of n samples, n/2 + 1 words each, one behind another from place `at` on: the cosine-DFT of a, its
 -- sine-DFT, the cosine-DFT of b, its sine-DFT

@@ -7,7 +7,7 @@ ghost use lib.IntN.{pos, natAbs};
 ghost use lib.ListN.{length};
 ghost use Rattle.words.specs.Words.{word, Written};
 ghost use Rattle.ffct.specs.Block.{isLength, largestSum};
-ghost use Rattle.blocks.specs.Buffers.{wordsFrom, inPairs, SumReady, SumPut, EndsPut, PartsReady, PartsPut};
+ghost use Rattle.blocks.specs.Buffers.{wordsFrom, inPairs, TwoPut, SumReady, SumPut, PartsReady, PartsPut};
 
 // The block at the front of w.
 pub fn load(block: &[i32], w: &mut [i64])
@@ -91,7 +91,9 @@ fn put_sum_and_difference(
 fn store_ends(w: &[i64], at: usize, out: &mut [i32], n: usize)
     requires { ⌜ (at + n / 2 < length (now w)) × (n / 2 < length (now out)) ⌝ }
     requires { ⌜ ((k : ℕ) → k < n / 2 + 1 → natAbs (wordsFrom (now w) at k) ≤ largestSum + 257) ⌝ }
-    ensures { λ _. ⌜ EndsPut n (wordsFrom (now (w .entry)) at) (now (out .entry)) (now (out .exit)) ⌝ }
+    ensures { λ _.
+        let C = wordsFrom (now (w .entry)) at in
+        ⌜ TwoPut 0 (n / 2) (C 0) (C (n / 2)) (now (out .entry)) (now (out .exit)) ⌝ }
 {
     let x = w[at] as i32;
     let y = w[at + n / 2] as i32;

@@ -9,7 +9,7 @@ use Rattle.words.proofs.Writing.{Ends, ends-none}
 use Rattle.ffct.specs.Transforms.{cosineBeyond, sineBeyond}
 use Rattle.counts.specs.Tally.{Tallied}
 use Rattle.blocks.specs.Buffers.{cosineOfA, sineOfA, cosineOfB, sineOfB}
-use Rattle.blocks.proofs.Parts.{adding, subtracting, part-turn, part-ends, parts-sums}
+use Rattle.blocks.proofs.Parts.{adding, subtracting, part-turn, part-ends, put-turned, parts-sums}
 use Rattle.blocks.proofs.buffers.join_parts.Statement.{statement}
 use Rattle.blocks.proofs.buffers.join_parts.Tie as tie
 
@@ -73,9 +73,8 @@ loop-again c =
     let real = p .put-sum-and-difference .ensures in
     let imaginary = q .put-sum-and-difference2 .ensures in (
       omega (arith, l .loop .inv .0 .2, real .tallied, imaginary .tallied),
-      part-turn adding (s .ofReal) e (l .loop .inv .1) (real .len) (real .others) (real .sum) (real .difference),
-      part-turn subtracting (s .ofImaginary) e (l .loop .inv .2) (imaginary .len) (λ j a b. imaginary .others j b a)
-          (imaginary .difference) (imaginary .sum),
+      part-turn adding (s .ofReal) e (l .loop .inv .1) (real .both),
+      part-turn subtracting (s .ofImaginary) e (l .loop .inv .2) (put-turned (imaginary .both)),
     )
 
 store-ends-requires : tie.Need-store-ends-requires Inv-loop μ-loop

@@ -5,7 +5,7 @@ use lib.ListN.{length-set}
 use borrow.Author.Needs.{needs}
 use Rattle.words.specs.Words.{word}
 use Rattle.blocks.proofs.Casting.{Narrowed, sum-narrowed, difference-narrowed}
-use Rattle.blocks.proofs.Parts.{sum-put}
+use Rattle.blocks.proofs.Parts.{two-put}
 use Rattle.blocks.proofs.buffers.put_sum_and_difference.Statement.{statement}
 use Rattle.blocks.proofs.buffers.put_sum_and_difference.Tie as tie
 
@@ -16,7 +16,12 @@ difference : (c : tie.Start) → Narrowed _-ℤ_ (word (c .args .w .now) (c .arg
 difference c = difference-narrowed (c .pre .c-small) (c .pre .s-small)
 
 returns : tie.Need-returns
-returns c = let s = c .before .before in sum-put (s .pre) (sum s .is) (difference s .is) (omega arith)
+returns c =
+    let s = c .before .before in
+    record {
+      both = two-put (omega arith) (λ same. absurd (s .pre .apart same)) (sum s .is) (difference s .is);
+      tallied = omega arith;
+    }
 
 pub put-sum-and-difference-spec : {M : Type 1} → statement M
 put-sum-and-difference-spec =

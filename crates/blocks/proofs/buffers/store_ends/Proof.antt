@@ -1,4 +1,5 @@
 -- `blocks::buffers::store_ends` meets its contract. Assumes nothing.
+use mathlib.Core.Path.{ap}
 use Prim.Native.Nat.{_+_, _/_, _≤_}
 use native.Mathlib.Nat.{add-zero}
 use native.Mathlib.Omega.{arith}
@@ -7,8 +8,9 @@ use lib.ListN.{length-set}
 use borrow.Author.Needs.{needs}
 use Rattle.words.specs.Words.{word}
 use Rattle.ffct.specs.Block.{largestSum}
+use Rattle.blocks.specs.Buffers.{wordsFrom}
 use Rattle.blocks.proofs.Casting.{coefficient-narrows, coefficient-narrowed}
-use Rattle.blocks.proofs.Parts.{ends-put}
+use Rattle.blocks.proofs.Parts.{two-put}
 use Rattle.blocks.proofs.buffers.store_ends.Statement.{statement}
 use Rattle.blocks.proofs.buffers.store_ends.Tie as tie
 
@@ -23,7 +25,8 @@ cast-y c =
 returns : tie.Need-returns
 returns c =
     let s = c .before .before in
-    ends-put (s .pre .0 .1) (rw add-zero (coefficient-narrowed _ (small s)))
+    let C = wordsFrom (s .args .w .now) (s .args .at) in
+    two-put (omega arith) (ap C) (rw add-zero (coefficient-narrowed _ (small s)))
     (coefficient-narrowed _ (s .pre .1 (s .args .n / 2) (omega arith)))
 
 pub store-ends-spec : {M : Type 1} → statement M
