@@ -2,19 +2,20 @@
 --     ready, ..few, ..small       a block is ready, its counts are few, its coefficients small
 --     dfts-ready                  when both DFTs may be made
 --     cosine-ready .. dfts-made   both DFTs, of the block loaded in pairs
---     dct-ready, dct-made         the DCT, of the block loaded in its order
 --     cleared                     the words cleared in the end
+--     spectrum-made               Spectrum, of both DFTs
+--     dct-ready .. cosine-made    the DCT, of the block loaded in its order
 -- Assumes nothing.
-use mathlib.Core.Path.{_≡_, sym, ap, _∙_, subst}
+use mathlib.Core.Path.{_≡_, refl, sym, ap, _∙_, subst}
 use mathlib.Core.List.{List}
-use Prim.Native.Nat.{ℕ, _+_, _/_, _^_, _≤_, _<_}
+use Prim.Native.Nat.{ℕ, _+_, _*_, _/_, _^_, _≤_, _<_}
 use native.Mathlib.Nat.{mul-le-mul}
 use native.Mathlib.Omega.{arith}
 use lib.IntN.{ℤ, pos, natAbs}
 use lib.ListN.{length}
 use Rattle.whole.proofs.Size.{within-size}
 use Rattle.words.specs.Words.{Samples, word, Written}
-use Rattle.words.proofs.Writing.{front, past}
+use Rattle.words.proofs.Writing.{front, past, written-same}
 use Rattle.ffct.specs.Block.{AcceptedBlock, largestSum, level}
 use Rattle.ffct.specs.Transforms.{cosineDft, sineDft, dct, spectrum}
 use Rattle.ffct.proofs.Blocks.{Same, dft-same, dct-same}
@@ -22,20 +23,24 @@ use Rattle.ffct.proofs.Counts.{FewOperations, few-operations}
 use Rattle.ffct.proofs.Sizes.{accepted-inner, dft-size, dct-within}
 use Rattle.ffct.proofs.ElevenLengths.{is-power, as-len, level-le, length-le}
 use Rattle.counts.specs.declared.tally.Tally.{Tally}
-use Rattle.counts.specs.Tally.{Tallied, HasRoom}
+use Rattle.counts.specs.Tally.{Tallied}
 use Rattle.transforms.specs.Pairs.{paired}
 use Rattle.transforms.specs.Steps.{Ready, Gives, DftReady, DftDone, DctReady, DctDone, dftRoom, dctRoom}
 use Rattle.transforms.proofs.Pairs.{paired-same}
-use Rattle.blocks.specs.Buffers.{inPairs}
-use Rattle.blocks.specs.Blocks.{InRange, Cleared, DftsReady, DftsMade}
+use Rattle.blocks.specs.Buffers.{wordsFrom, inPairs}
+use Rattle.blocks.specs.Blocks.{InRange, Cleared, DftsReady, DftsMade, SpectrumMade, CosineMade}
 use Rattle.blocks.proofs.Pairing.{paired-back}
+
+-- no product or sum is made yet
+abbrev pub none : Tally
+none = record { products = 0; sums = 0 }
 
 module _ {n : ℕ} {x : Samples} (r : InRange n x) where
   pub accepted : AcceptedBlock (level n) x
   accepted = record { level-ok = level-le n (r .length-ok); range = λ i h. r .range i (omega (arith, is-power n (r .length-ok))) }
 
   -- no count overflows
-  pub few : FewOperations (level n) x
+  few : FewOperations (level n) x
   few = few-operations (level n) x (level-le n (r .length-ok))
 
   pub spectrum-few : (spectrum (level n) x .products ≤ 2 ^ 17) × (spectrum (level n) x .sums ≤ 2 ^ 17)
@@ -61,13 +66,17 @@ module _ {n : ℕ} {x : Samples} (r : InRange n x) where
   unfolding spectrum
   sine-small j h = within-size (dft-size (accepted-inner accepted) j (omega (arith, as-len n (r .length-ok))) .1)
 
-  pub dct-small : (j : ℕ) → j < n → natAbs (dct (level n) x .at j) ≤ largestSum + 257
+  dct-small : (j : ℕ) → j < n → natAbs (dct (level n) x .at j) ≤ largestSum + 257
   dct-small j h = within-size (dct-within (accepted-inner accepted) j (omega (arith, as-len n (r .length-ok))))
 
   -- both DFTs may be made where there is room behind the block, and the tally is small
   pub dfts-ready : {at : ℕ} {w : List ℤ} {spent : Tally} → n ≤ at → at + (n / 2 + 1) + dftRoom n ≤ length w
       → (spent .products ≤ 2 ^ 20) × (spent .sums ≤ 2 ^ 20) → DftsReady n x at w spent
   dfts-ready behind fits small = record { block-ok = r; behind = behind; fits = fits; room = omega (arith, spectrum-few) }
+
+  -- so behind a block that stands at the front
+  pub spectrum-ready : {w : List ℤ} → 4 * n + 64 ≤ length w → DftsReady n x n w none
+  spectrum-ready room = dfts-ready (omega arith) (omega arith) (omega arith)
 
 -- ---- both DFTs: the block is loaded in pairs
 module _ {n : ℕ} {x : Samples} {at : ℕ} {w v : List ℤ} {spent : Tally} (r : DftsReady n x at w spent) (l : Written 0 n (inPairs n x) w v)
@@ -120,20 +129,6 @@ module _ {n : ℕ} {x : Samples} {at : ℕ} {w v : List ℤ} {spent : Tally} (r 
             len = sined .len ∙ cosined .len ∙ l .len;
           }
 
--- ---- the DCT: the block is loaded in its order
-module _ {n : ℕ} {x : Samples} {w v : List ℤ} (r : InRange n x) (l : Written 0 n x w v) where
-  dct-is : dct (level n) (word v) ≡ dct (level n) x
-  dct-is = dct-same (level n) _ _ (at-level r (front l))
-
-  pub dct-ready : {spent : Tally} → dctRoom n ≤ length w → HasRoom (dct (level n) x .products) (dct (level n) x .sums) spent →
-      DctReady n v spent
-  dct-ready h room = record { ready = ready r (front l); fits = omega (arith, l .len); room = rw dct-is room }
-
-  pub dct-made : {v₁ : List ℤ} {spent t₁ : Tally} → DctDone n v v₁ spent t₁ → Gives (dct (level n) x) 0 n w v₁ spent t₁
-  dct-made {v₁} {spent} {t₁} d =
-      let g : Gives (dct (level n) x) 0 n v v₁ spent t₁ = subst (λ t. Gives t 0 n v v₁ spent t₁) dct-is d in
-      record { coefficients = g .coefficients; front = λ k h. absurd (omega arith); tallied = g .tallied; len = g .len ∙ l .len }
-
 -- ---- words cleared in the end are cleared, whatever stood there meanwhile
 pub cleared : {w v w′ : List ℤ} → length v ≡ length w → Cleared v w′ → Cleared w w′
 cleared {w} {v} e c = record {
@@ -142,3 +137,44 @@ cleared {w} {v} e c = record {
   high = λ j h. c .high j (omega (arith, h, e)) ∙ past (pos 0) v j (omega (arith, h, e)) ∙ sym (past (pos 0) w j (omega (arith, h)));
   len = c .len ∙ e;
 }
+
+-- ---- Spectrum: both DFTs stand behind the block
+module _ {n at : ℕ} {x : Samples} {w v : List ℤ} {spent total : Tally} (r : InRange n x) (made : DftsMade n x at w v spent total) where
+  pub cosine-sized : (k : ℕ) → k < n / 2 + 1 → natAbs (wordsFrom v at k) ≤ largestSum + 257
+  cosine-sized k h = rw (made .cosineWords k h) (omega (arith, cosine-small r k h))
+
+  pub sine-sized : (k : ℕ) → k < n / 2 + 1 → natAbs (wordsFrom v (at + n / 2 + 1) k) ≤ largestSum + 257
+  sine-sized k h = rw (made .sineWords k h) (omega (arith, sine-small r k h))
+
+pub spectrum-made : {n at : ℕ} {x : Samples} {w v w′ cosine cosine′ sine sine′ : List ℤ} {total : Tally} → DftsMade n x at w v none total
+    → Written 0 (n / 2 + 1) (wordsFrom v at) cosine cosine′ → Written 0 (n / 2 + 1) (wordsFrom v (at + n / 2 + 1)) sine sine′ → Cleared v w′
+    → SpectrumMade n (spectrum (level n) x) cosine sine w cosine′ sine′ w′ total
+spectrum-made m c s e = record {
+  cosineWords = written-same c refl (m .cosineWords);
+  sineWords = written-same s refl (m .sineWords);
+  cleared = cleared (m .len) e;
+  tallied = omega (arith, m .tallied);
+}
+
+-- ---- the DCT: the block is loaded in its order
+module _ {n : ℕ} {x : Samples} {w v : List ℤ} (r : InRange n x) (l : Written 0 n x w v) where
+  dct-is : dct (level n) (word v) ≡ dct (level n) x
+  dct-is = dct-same (level n) _ _ (at-level r (front l))
+
+  pub dct-ready : dctRoom n ≤ length w → DctReady n v none
+  dct-ready h = record { ready = ready r (front l); fits = omega (arith, l .len); room = rw dct-is (omega (arith, few r .dct)) }
+
+  module _ {v₁ : List ℤ} {t₁ : Tally} (done : DctDone n v v₁ none t₁) where
+    made : Gives (dct (level n) x) 0 n v v₁ none t₁
+    made = subst (λ t. Gives t 0 n v v₁ none t₁) dct-is done
+
+    pub dct-sized : (k : ℕ) → k < n → natAbs (wordsFrom v₁ 0 k) ≤ largestSum + 257
+    dct-sized k h = rw (made .coefficients k h) (dct-small r k h)
+
+    pub cosine-made : {coefficients coefficients′ w′ : List ℤ} → Written 0 n (wordsFrom v₁ 0) coefficients coefficients′ → Cleared v₁ w′
+        → CosineMade n (dct (level n) x) coefficients w coefficients′ w′ t₁
+    cosine-made s e = record {
+      words = written-same s refl (made .coefficients);
+      cleared = cleared (made .len ∙ l .len) e;
+      tallied = omega (arith, made .tallied);
+    }

@@ -15,11 +15,7 @@ use Rattle.ffct.proofs.Blocks.{sine-first, sine-last, cosine-beyond-same, sine-
 use Rattle.counts.specs.declared.tally.Tally.{Tally}
 use Rattle.blocks.specs.Buffers.{cosineOfA, sineOfA, Joinable, PartsReady, PartsPut}
 use Rattle.blocks.specs.Blocks.{InRange, Cleared, DftsReady, DftsMade, PairMade}
-use Rattle.blocks.proofs.BlockRuns.{cosine-small, sine-small, spectrum-few, dfts-ready, cleared}
-
--- no product or sum is made yet
-abbrev pub none : Tally
-none = record { products = 0; sums = 0 }
+use Rattle.blocks.proofs.BlockRuns.{none, cosine-small, sine-small, spectrum-few, dfts-ready, cleared}
 
 -- where the sine-DFT is zero
 sine-half : (L n : ℕ) (x : Samples) → n ≡ 2 ^ L → sineDft L x .at (n / 2) ≡ pos 0
@@ -37,9 +33,6 @@ joinable {n} {x} {y} okX okY c s = record {
   cosine-small = λ k h. rw (c k h) (cosine-small okX k h);
   sine-small = λ k h. rw (s k h) (sine-small okY k h);
 }
-
-pub a-ready : {n : ℕ} {x : Samples} {w : List ℤ} → InRange n x → 4 * n + 64 ≤ length w → DftsReady n x n w none
-a-ready ok room = dfts-ready ok (omega arith) (omega arith) (omega arith)
 
 module _ {n : ℕ} {x y : Samples} {w w₁ : List ℤ} {t₁ : Tally} (okX : InRange n x) (okY : InRange n y) (room : 4 * n + 64 ≤ length w)
     (A : DftsMade n x n w w₁ none t₁) where

@@ -64,7 +64,8 @@ module _ {op rev : ℤ → ℤ → ℤ} (o : Opposite op rev) {n : ℕ} {C S : �
 
   -- the loop has come to the middle, and the ends are put
   pub part-ends : {a : ℕ} {before between after : List ℤ} → (1 ≤ n) × (a ≡ n - n / 2 - 1) → ((n ≡ 1 → ⊥) → 2 * (n / 2) ≡ n)
-      → Ends (pos 0) 1 a a (n - 1) (λ i. part (1 + i)) before between → TwoPut 0 (n / 2) (C 0) (C (n / 2)) between after → Written 0 n part before after
+      → Ends (pos 0) 1 a a (n - 1) (λ i. part (1 + i)) before between → TwoPut 0 (n / 2) (C 0) (C (n / 2)) between after
+      → Written 0 n part before after
   part-ends {a} {before} {between} {after} h whole run e = record {
     new = λ k l. at k l;
     low = λ k l. absurd (omega arith);

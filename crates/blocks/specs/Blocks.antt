@@ -20,9 +20,10 @@ pub record InRange (n : ℕ) (x : Samples) : Type 0 where
   pub range : (i : ℕ) → i < n → natAbs (x i) ≤ largestSample
 
 -- a block and words to work in: Pair of n samples takes 3 n + 4 words and 3 for each DCT sample behind them
-pub record Workable (block w : List ℤ) : Type 0 where
-  pub block-ok : InRange (length block) (word block)
-  pub room : 4 * length block + 64 ≤ length w
+pub record Workable (n : ℕ) (block w : List ℤ) : Type 0 where
+  pub whole : n ≤ length block
+  pub block-ok : InRange n (word block)
+  pub room : 4 * n + 64 ≤ length w
 
 abbrev pub Cleared : List ℤ → List ℤ → Type 0
 Cleared w w′ = Written 0 (length w) (λ k. pos 0) w w′

@@ -22,14 +22,11 @@ pub fn load(block: &[i32], w: &mut [i64])
     }
 }
 
-// The block at the front of w, in pairs: each sample beside its mirror image.
-pub fn load_pairs(block: &[i32], w: &mut [i64])
-    requires { ⌜ (isLength (length (now block)) ≡ true) × (length (now block) ≤ length (now w)) ⌝ }
-    ensures { λ _.
-        let n = length (now (block .entry)) in
-        ⌜ Written 0 n (inPairs n (word (now (block .entry)))) (now (w .entry)) (now (w .exit)) ⌝ }
+// The n samples of a block at the front of w, in pairs: each sample beside its mirror image.
+pub fn load_pairs(block: &[i32], n: usize, w: &mut [i64])
+    requires { ⌜ (isLength n ≡ true) × (n ≤ length (now block)) × (n ≤ length (now w)) ⌝ }
+    ensures { λ _. ⌜ Written 0 n (inPairs n (word (now (block .entry)))) (now (w .entry)) (now (w .exit)) ⌝ }
 {
-    let n = block.len();
     if n == 1 {
         let x = block[0] as i64;
         w[0] = x;

@@ -11,7 +11,6 @@ use counts::tally::Tally;
 use transforms::cosine_dft;
 use transforms::dct;
 use transforms::sine_dft;
-ghost use mathlib.Core.Path.{_≡_};
 ghost use Prim.Native.Nat.{_+_, _/_, _≤_};
 ghost use lib.ListN.{length};
 ghost use Rattle.words.specs.Words.{word};
@@ -21,18 +20,24 @@ ghost use Rattle.circle.specs.Circle.{IsQuarterWave};
 ghost use Rattle.blocks.specs.Blocks.{Workable, DftsReady, DftsMade, SpectrumMade, CosineMade, PairMade};
 
 // The cosine-DFT of a block at `at` and its sine-DFT behind it.
-fn both_dfts(wave: &[i32; 1025], block: &[i32], w: &mut [i64], at: usize, spent: Tally) -> Tally
-    requires { ⌜ IsQuarterWave (now wave) × DftsReady (length (now block)) (word (now block)) at (now w) spent ⌝ }
-    ensures { λ r. ⌜ DftsMade (length (now (block .entry))) (word (now (block .entry))) at (now (w .entry)) (now (w .exit)) spent r ⌝ }
+fn both_dfts(
+    wave: &[i32; 1025],
+    block: &[i32],
+    n: usize,
+    w: &mut [i64],
+    at: usize,
+    spent: Tally,
+) -> Tally
+    requires { ⌜ IsQuarterWave (now wave) × (n ≤ length (now block)) × DftsReady n (word (now block)) at (now w) spent ⌝ }
+    ensures { λ r. ⌜ DftsMade n (word (now (block .entry))) at (now (w .entry)) (now (w .exit)) spent r ⌝ }
 {
-    let n = block.len();
-    load_pairs(block, w);
+    load_pairs(block, n, w);
     let cosine = cosine_dft(wave, w, n, 1, at, spent);
     sine_dft(wave, w, n, 1, at + n / 2 + 1, cosine)
 }
 
 pub fn spectrum_of(block: &[i32], cosine: &mut [i32], sine: &mut [i32], w: &mut [i64]) -> Tally
-    requires { ⌜ Workable (now block) (now w)
+    requires { ⌜ Workable (length (now block)) (now block) (now w)
         × (length (now block) / 2 + 1 ≤ length (now cosine)) × (length (now block) / 2 + 1 ≤ length (now sine)) ⌝ }
     ensures { λ r.
         let n = length (now (block .entry)) in
@@ -45,7 +50,7 @@ pub fn spectrum_of(block: &[i32], cosine: &mut [i32], sine: &mut [i32], w: &mut 
         products: 0,
         sums: 0,
     };
-    let spent = both_dfts(&wave, block, w, n, none);
+    let spent = both_dfts(&wave, block, n, w, n, none);
     store(w, n, cosine, n / 2 + 1);
     store(w, n + n / 2 + 1, sine, n / 2 + 1);
     clear(w);
@@ -53,7 +58,7 @@ pub fn spectrum_of(block: &[i32], cosine: &mut [i32], sine: &mut [i32], w: &mut 
 }
 
 pub fn cosine_of(block: &[i32], coefficients: &mut [i32], w: &mut [i64]) -> Tally
-    requires { ⌜ Workable (now block) (now w) × (length (now block) ≤ length (now coefficients)) ⌝ }
+    requires { ⌜ Workable (length (now block)) (now block) (now w) × (length (now block) ≤ length (now coefficients)) ⌝ }
     ensures { λ r.
         let n = length (now (block .entry)) in
         ⌜ CosineMade n (dctOf (level n) (word (now (block .entry)))) (now (coefficients .entry)) (now (w .entry))
@@ -80,7 +85,7 @@ pub fn pair_of(
     imaginary: &mut [i32],
     w: &mut [i64],
 ) -> Tally
-    requires { ⌜ Workable (now a) (now w) × Workable (now b) (now w) × (length (now b) ≡ length (now a))
+    requires { ⌜ Workable (length (now a)) (now a) (now w) × Workable (length (now a)) (now b) (now w)
         × (length (now a) ≤ length (now real)) × (length (now a) ≤ length (now imaginary)) ⌝ }
     ensures { λ r.
         let n = length (now (a .entry)) in
@@ -93,8 +98,8 @@ pub fn pair_of(
         products: 0,
         sums: 0,
     };
-    let of_a = both_dfts(&wave, a, w, n, none);
-    let of_b = both_dfts(&wave, b, w, n + 2 * (n / 2 + 1), of_a);
+    let of_a = both_dfts(&wave, a, n, w, n, none);
+    let of_b = both_dfts(&wave, b, n, w, n + 2 * (n / 2 + 1), of_a);
     let spent = join_parts(w, n, real, imaginary, n, of_b);
     clear(w);
     spent

@@ -53,17 +53,16 @@ module _ {recording : List ℤ} {start N : ℕ} (f : Fit recording start N) wher
   fit-same : Same (level N) (word (lent recording start N)) (block recording start)
   fit-same k h = fit-word k (omega (arith, as-len N (f .length-ok)))
 
-  pub fit-workable : (scratch : List ℤ) {m : ℕ} → m ≡ scratchWords N → scratchWords N ≤ length scratch
-      → Workable (lent recording start N) (take m scratch)
-  fit-workable scratch {m} e room = record {
+  pub fit-workable : (scratch : List ℤ) {m n : ℕ} → n ≡ N → m ≡ scratchWords N → scratchWords N ≤ length scratch
+      → Workable n (lent recording start N) (take m scratch)
+  fit-workable scratch {m} e is room = rw e (record {
+    whole = omega (arith, fit-length);
     block-ok = record {
-      length-ok = rw fit-length (f .length-ok);
-      range = λ k h.
-          let l : k < N = omega (arith, h, fit-length) in
-          rw (fit-word k l) (all-in (word recording) start N (f .range) k l);
+      length-ok = f .length-ok;
+      range = λ k h. rw (fit-word k h) (all-in (word recording) start N (f .range) k h);
     };
-    room = omega (arith, e, fit-length, length-take-le m scratch (omega arith));
-  }
+    room = omega (arith, is, length-take-le m scratch (omega arith));
+  })
 
 -- the lent part of a buffer, put back to its front
 put-back : {m n : ℕ} {g : ℕ → ℤ} {w w′ : List ℤ} → m ≡ n → m ≤ length w

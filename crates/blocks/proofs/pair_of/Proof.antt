@@ -1,49 +1,36 @@
 -- `blocks::pair_of` meets its contract: the DFTs of a, then those of b behind them, joined by the laws of PairRuns. Assumes nothing.
 use borrow.Author.Needs.{needs}
-use Rattle.blocks.proofs.PairRuns.{a-ready, b-ready, parts-ready, pair-made}
+use Rattle.blocks.proofs.BlockRuns.{spectrum-ready}
+use Rattle.blocks.proofs.PairRuns.{b-ready, parts-ready, pair-made}
 use Rattle.blocks.proofs.pair_of.Statement.{statement}
 use Rattle.blocks.proofs.pair_of.Tie as tie
-
-both-dfts-requires : tie.Need-both-dfts-requires
-both-dfts-requires c κs =
-    let q = c .before .before in
-    let a = q .before .pre .0 in
-    (q .quarter-wave .ensures, a-ready (a .block-ok) (a .room))
-
-both-dfts-requires-2 : tie.Need-both-dfts-requires-2
-both-dfts-requires-2 c κs =
-    let d = c .before .before .before in
-    let q = d .before .before .before in
-    let (a, b, same, _, _) = q .before .pre in
-    (q .quarter-wave .ensures, rw same (b-ready (a .block-ok) (rw same at (b .block-ok)) (a .room) (d .both-dfts .ensures)))
 
 join-parts-requires : tie.Need-join-parts-requires
 join-parts-requires c κs =
     let f = c .before .before .before .before in
     let d = f .before .before .before .before in
-    let (a, b, same, real, imaginary) = d .before .before .before .before .pre in
-    parts-ready (a .block-ok) (rw same at (b .block-ok)) (a .room) (d .both-dfts .ensures) (rw same at (f .both-dfts2 .ensures))
-    (real, imaginary)
+    let (a, b, real, imaginary) = d .before .before .before .before .pre in
+    parts-ready (a .block-ok) (b .block-ok) (a .room) (d .both-dfts .ensures) (f .both-dfts2 .ensures) (real, imaginary)
 
 returns : tie.Need-returns
 returns c =
     let j = c .before .before .before .before .before in
     let f = j .before .before .before .before .before in
     let d = f .before .before .before .before in
-    let (a, b, same, _, _) = d .before .before .before .before .pre in
-    pair-made (a .block-ok) (rw same at (b .block-ok)) (a .room) (d .both-dfts .ensures) (rw same at (f .both-dfts2 .ensures))
-    (j .join-parts .ensures) (c .before .clear .ensures)
+    let (a, b, _, _) = d .before .before .before .before .pre in
+    pair-made (a .block-ok) (b .block-ok) (a .room) (d .both-dfts .ensures) (f .both-dfts2 .ensures) (j .join-parts .ensures)
+    (c .before .clear .ensures)
 
 pub pair-of-spec : {M : Type 1} → statement M
 pair-of-spec =
     tie.close
     (tie.spec
     (λ c κs. search needs)  -- quarter-wave-requires
-    both-dfts-requires
+    (λ c κs. search (needs, spectrum-ready))  -- both-dfts-requires
     (λ c. search needs)  -- add-both-dfts
     (λ c. search needs)  -- mul-both-dfts
     (λ c. search needs)  -- add-both-dfts-2
-    both-dfts-requires-2
+    (λ c κs. search (needs, b-ready))  -- both-dfts-requires-2
     join-parts-requires
     (λ c κs. search needs)  -- clear-requires
     (λ c. search needs)  -- same-length

@@ -36,7 +36,7 @@ cosine-of-requires c κs =
     let m = c .before .before .before in
     let ok = passed (m .before) in
     let f = fit _ ok (ok .past .recordings .0) (ok .range .0) in
-    (fit-workable f _ (m .scratch-words .ensures) (ok .past .scratch), omega (arith, fit-length f, ok .past .results .0))
+    (fit-workable f _ (fit-length f) (m .scratch-words .ensures) (ok .past .scratch), omega (arith, fit-length f, ok .past .results .0))
 
 returns-2 : tie.Need-returns-2
 returns-2 c =

@@ -1,6 +1,6 @@
 -- `spectra::pair` meets its contract. Assumes nothing.
 use mathlib.Core.Logic.{inl, inr}
-use mathlib.Core.Path.{refl, sym, subst, _∙_}
+use mathlib.Core.Path.{refl, sym, subst}
 use native.Mathlib.Omega.{arith}
 use lib.Seq.{length-take-le}
 use borrow.Author.Needs.{needs}
@@ -55,9 +55,8 @@ pair-of-requires c κs =
     let f = fit _ ok (ok .past .recordings .0) (ok .range .0) in
     let g = fit _ ok (ok .past .recordings .1 .0) (ok .range .1 .0) in
     let is = m .scratch-words .ensures in (
-      fit-workable f _ is (ok .past .scratch),
-      fit-workable g _ is (ok .past .scratch),
-      fit-length g ∙ sym (fit-length f),
+      fit-workable f _ (fit-length f) is (ok .past .scratch),
+      fit-workable g _ (fit-length f) is (ok .past .scratch),
       omega (arith, fit-length f, ok .past .results .0),
       omega (arith, fit-length f, ok .past .results .1 .0),
     )

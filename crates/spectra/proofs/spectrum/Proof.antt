@@ -40,7 +40,7 @@ spectrum-of-requires c κs =
     let m = words c in
     let ok = passed (m .before) in
     let f = fit _ ok (ok .past .recordings .0) (ok .range .0) in (
-      fit-workable f _ (m .scratch-words .ensures) (ok .past .scratch),
+      fit-workable f _ (fit-length f) (m .scratch-words .ensures) (ok .past .scratch),
       omega (arith, fit-length f, ok .past .results .0),
       omega (arith, fit-length f, ok .past .results .1 .0),
     )

@@ -3,7 +3,7 @@ use mathlib.Core.Path.{_≡_, sym, _∙_}
 use Prim.Native.Nat.{_+_, _-_, _*_, _/_, _≤_}
 use native.Mathlib.Omega.{arith}
 use lib.IntN.{pos}
-use lib.ListN.{length, length-set}
+use lib.ListN.{length-set}
 use borrow.Author.Needs.{needs}
 use Rattle.words.specs.Words.{word}
 use Rattle.words.proofs.Writing.{Ends, ends-none, ends-front, ends-all, written-one}
@@ -15,10 +15,10 @@ use Rattle.blocks.proofs.buffers.load_pairs.Statement.{statement}
 use Rattle.blocks.proofs.buffers.load_pairs.Tie as tie
 
 abbrev Inv-loop : tie.InvT-loop
-Inv-loop block w₀ n i₀ w i = (i ≤ n / 2) × Ends (pos 0) 0 (2 * i) 0 n (inPairs n (word block)) w₀ w
+Inv-loop block n w₀ i₀ w i = (i ≤ n / 2) × Ends (pos 0) 0 (2 * i) 0 n (inPairs n (word block)) w₀ w
 
 abbrev μ-loop : tie.MeasureT-loop
-μ-loop block w₀ n i₀ w i = n / 2 - i
+μ-loop block n w₀ i₀ w i = n / 2 - i
 
 returns : tie.Need-returns Inv-loop μ-loop
 returns c =
@@ -28,9 +28,8 @@ returns c =
 loop-again : tie.Need-loop-again Inv-loop μ-loop
 loop-again c =
     let l = c .before .before .before in
-    let block = l .before .before .args .block .now in
-    let n = length block in
-    let x = word block in
+    let n = l .before .before .args .n in
+    let x = word (l .before .before .args .block .now) in
     let i = l .loop .i in
     let two : 2 * i + 1 + 1 ≡ 2 * (i + 1) = omega arith in (
       omega arith,
@@ -42,7 +41,7 @@ loop-again c =
 returns-2 : tie.Need-returns-2 Inv-loop μ-loop
 returns-2 c =
     let s = c .before .before .before in
-    let n = length (s .args .block .now) in
+    let n = s .args .n in
     let e = half n (s .pre .0) (omega (arith, length-pos n (s .pre .0))) in
     ends-all (c .before .loop .inv .1) (omega (arith, e .twice))
 
