@@ -1,4 +1,5 @@
 -- `blocks::pair_of` meets its contract: the DFTs of a, then those of b behind them, joined by the laws of PairRuns. Assumes nothing.
+use native.Mathlib.Omega.{arith}
 use borrow.Author.Needs.{needs}
 use Rattle.blocks.proofs.BlockRuns.{spectrum-ready}
 use Rattle.blocks.proofs.PairRuns.{b-ready, parts-ready, pair-made}
@@ -10,7 +11,8 @@ join-parts-requires c κs =
     let f = c .before .before .before .before in
     let d = f .before .before .before .before in
     let (a, b, real, imaginary) = d .before .before .before .before .pre in
-    parts-ready (a .block-ok) (b .block-ok) (a .room) (d .both-dfts .ensures) (f .both-dfts2 .ensures) (real, imaginary)
+    parts-ready (a .block-ok) (b .block-ok) (a .room) (d .both-dfts .ensures) (f .both-dfts2 .ensures)
+    (omega (arith, real, imaginary))
 
 returns : tie.Need-returns
 returns c =

@@ -21,9 +21,6 @@ Inv-loop a b m n real₀ imaginary₀ scratch₀ page₀ count at₀ block₀ re
 abbrev μ-loop : tie.MeasureT-loop
 μ-loop a b m n real₀ imaginary₀ scratch₀ page₀ count at₀ block₀ real imaginary scratch page at block = count - block
 
-div-count : tie.Need-div-count Inv-loop μ-loop
-div-count c = omega (arith, some-samples _ (c .before .pre .0 .length-ok))
-
 loop-holds : tie.Need-loop-holds Inv-loop μ-loop
 loop-holds c =
     let s = c .before .before .before .before .before in
@@ -41,12 +38,6 @@ put-block-requires c κs =
       printable-block b p (omega arith) (v .realWords) (v .imaginaryWords) (v .scratchWords),
       omega (arith, whole-blocks (b + 1) (s .args .m) n (p .length-ok) (omega arith), next-block b n, v .fits),
     )
-
-loop-again : tie.Need-loop-again Inv-loop μ-loop
-loop-again c =
-    let b = c .before .before .before .before .before in
-    let l = b .before .before .before .before .before .before in
-    (search needs, search needs, one-more _ _ _ (l .loop .block) (l .loop .inv .2) (b .put-block .ensures))
 
 returns : tie.Need-returns Inv-loop μ-loop
 returns c =
@@ -70,13 +61,13 @@ put-spectra-spec =
     (tie.spec
     Inv-loop
     μ-loop
-    div-count
+    (λ c. search (needs, some-samples))  -- div-count
     (λ c κs. search needs)  -- put-heading-requires
     loop-holds
     put-block-requires
     (λ c. search needs)  -- add-block
     (λ c. search needs)  -- loop-less
-    loop-again
+    (λ c. search (needs, one-more))  -- loop-again
     (λ c. search needs)  -- same-length
     (λ c. search needs)  -- same-length-2
     (λ c. search needs)  -- same-length-3

@@ -24,9 +24,6 @@ Inv-loop w at real₀ imaginary₀ n sine_a cosine_b sine_b tally₀ k₀ real i
 abbrev μ-loop : tie.MeasureT-loop
 μ-loop w at real₀ imaginary₀ n sine_a cosine_b sine_b tally₀ k₀ real imaginary tally k = n - n / 2 - k
 
-loop-holds : tie.Need-loop-holds Inv-loop μ-loop
-loop-holds c = (omega (arith, c .pre .some), ends-none, ends-none)
-
 -- a turn finds n even, and k before its middle
 even : (c : tie.In-loop Inv-loop μ-loop) →
     let n = c .before .before .args .n in
@@ -116,7 +113,7 @@ join-parts-spec =
     (λ c. search needs)  -- add-cosine-b-2
     (λ c. search needs)  -- add-sine-b
     (λ c. search needs)  -- add-sine-b-2
-    loop-holds
+    (λ c. search (needs, ends-none))  -- loop-holds
     (λ c. search needs)  -- sub-loop
     (λ c. search needs)  -- add-put-sum-and-difference
     (λ c. search needs)  -- add-put-sum-and-difference-2

@@ -56,7 +56,7 @@ load-pairs-spec =
     (λ c. search needs)  -- slice-set-from-x
     (λ c. search needs)  -- same-length
     returns
-    (λ c. (omega arith, ends-none))  -- loop-holds
+    (λ c. search (needs, ends-none))  -- loop-holds
     (λ c. search needs)  -- mul-x
     (λ c. search needs)  -- shared-slice-copy-out-x-2
     (λ c. search (needs, sample-widens))  -- cast-x-2

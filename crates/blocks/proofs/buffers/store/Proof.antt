@@ -15,12 +15,6 @@ Inv-loop w at out₀ m k₀ out k = (k ≤ m) × Ends (pos 0) 0 k 0 m (wordsFrom
 abbrev μ-loop : tie.MeasureT-loop
 μ-loop w at out₀ m k₀ out k = m - k
 
-cast-y : tie.Need-cast-y Inv-loop μ-loop
-cast-y c =
-    let l = c .before .before in
-    let a = l .before .args in
-    coefficient-narrows (wordsFrom (a .w .now) (a .at) (l .loop .k)) (l .before .pre .1 (l .loop .k) (omega arith))
-
 loop-again : tie.Need-loop-again Inv-loop μ-loop
 loop-again c =
     let l = c .before .before in
@@ -39,7 +33,7 @@ store-spec =
     (λ c. search needs)  -- add-y
     (λ c. search needs)  -- mul-y
     (λ c. search needs)  -- shared-slice-copy-out-y
-    cast-y
+    (λ c. search (needs, coefficient-narrows, c .before .before .before .pre .1))  -- cast-y
     (λ c. search needs)  -- mul-y-2
     (λ c. search needs)  -- slice-set-from-y
     (λ c. search needs)  -- add-k
