@@ -1,64 +1,62 @@
--- What the functions on an accepted block ask and promise. The block's words are its samples; w are the words that a call lends for the
--- work, all of which are cleared at the end.
+-- What the functions on an accepted block ask and promise: n is the block's length, x are its samples, w the words that a call lends for
+-- the work, all of which are cleared at the end.
 use mathlib.Core.Bool.{true}
 use mathlib.Core.List.{List}
 use mathlib.Core.Path.{_≡_}
 use Prim.Native.Nat.{ℕ, _+_, _*_, _/_, _≤_, _<_}
 use lib.IntN.{ℤ, pos, natAbs}
 use lib.ListN.{length}
-use Rattle.words.specs.Words.{word, Written}
+use Rattle.words.specs.Words.{Samples, word, Written}
 use Rattle.ffct.specs.Block.{largestSample, isLength, level}
-use Rattle.ffct.specs.Transforms.{dct as dctOf, spectrum as spectrumOf, pair as pairOf}
+use Rattle.ffct.specs.Transforms.{Transform, Spectrum, PairSpectrum, spectrum as spectrumOf}
 use Rattle.counts.specs.declared.tally.Tally.{Tally}
 use Rattle.counts.specs.Tally.{Tallied, HasRoom}
 use Rattle.transforms.specs.Steps.{dftRoom}
+use Rattle.blocks.specs.Buffers.{wordsFrom}
 
 -- a block of one of the eleven lengths, its samples in range
-pub record InRange (block : List ℤ) : Type 0 where
-  pub length-ok : isLength (length block) ≡ true
-  pub range : (i : ℕ) → i < length block → natAbs (word block i) ≤ largestSample
+pub record InRange (n : ℕ) (x : Samples) : Type 0 where
+  pub length-ok : isLength n ≡ true
+  pub range : (i : ℕ) → i < n → natAbs (x i) ≤ largestSample
 
--- words to work in: Pair of n samples takes 3 n + 4 words and 3 for each DCT sample behind them
-pub record Workable (block w : List ℤ) : Type 0 where
-  pub block-ok : InRange block
-  pub room : 4 * length block + 64 ≤ length w
+-- a block and words to work in: Pair of n samples takes 3 n + 4 words and 3 for each DCT sample behind them
+pub record Workable (n : ℕ) (block w : List ℤ) : Type 0 where
+  pub whole : n ≤ length block
+  pub block-ok : InRange n (word block)
+  pub room : 4 * n + 64 ≤ length w
 
 abbrev pub Cleared : List ℤ → List ℤ → Type 0
 Cleared w w′ = Written 0 (length w) (λ k. pos 0) w w′
 
 -- both DFTs of a block, the cosine-DFT at `at`, behind the block's room, and the sine-DFT behind it; words between the block's room and
 -- `at` are as before. The words below and behind are the program's choice; their number stays
-pub record DftsReady (block : List ℤ) (at : ℕ) (w : List ℤ) (spent : Tally) : Type 0 where
-  pub block-ok : InRange block
-  pub behind : length block ≤ at
-  pub fits : at + (length block / 2 + 1) + dftRoom (length block) ≤ length w
-  pub room : HasRoom (spectrumOf (level (length block)) (word block) .products) (spectrumOf (level (length block)) (word block) .sums) spent
+pub record DftsReady (n : ℕ) (x : Samples) (at : ℕ) (w : List ℤ) (spent : Tally) : Type 0 where
+  pub block-ok : InRange n x
+  pub behind : n ≤ at
+  pub fits : at + (n / 2 + 1) + dftRoom n ≤ length w
+  pub room : HasRoom (spectrumOf (level n) x .products) (spectrumOf (level n) x .sums) spent
 
-pub record DftsMade (block : List ℤ) (at : ℕ) (w w′ : List ℤ) (spent total : Tally) : Type 0 where
-  pub cosineWords : (k : ℕ) → k < length block / 2 + 1 → word w′ (at + k) ≡ spectrumOf (level (length block)) (word block) .cosine k
-  pub sineWords : (k : ℕ) → k < length block / 2 + 1 →
-      word w′ (at + length block / 2 + 1 + k) ≡ spectrumOf (level (length block)) (word block) .sine k
-  pub between : (k : ℕ) → length block ≤ k → k < at → word w′ k ≡ word w k
-  pub tallied : Tallied (spectrumOf (level (length block)) (word block) .products)
-      (spectrumOf (level (length block)) (word block) .sums) spent total
+pub record DftsMade (n : ℕ) (x : Samples) (at : ℕ) (w w′ : List ℤ) (spent total : Tally) : Type 0 where
+  pub cosineWords : (k : ℕ) → k < n / 2 + 1 → wordsFrom w′ at k ≡ spectrumOf (level n) x .cosine k
+  pub sineWords : (k : ℕ) → k < n / 2 + 1 → wordsFrom w′ (at + n / 2 + 1) k ≡ spectrumOf (level n) x .sine k
+  pub between : (k : ℕ) → n ≤ k → k < at → word w′ k ≡ word w k
+  pub tallied : Tallied (spectrumOf (level n) x .products) (spectrumOf (level n) x .sums) spent total
   pub len : length w′ ≡ length w
 
-pub record SpectrumMade (block cosine sine w cosine′ sine′ w′ : List ℤ) (spent : Tally) : Type 0 where
-  pub cosineWords : Written 0 (length block / 2 + 1) (spectrumOf (level (length block)) (word block) .cosine) cosine cosine′
-  pub sineWords : Written 0 (length block / 2 + 1) (spectrumOf (level (length block)) (word block) .sine) sine sine′
+-- ---- coefficients of n samples put into buffers, the words to work in cleared, and what is tallied
+pub record SpectrumMade (n : ℕ) (t : Spectrum) (cosine sine w cosine′ sine′ w′ : List ℤ) (spent : Tally) : Type 0 where
+  pub cosineWords : Written 0 (n / 2 + 1) (t .cosine) cosine cosine′
+  pub sineWords : Written 0 (n / 2 + 1) (t .sine) sine sine′
   pub cleared : Cleared w w′
-  pub products : spent .products ≡ spectrumOf (level (length block)) (word block) .products
-  pub sums : spent .sums ≡ spectrumOf (level (length block)) (word block) .sums
+  pub tallied : (spent .products ≡ t .products) × (spent .sums ≡ t .sums)
 
-pub record CosineMade (block coefficients w coefficients′ w′ : List ℤ) (spent : Tally) : Type 0 where
-  pub words : Written 0 (length block) (dctOf (level (length block)) (word block) .at) coefficients coefficients′
+pub record CosineMade (n : ℕ) (t : Transform) (coefficients w coefficients′ w′ : List ℤ) (spent : Tally) : Type 0 where
+  pub words : Written 0 n (t .at) coefficients coefficients′
   pub cleared : Cleared w w′
-  pub products : spent .products ≡ dctOf (level (length block)) (word block) .products
-  pub sums : spent .sums ≡ dctOf (level (length block)) (word block) .sums
+  pub tallied : (spent .products ≡ t .products) × (spent .sums ≡ t .sums)
 
-pub record PairMade (a b real imaginary w real′ imaginary′ w′ : List ℤ) (spent : Tally) : Type 0 where
-  pub realWords : Written 0 (length a) (pairOf (level (length a)) (word a) (word b) .real) real real′
-  pub imaginaryWords : Written 0 (length a) (pairOf (level (length a)) (word a) (word b) .imaginary) imaginary imaginary′
+pub record PairMade (n : ℕ) (t : PairSpectrum) (real imaginary w real′ imaginary′ w′ : List ℤ) (spent : Tally) : Type 0 where
+  pub realWords : Written 0 n (t .real) real real′
+  pub imaginaryWords : Written 0 n (t .imaginary) imaginary imaginary′
   pub cleared : Cleared w w′
-  pub products : spent .products ≡ pairOf (level (length a)) (word a) (word b) .products
-  pub sums : spent .sums ≡ pairOf (level (length a)) (word a) (word b) .sums
+  pub tallied : (spent .products ≡ t .products) × (spent .sums ≡ t .sums)

@@ -13,7 +13,7 @@ use Rattle.little_endian.specs.Numbers.{byte}
 use Rattle.pairfile.specs.File.{sampleCount, mostSamples, fileBytes, fileVerdict}
 use Rattle.pairfile.specs.Laws.{AnswersAsItsFirst, firstBytes, LongerFile}
 use Rattle.pairfile.specs.declared.FileAnswer.{FileAnswer}
-use Rattle.pairfile.proofs.Verdicts.{Passed7, Passed8, TurnedDown, refused-8, refused-9, accepted-9}
+use Rattle.pairfile.proofs.Verdicts.{Passed8, TurnedDown, refused-8, refused-9, accepted-9}
 
 module _ (n : ℕ) (enough : fileBytes mostSamples < n) (file lent : List ℕ) where
   -- a file of more than n bytes is refused with 8, by m, or else with 9; so are its first n bytes
@@ -31,19 +31,14 @@ module _ (n : ℕ) (enough : fileBytes mostSamples < n) (file lent : List ℕ) w
         → fileVerdict (take n file) lent ≡ fileVerdict file lent
     alike t u = sym (t .verdict) ∙ u .verdict
 
-    past : Passed7 file
-    past = record { header = omega arith }
-
-    past-cut : Passed7 (take n file)
-    past-cut = record { header = omega (arith, cut) }
-
     bad-count : (sampleCount file ≡ 0) ⊎ (mostSamples < sampleCount file) → fileVerdict (take n file) lent ≡ fileVerdict file lent
-    bad-count b = alike (refused-8 past-cut (rw same-count b)) (refused-8 past b)
+    bad-count b = alike (refused-8 (omega (arith, cut)) (rw same-count b)) (refused-8 (omega arith) b)
 
     too-long : 1 ≤ sampleCount file → sampleCount file ≤ mostSamples → fileVerdict (take n file) lent ≡ fileVerdict file lent
     too-long s m =
-        let p : Passed8 (take n file) = record { past = past-cut; some = omega (arith, same-count); most = omega (arith, same-count) } in
-        let q : Passed8 file = record { past = past; some = s; most = m } in
+        let p : Passed8 (take n file) =
+        record { header = omega (arith, cut); some = omega (arith, same-count); most = omega (arith, same-count) } in
+        let q : Passed8 file = record { header = omega arith; some = s; most = m } in
         alike (refused-9 p (λ e. omega (arith, cut, same-count))) (refused-9 q (λ e. omega arith))
 
     both-refused : fileVerdict (take n file) lent ≡ fileVerdict file lent

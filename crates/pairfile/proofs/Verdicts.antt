@@ -4,7 +4,7 @@
 -- Assumes nothing.
 use mathlib.Core.Path.{_≡_, refl, sym, ap, subst, _∙_}
 use mathlib.Core.Logic.{_⊎_, inl, inr, ⊎-elim}
-use mathlib.Core.Bool.{true, false, cond, _||_, false≢true}
+use mathlib.Core.Bool.{true, false, cond, _||_}
 use mathlib.Core.List.{List, [], _∷_}
 use Prim.Native.Nat.{ℕ, _≤_, _<_}
 use native.Mathlib.Decide.{ℕ-discrete}
@@ -16,9 +16,9 @@ use borrow.Author.Tests.{lt-ltb, le-ltb, eq-eqb, ne-eqb}
 use Rattle.whole.proofs.Cases.{le-or-lt}
 use Rattle.words.specs.Words.{Samples, Written}
 use Rattle.ffct.specs.Block.{isLength}
-use Rattle.refusals.specs.Refusals.{someBelow, firstOutIn, refused, accepted}
+use Rattle.refusals.specs.Refusals.{someBelow, firstOutIn, refused, accepted, number}
 use Rattle.refusals.proofs.Ranges.{passed}
-use Rattle.refusals.proofs.Conditions.{AllReach, SomeBelow, all-reach, some-below, AllIn, OutAt, in-verdict, out-verdict, isAccepted}
+use Rattle.refusals.proofs.Conditions.{AllReach, SomeBelow, all-reach, some-below, AllIn, OutAt, in-verdict, out-verdict}
 use Rattle.pairfile.specs.declared.FileAnswer.{FileAnswer}
 use Rattle.pairfile.specs.declared.FileAnswer.the-variants.{BelowHeader, BadCount, BadFileLength, BadLength}
 use Rattle.pairfile.specs.declared.FileAnswer.the-variants.{RecordingTooShort, OutOfRange, Read}
@@ -32,11 +32,8 @@ abbrev recordingsOf : List ℕ → List Samples
 recordingsOf file = samplesOfA file ∷ samplesOfB file ∷ []
 
 -- ---- a file that the conditions 7, 8, 9, 1, 3, 6, up to the named one, do not turn down
-pub record Passed7 (file : List ℕ) : Type 0 where
-  pub header : headerBytes ≤ length file
-
 pub record Passed8 (file : List ℕ) : Type 0 where
-  pub past : Passed7 file
+  pub header : headerBytes ≤ length file
   pub some : 1 ≤ sampleCount file
   pub most : sampleCount file ≤ mostSamples
 
@@ -65,7 +62,7 @@ module _ {file : List ℕ} where
       let m = sampleCount file in
       fileVerdict file lent ≡ cond (someBelow m lent) (refused 3) (firstOutIn (recordingsOf file) 0 m)
   unfolding fileVerdict
-  past-1 p lent = let q = p .past in rw (le-ltb _ _ (q .past .past .header), count-good (q .past), eq-eqb _ _ (q .bytes), p .blocks)
+  past-1 p lent = let q = p .past in rw (le-ltb _ _ (q .past .header), count-good (q .past), eq-eqb _ _ (q .bytes), p .blocks)
 
 -- ---- a file that is turned down
 pub record TurnedDown (file lent : List ℕ) (answer : FileAnswer) : Type 0 where
@@ -73,36 +70,35 @@ pub record TurnedDown (file lent : List ℕ) (answer : FileAnswer) : Type 0 wher
   pub never : verdictOf answer ≡ accepted → ⊥
 
 module _ {file lent : List ℕ} where
-  down : {answer : FileAnswer} → isAccepted (verdictOf answer) ≡ false → fileVerdict file lent ≡ verdictOf answer
-      → TurnedDown file lent answer
-  down f e = record { verdict = sym e; never = λ a. false≢true (sym f ∙ ap isAccepted a) }
+  down : {answer : FileAnswer} → 0 < number (verdictOf answer) → fileVerdict file lent ≡ verdictOf answer → TurnedDown file lent answer
+  down some e = record { verdict = sym e; never = λ a. absurd (omega (arith, some, ap number a)) }
 
   pub refused-7 : length file < headerBytes → TurnedDown file lent BelowHeader
   unfolding fileVerdict
-  refused-7 h = down refl (rw (lt-ltb _ _ h))
+  refused-7 h = down (omega arith) (rw (lt-ltb _ _ h))
 
-  pub refused-8 : Passed7 file → (sampleCount file ≡ 0) ⊎ (mostSamples < sampleCount file) → TurnedDown file lent BadCount
+  pub refused-8 : headerBytes ≤ length file → (sampleCount file ≡ 0) ⊎ (mostSamples < sampleCount file) → TurnedDown file lent BadCount
   unfolding fileVerdict
-  refused-8 p (inl e) = down refl (rw (le-ltb _ _ (p .header), eq-eqb _ _ e))
-  refused-8 p (inr l) = down refl (rw (le-ltb _ _ (p .header), ne-eqb (sampleCount file) 0 (λ e. omega arith), lt-ltb _ _ l))
+  refused-8 h (inl e) = down (omega arith) (rw (le-ltb _ _ h, eq-eqb _ _ e))
+  refused-8 h (inr l) = down (omega arith) (rw (le-ltb _ _ h, ne-eqb (sampleCount file) 0 (λ e. omega arith), lt-ltb _ _ l))
 
   pub refused-9 : Passed8 file → (length file ≡ fileBytes (sampleCount file) → ⊥) → TurnedDown file lent BadFileLength
   unfolding fileVerdict
-  refused-9 p n = down refl (rw (le-ltb _ _ (p .past .header), count-good p, ne-eqb _ _ n))
+  refused-9 p n = down (omega arith) (rw (le-ltb _ _ (p .header), count-good p, ne-eqb _ _ n))
 
   pub refused-1 : Passed9 file → isLength (blockLength file) ≡ false → TurnedDown file lent BadLength
   unfolding fileVerdict
-  refused-1 p f = down refl (rw (le-ltb _ _ (p .past .past .header), count-good (p .past), eq-eqb _ _ (p .bytes), f))
+  refused-1 p f = down (omega arith) (rw (le-ltb _ _ (p .past .header), count-good (p .past), eq-eqb _ _ (p .bytes), f))
 
   pub refused-3 : Passed1 file → SomeBelow (sampleCount file) lent → TurnedDown file lent RecordingTooShort
-  refused-3 p h = down refl (past-1 p lent ∙ rw (some-below (sampleCount file) lent h))
+  refused-3 p h = down (omega arith) (past-1 p lent ∙ rw (some-below (sampleCount file) lent h))
 
   past-3 : Passed3 file lent → fileVerdict file lent ≡ firstOutIn (recordingsOf file) 0 (sampleCount file)
   past-3 p = past-1 (p .past) lent ∙ rw (all-reach (sampleCount file) lent (p .recordings))
 
   pub refused-6 : {place : ℕ} → Passed3 file lent → OutAt (recordingsOf file) 0 (sampleCount file) place
       → TurnedDown file lent (OutOfRange place)
-  refused-6 p h = down refl (past-3 p ∙ out-verdict (recordingsOf file) 0 (sampleCount file) _ h)
+  refused-6 p h = down (omega arith) (past-3 p ∙ out-verdict (recordingsOf file) 0 (sampleCount file) _ h)
 
   pub is-accepted : Passed6 file lent → fileVerdict file lent ≡ accepted
   is-accepted p = past-3 (p .past) ∙ in-verdict (recordingsOf file) 0 (sampleCount file) (p .range)
@@ -112,12 +108,12 @@ module _ (file lent : List ℕ) (ok : fileVerdict file lent ≡ accepted) where
   not-refused : {answer : FileAnswer} → TurnedDown file lent answer → ⊥
   not-refused t = t .never (t .verdict ∙ ok)
 
-  accepted-7 : Passed7 file
-  accepted-7 = ⊎-elim (λ h. record { header = h }) (λ h. absurd (not-refused (refused-7 h))) (le-or-lt headerBytes (length file))
+  accepted-7 : headerBytes ≤ length file
+  accepted-7 = ⊎-elim (λ h. h) (λ h. absurd (not-refused (refused-7 h))) (le-or-lt headerBytes (length file))
 
   accepted-8 : Passed8 file
   accepted-8 = record {
-    past = accepted-7;
+    header = accepted-7;
     some = ⊎-elim (λ h. h) (λ h. absurd (not-refused (refused-8 accepted-7 (inl (omega arith))))) (le-or-lt 1 (sampleCount file));
     most = ⊎-elim (λ h. h) (λ h. absurd (not-refused (refused-8 accepted-7 (inr h)))) (le-or-lt (sampleCount file) mostSamples);
   }

@@ -10,7 +10,7 @@ use lib.Dec.{ltb}
 use borrow.Author.Tests.{lt-ltb, le-ltb, ltb-false}
 use Rattle.whole.proofs.Cases.{le-or-lt}
 use Rattle.words.specs.Words.{Samples}
-use Rattle.refusals.specs.Refusals.{someBelow, firstOut, firstOutIn, Verdict, refused, refusedAt, accepted}
+use Rattle.refusals.specs.Refusals.{someBelow, firstOut, firstOutIn, refusedAt, accepted}
 
 -- ---- lengths: all reach n, or some are below it
 abbrev pub AllReach : ℕ → List ℕ → Type 0
@@ -76,9 +76,3 @@ pub out-verdict : (xs : List Samples) (s N place : ℕ) → OutAt xs s N place �
 out-verdict [] s N place h = absurd h
 out-verdict (x ∷ xs) s N place (inl (e, l)) = rw (lt-ltb (firstOut x s N) (s + N) (omega (arith, e, l))) (ap (refusedAt 6) (sym e))
 out-verdict (x ∷ xs) s N place (inr (e, h)) = rw (le-ltb (firstOut x s N) (s + N) (omega (arith, e))) (out-verdict xs s N place h)
-
--- ---- a verdict is acceptance, or it is not
-abbrev pub isAccepted : Verdict → Bool
-isAccepted (refused number) = false
-isAccepted (refusedAt number place) = false
-isAccepted accepted = true

@@ -27,44 +27,33 @@ use Rattle.report.specs.Output.{pairAt, blockLines, spectra, printed, ou
 use Rattle.report.specs.Puts.{Printable}
 use Rattle.report.proofs.Printing.{whole-blocks, next-block}
 
--- ---- the number of an answer
-pub one-digit : (answer : FileAnswer) → number (verdictOf answer) < 10
-one-digit BelowHeader = omega arith
-one-digit BadCount = omega arith
-one-digit BadFileLength = omega arith
-one-digit BadLength = omega arith
-one-digit RecordingTooShort = omega arith
-one-digit (OutOfRange place) = omega arith
-one-digit (Read sizes) = omega arith
+-- ---- the number of an answer has one digit, and is 0 for acceptance alone
+pub record Numbered (v : Verdict) : Type 0 where
+  pub small : number v < 10
+  pub none : number v ≡ 0 → v ≡ accepted
 
-pub none-accepted : (answer : FileAnswer) → number (verdictOf answer) ≡ 0 → verdictOf answer ≡ accepted
-none-accepted BelowHeader e = absurd (omega arith)
-none-accepted BadCount e = absurd (omega arith)
-none-accepted BadFileLength e = absurd (omega arith)
-none-accepted BadLength e = absurd (omega arith)
-none-accepted RecordingTooShort e = absurd (omega arith)
-none-accepted (OutOfRange place) e = absurd (omega arith)
-none-accepted (Read sizes) e = refl
+pub numbered : (answer : FileAnswer) → Numbered (verdictOf answer)
+numbered BelowHeader = record { small = omega arith; none = λ e. absurd (omega arith) }
+numbered BadCount = record { small = omega arith; none = λ e. absurd (omega arith) }
+numbered BadFileLength = record { small = omega arith; none = λ e. absurd (omega arith) }
+numbered BadLength = record { small = omega arith; none = λ e. absurd (omega arith) }
+numbered RecordingTooShort = record { small = omega arith; none = λ e. absurd (omega arith) }
+numbered (OutOfRange place) = record { small = omega arith; none = λ e. absurd (omega arith) }
+numbered (Read sizes) = record { small = omega arith; none = λ e. refl }
 
--- ---- the output, by the answer of the reader
+-- ---- the output, by the reader's verdict
 module _ (file : List ℕ) where
-  pub refused-output : (answer : FileAnswer)
-      → verdictOf answer ≡ fileVerdict file (mostSamples ∷ mostSamples ∷ []) → (number (verdictOf answer) ≡ 0 → ⊥)
-      → output file ≡ refusal (number (verdictOf answer))
+  pub refused-output : (v : Verdict) → v ≡ fileVerdict file (mostSamples ∷ mostSamples ∷ []) → (v ≡ accepted → ⊥)
+      → output file ≡ refusal (number v)
   unfolding output
-  refused-output BelowHeader e n = rw (sym e) refl
-  refused-output BadCount e n = rw (sym e) refl
-  refused-output BadFileLength e n = rw (sym e) refl
-  refused-output BadLength e n = rw (sym e) refl
-  refused-output RecordingTooShort e n = rw (sym e) refl
-  refused-output (OutOfRange place) e n = rw (sym e) refl
-  refused-output (Read sizes) e n = absurd (n refl)
+  refused-output (refused n) e never = rw (sym e) refl
+  refused-output (refusedAt n place) e never = rw (sym e) refl
+  refused-output accepted e never = absurd (never refl)
 
-  pub read-output : (answer : FileAnswer)
-      → verdictOf answer ≡ fileVerdict file (mostSamples ∷ mostSamples ∷ []) → verdictOf answer ≡ accepted
+  pub read-output : {v : Verdict} → v ≡ fileVerdict file (mostSamples ∷ mostSamples ∷ []) → v ≡ accepted
       → output file ≡ spectra (sampleCount file) (blockLength file) (samplesOfA file) (samplesOfB file)
   unfolding output
-  read-output answer e a = rw (sym e ∙ a) refl
+  read-output e a = rw (sym e ∙ a) refl
 
 -- ---- equal recordings have equal lines
 module _ {m : ℕ} (N : ℕ) (ok : isLength N ≡ true) (a a′ b b′ : Samples)

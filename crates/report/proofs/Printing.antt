@@ -21,7 +21,6 @@ use Rattle.spectra.specs.Answers.{spent}
 use Rattle.spectra.specs.Promises.{PairDone, PairPromise}
 use Rattle.spectra.proofs.Verdicts.{is-accepted}
 use Rattle.text.specs.Lines.{line, lines}
-use Rattle.text.specs.Put.{Put}
 use Rattle.text.proofs.Putting.{put-none, _then_}
 use Rattle.report.specs.Output.{linesAt, blockLines}
 use Rattle.report.specs.Puts.{Printable, PutFrom}
@@ -83,24 +82,18 @@ printable-block {m} {N} i p l r s t =
       scratchFits = omega (arith, p .scratchFits);
     }
 
--- ---- what the loop over the blocks has put when it comes to block i
-pub record Blocks (N : ℕ) (a b : List ℤ) (i at : ℕ) (page : List ℕ) (next : ℕ) (page′ : List ℕ)
-    (real imaginary scratch real′ imaginary′ scratch′ : List ℤ) : Type 0 where
-  pub put : Put page at (blockLines N (word a) (word b) i) next page′
-  pub fits : next ≤ at + 34 * (i * N)
-  pub realWords : length real′ ≡ length real
-  pub imaginaryWords : length imaginary′ ≡ length imaginary
-  pub scratchWords : length scratch′ ≡ length scratch
-
-module _ (N : ℕ) (a b : List ℤ) {at : ℕ} {page : List ℕ} {real imaginary scratch : List ℤ} where
-  pub no-blocks : at ≤ length page → Blocks N a b 0 at page at page real imaginary scratch real imaginary scratch
+-- ---- what the loop over the blocks puts: nothing yet, and one block more
+module _ (N : ℕ) (a b : Samples) {at : ℕ} {page : List ℕ} {real imaginary scratch : List ℤ} where
+  pub no-blocks : at ≤ length page
+      → PutFrom page at (blockLines N a b 0) (34 * (0 * N)) at page real imaginary scratch real imaginary scratch
   unfolding blockLines
   no-blocks h = record { put = put-none h; fits = omega arith; realWords = refl; imaginaryWords = refl; scratchWords = refl }
 
   pub one-more : (i : ℕ) {next next′ : ℕ} {page′ page″ : List ℕ} {real′ imaginary′ scratch′ real″ imaginary″ scratch″ : List ℤ}
-      → Blocks N a b i at page next page′ real imaginary scratch real′ imaginary′ scratch′
-      → PutFrom page′ next (linesAt N (word a) (word b) i) (34 * N) next′ page″ real′ imaginary′ scratch′ real″ imaginary″ scratch″
-      → Blocks N a b (i + 1) at page next′ page″ real imaginary scratch real″ imaginary″ scratch″
+      → PutFrom page at (blockLines N a b i) (34 * (i * N)) next page′ real imaginary scratch real′ imaginary′ scratch′
+      → PutFrom page′ next (linesAt N a b i) (34 * N) next′ page″ real′ imaginary′ scratch′ real″ imaginary″ scratch″
+      → PutFrom page at (blockLines N a b (i + 1)) (34 * ((i + 1) * N)) next′ page″ real imaginary scratch
+      real″ imaginary″ scratch″
   unfolding blockLines
   one-more i p q = record {
     put = rw add-one (p .put then q .put);

@@ -9,9 +9,9 @@ use borrow.Author.Needs.{needs}
 use borrow.Author.Tests.{not-true, not-false}
 use Rattle.ffct.specs.Block.{isLength}
 use Rattle.refusals.specs.Refusals.{firstOut}
-use Rattle.refusals.proofs.Ranges.{first-to}
+use Rattle.refusals.proofs.Ranges.{first-end}
 use Rattle.pairfile.specs.File.{sampleCount, blockLength, samplesOfA, samplesOfB}
-use Rattle.pairfile.proofs.Verdicts.{Passed7, Passed8, Passed9, Passed1, Passed3, Passed6, read-refused, read-accepted}
+use Rattle.pairfile.proofs.Verdicts.{Passed8, Passed9, Passed1, Passed3, Passed6, read-refused, read-accepted}
 use Rattle.pairfile.proofs.Verdicts.{refused-7, refused-8, refused-9, refused-1, refused-3, refused-6}
 use Rattle.pairfile.proofs.read.Statement.{statement}
 use Rattle.pairfile.proofs.read.Tie as tie
@@ -39,11 +39,8 @@ abbrev lent : tie.Else7 → List ℕ
 lent c = length (start (counted c) .args .a .now) ∷ length (start (counted c) .args .b .now) ∷ []
 
 -- ---- what is known of the file after each test
-passed-7 : (c : tie.Else1) → Passed7 (fileAt (c .before .before))
-passed-7 c = record { header = c .if1 .left }
-
 passed-8 : (c : tie.Else3) → Passed8 (fileAt (start c))
-passed-8 c = record { past = passed-7 (c .before .before .before); some = omega arith; most = omega arith }
+passed-8 c = record { header = c .before .before .before .if1 .left; some = omega arith; most = omega arith }
 
 passed-9 : (c : tie.Else4) → Passed9 (fileAt (start (c .before)))
 passed-9 c = record { past = passed-8 (c .before); bytes = omega arith }
@@ -72,25 +69,23 @@ out-of-b : (c : tie.After-first-out2) →
 out-of-b c = rw (count (lent-to (searched c))) at (c .first-out2 .ensures)
 
 in-a : (c : tie.Else8) → let f = file (lent-to c) in firstOut (samplesOfA f) 0 (sampleCount f) ≡ 0 + sampleCount f
-in-a c = let f = file (lent-to c) in omega (arith, out-of-a (c .before), first-to (samplesOfA f) 0 (sampleCount f))
-
-in-b : (c : tie.Else9) → let f = file (lent-to (searched (c .before))) in firstOut (samplesOfB f) 0 (sampleCount f) ≡ 0 + sampleCount f
-in-b c =
-    let f = file (lent-to (searched (c .before))) in
-    omega (arith, out-of-b (c .before), first-to (samplesOfB f) 0 (sampleCount f))
+in-a c = first-end _ 0 _ (out-of-a (c .before)) (omega arith)
 
 passed-6 : (c : tie.Else9) → let p = lent-to (searched (c .before)) in Passed6 (file p) (lent p)
-passed-6 c = let s = searched (c .before) in record { past = passed-3 (lent-to s); range = (in-a s, (in-b c, tt)) }
+passed-6 c =
+    let s = searched (c .before) in
+    let in-b = first-end _ 0 _ (out-of-b (c .before)) (omega arith) in
+    record { past = passed-3 (lent-to s); range = (in-a s, (in-b, tt)) }
 
 -- ---- the refusals
 returns : tie.Need-returns
 returns c = read-refused (refused-7 (c .if1 .taken))
 
 returns-2 : tie.Need-returns-2
-returns-2 c = read-refused (refused-8 (passed-7 (c .before .before)) (inl (omega arith)))
+returns-2 c = read-refused (refused-8 (c .before .before .if1 .left) (inl (omega arith)))
 
 returns-3 : tie.Need-returns-3
-returns-3 c = read-refused (refused-8 (passed-7 (c .before .before .before)) (inr (omega arith)))
+returns-3 c = read-refused (refused-8 (c .before .before .before .if1 .left) (inr (omega arith)))
 
 returns-4 : tie.Need-returns-4
 returns-4 c = read-refused (refused-9 (passed-8 (c .before)) (λ e. omega arith))

@@ -1,13 +1,13 @@
 -- `report::put_output` meets its contract: a refusal's line, or the lines of the file that was read. Assumes nothing.
 use mathlib.Core.List.{[], _∷_}
-use mathlib.Core.Path.{_≡_, sym, _∙_}
+use mathlib.Core.Path.{_≡_, sym, ap, _∙_}
 use native.Mathlib.Omega.{arith}
 use borrow.Author.Needs.{needs}
-use Rattle.refusals.specs.Refusals.{accepted}
+use Rattle.refusals.specs.Refusals.{accepted, number}
 use Rattle.pairfile.specs.File.{mostSamples, fileVerdict}
 use Rattle.pairfile.specs.Answers.{verdictOf}
 use Rattle.pairfile.specs.Promises.{ReadDone}
-use Rattle.report.proofs.Outputs.{one-digit, none-accepted, refused-output, read-output, read-spectra, read-printable}
+use Rattle.report.proofs.Outputs.{numbered, refused-output, read-output, read-spectra, read-printable}
 use Rattle.report.proofs.put_output.Statement.{statement}
 use Rattle.report.proofs.put_output.Tie as tie
 
@@ -21,7 +21,7 @@ verdict c =
 put-refusal-requires : tie.Need-put-refusal-requires
 put-refusal-requires c κs =
     let n = c .before .before in
-    (omega (arith, n .number-of .ensures, one-digit (n .before .before .before .read .result)), omega arith)
+    (omega (arith, n .number-of .ensures, numbered (n .before .before .before .read .result) .small), omega arith)
 
 returns : tie.Need-returns
 returns c =
@@ -29,7 +29,7 @@ returns c =
     let n = p .before .before .before in
     let r = n .before .before .before in
     record {
-      put = rw (refused-output _ (r .read .result) (verdict r) (λ z. omega (arith, n .number-of .ensures)))
+      put = rw (refused-output _ _ (verdict r) (λ e. absurd (omega (arith, n .number-of .ensures, ap number e))))
           (rw (n .number-of .ensures) at (p .put-refusal .ensures));
       wordsOfA = omega arith;
       wordsOfB = omega arith;
@@ -40,7 +40,7 @@ returns c =
 
 -- and once it is accepted, the recordings hold the file's samples
 accepts : (c : tie.Else1) → verdictOf (c .before .before .before .before .read .result) ≡ accepted
-accepts c = none-accepted (c .before .before .before .before .read .result) (omega (arith, c .before .number-of .ensures))
+accepts c = numbered (c .before .before .before .before .read .result) .none (omega (arith, c .before .number-of .ensures))
 
 done : (c : tie.After-sizes-of) →
     let r = c .before .before .before .before .before in
@@ -63,7 +63,7 @@ returns-2 c =
     let r = z .before .before .before .before .before in
     let q = p .put-spectra .ensures in
     record {
-      put = rw (read-output _ (r .read .result) (verdict r) (accepts (z .before)) ∙ sym (read-spectra (done z))) (q .put);
+      put = rw (read-output _ (verdict r) (accepts (z .before)) ∙ sym (read-spectra (done z))) (q .put);
       wordsOfA = omega arith;
       wordsOfB = omega arith;
       realWords = q .realWords;

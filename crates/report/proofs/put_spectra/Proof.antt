@@ -1,24 +1,25 @@
 -- `report::put_spectra` meets its contract: when the loop comes to a block, the lines of the blocks before it are put behind the heading.
 -- Assumes nothing.
 use mathlib.Core.Path.{_≡_}
-use Prim.Native.Nat.{_+_, _-_, _/_, _≤_}
+use Prim.Native.Nat.{_+_, _-_, _*_, _/_, _≤_}
 use native.Mathlib.Nat.{div-le-self}
 use native.Mathlib.Omega.{arith}
 use borrow.Author.Needs.{needs}
+use Rattle.words.specs.Words.{word}
 use Rattle.text.proofs.Putting.{_then_}
-use Rattle.report.proofs.Printing.{some-samples, whole-blocks, next-block, printable-block, Blocks, no-blocks, one-more}
+use Rattle.report.specs.Output.{blockLines}
+use Rattle.report.specs.Puts.{PutFrom}
+use Rattle.report.proofs.Printing.{some-samples, whole-blocks, next-block, printable-block, no-blocks, one-more}
 use Rattle.report.proofs.put_spectra.Statement.{statement}
 use Rattle.report.proofs.put_spectra.Tie as tie
 
 abbrev Inv-loop : tie.InvT-loop
 Inv-loop a b m n real₀ imaginary₀ scratch₀ page₀ count at₀ block₀ real imaginary scratch page at block =
-    (block ≤ count) × (count ≤ 4096) × Blocks n a b block at₀ page₀ at page real₀ imaginary₀ scratch₀ real imaginary scratch
+    (block ≤ count) × (count ≤ 4096)
+    × PutFrom page₀ at₀ (blockLines n (word a) (word b) block) (34 * (block * n)) at page real₀ imaginary₀ scratch₀ real imaginary scratch
 
 abbrev μ-loop : tie.MeasureT-loop
 μ-loop a b m n real₀ imaginary₀ scratch₀ page₀ count at₀ block₀ real imaginary scratch page at block = count - block
-
-div-count : tie.Need-div-count Inv-loop μ-loop
-div-count c = omega (arith, some-samples _ (c .before .pre .0 .length-ok))
 
 loop-holds : tie.Need-loop-holds Inv-loop μ-loop
 loop-holds c =
@@ -37,12 +38,6 @@ put-block-requires c κs =
       printable-block b p (omega arith) (v .realWords) (v .imaginaryWords) (v .scratchWords),
       omega (arith, whole-blocks (b + 1) (s .args .m) n (p .length-ok) (omega arith), next-block b n, v .fits),
     )
-
-loop-again : tie.Need-loop-again Inv-loop μ-loop
-loop-again c =
-    let b = c .before .before .before .before .before in
-    let l = b .before .before .before .before .before .before in
-    (search needs, search needs, one-more _ _ _ (l .loop .block) (l .loop .inv .2) (b .put-block .ensures))
 
 returns : tie.Need-returns Inv-loop μ-loop
 returns c =
@@ -66,13 +61,13 @@ put-spectra-spec =
     (tie.spec
     Inv-loop
     μ-loop
-    div-count
+    (λ c. search (needs, some-samples))  -- div-count
     (λ c κs. search needs)  -- put-heading-requires
     loop-holds
     put-block-requires
     (λ c. search needs)  -- add-block
     (λ c. search needs)  -- loop-less
-    loop-again
+    (λ c. search (needs, one-more))  -- loop-again
     (λ c. search needs)  -- same-length
     (λ c. search needs)  -- same-length-2
     (λ c. search needs)  -- same-length-3

@@ -8,7 +8,7 @@ use Rattle.refusals.proofs.Conditions.{one-below}
 use Rattle.spectra.specs.Calls.{Call}
 use Rattle.spectra.specs.Promises.{cosineCall}
 use Rattle.spectra.proofs.Verdicts.{Passed6, Told, told, turned-down, carried-out}
-use Rattle.spectra.proofs.Accepted.{fits, fit-length, fit-workable, cosine-done}
+use Rattle.spectra.proofs.Accepted.{fit, fit-length, fit-workable, cosine-done}
 use Rattle.spectra.proofs.cosine.Statement.{statement}
 use Rattle.spectra.proofs.cosine.Tie as tie
 
@@ -35,16 +35,15 @@ cosine-of-requires : tie.Need-cosine-of-requires
 cosine-of-requires c κs =
     let m = c .before .before .before in
     let ok = passed (m .before) in
-    let (f, _) = fits ok in
-    (fit-workable f _ (m .scratch-words .ensures) (ok .past .scratch), omega (arith, fit-length f, ok .past .results .0))
+    let f = fit _ ok (ok .past .recordings .0) (ok .range .0) in
+    (fit-workable f _ (fit-length f) (m .scratch-words .ensures) (ok .past .scratch), omega (arith, fit-length f, ok .past .results .0))
 
 returns-2 : tie.Need-returns-2
 returns-2 c =
     let d = c .before .before in
     let m = d .before .before .before .before in
     let ok = passed (m .before) in
-    let counts = m .before .before .before .before .counts-at .ensures (ok .past .length-ok) in
-    carried-out ok refl (cosine-done counts (m .scratch-words .ensures) ok (d .cosine-of .ensures))
+    carried-out ok refl (cosine-done (m .scratch-words .ensures) ok (d .cosine-of .ensures))
 
 pub cosine-spec : {M : Type 1} → statement M
 cosine-spec =

@@ -1,6 +1,6 @@
 -- `spectra::pair` meets its contract. Assumes nothing.
 use mathlib.Core.Logic.{inl, inr}
-use mathlib.Core.Path.{refl, sym, subst, _∙_}
+use mathlib.Core.Path.{refl, sym, subst}
 use native.Mathlib.Omega.{arith}
 use lib.Seq.{length-take-le}
 use borrow.Author.Needs.{needs}
@@ -11,7 +11,7 @@ use Rattle.spectra.specs.declared.Tested.the-variants.{Passed}
 use Rattle.spectra.specs.Calls.{Call}
 use Rattle.spectra.specs.Promises.{pairCall}
 use Rattle.spectra.proofs.Verdicts.{refused-6, Passed6, Told, told, turned-down, carried-out}
-use Rattle.spectra.proofs.Accepted.{fits, fit-length, fit-workable, pair-done}
+use Rattle.spectra.proofs.Accepted.{fit, fit-length, fit-workable, pair-done}
 use Rattle.spectra.proofs.pair.Statement.{statement}
 use Rattle.spectra.proofs.pair.Tie as tie
 
@@ -52,10 +52,13 @@ pair-of-requires : tie.Need-pair-of-requires
 pair-of-requires c κs =
     let m = words c in
     let ok = passed (m .before) in
-    let (f, (g, _)) = fits ok in
+    let f = fit _ ok (ok .past .recordings .0) (ok .range .0) in
+    let g = fit _ ok (ok .past .recordings .1 .0) (ok .range .1 .0) in
     let is = m .scratch-words .ensures in (
-      (fit-workable f _ is (ok .past .scratch), fit-workable g _ is (ok .past .scratch), fit-length g ∙ sym (fit-length f)),
-      (omega (arith, fit-length f, ok .past .results .0), omega (arith, fit-length f, ok .past .results .1 .0)),
+      fit-workable f _ (fit-length f) is (ok .past .scratch),
+      fit-workable g _ (fit-length f) is (ok .past .scratch),
+      omega (arith, fit-length f, ok .past .results .0),
+      omega (arith, fit-length f, ok .past .results .1 .0),
     )
 
 returns-3 : tie.Need-returns-3
@@ -63,8 +66,7 @@ returns-3 c =
     let d = c .before .before .before in
     let m = d .before .before .before .before .before .before in
     let ok = passed (m .before) in
-    let counts = m .before .before .before .before .before .before .before .before .counts-at .ensures (ok .past .length-ok) in
-    carried-out ok refl (pair-done counts (m .scratch-words .ensures) ok (d .pair-of .ensures))
+    carried-out ok refl (pair-done (m .scratch-words .ensures) ok (d .pair-of .ensures))
 
 pub pair-spec : {M : Type 1} → statement M
 pair-spec =

@@ -8,7 +8,7 @@ use Rattle.refusals.proofs.Conditions.{one-below, two-below}
 use Rattle.spectra.specs.Calls.{Call}
 use Rattle.spectra.specs.Promises.{spectrumCall}
 use Rattle.spectra.proofs.Verdicts.{Passed6, Told, told, turned-down, carried-out}
-use Rattle.spectra.proofs.Accepted.{fits, fit-length, fit-workable, spectrum-done}
+use Rattle.spectra.proofs.Accepted.{fit, fit-length, fit-workable, spectrum-done}
 use Rattle.spectra.proofs.spectrum.Statement.{statement}
 use Rattle.spectra.proofs.spectrum.Tie as tie
 
@@ -39,8 +39,8 @@ spectrum-of-requires : tie.Need-spectrum-of-requires
 spectrum-of-requires c κs =
     let m = words c in
     let ok = passed (m .before) in
-    let (f, _) = fits ok in (
-      fit-workable f _ (m .scratch-words .ensures) (ok .past .scratch),
+    let f = fit _ ok (ok .past .recordings .0) (ok .range .0) in (
+      fit-workable f _ (fit-length f) (m .scratch-words .ensures) (ok .past .scratch),
       omega (arith, fit-length f, ok .past .results .0),
       omega (arith, fit-length f, ok .past .results .1 .0),
     )
@@ -50,8 +50,7 @@ returns-2 c =
     let d = c .before .before .before in
     let m = d .before .before .before .before .before in
     let ok = passed (m .before) in
-    let counts = m .before .before .before .before .before .counts-at .ensures (ok .past .length-ok) in
-    carried-out ok refl (spectrum-done counts (m .scratch-words .ensures) ok (d .spectrum-of .ensures))
+    carried-out ok refl (spectrum-done (m .scratch-words .ensures) ok (d .spectrum-of .ensures))
 
 pub spectrum-spec : {M : Type 1} → statement M
 spectrum-spec =

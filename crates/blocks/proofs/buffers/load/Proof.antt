@@ -1,8 +1,8 @@
 -- `blocks::buffers::load` meets its contract: after i turns i samples are stored. Assumes nothing.
 use Prim.Native.Nat.{_-_, _≤_}
 use native.Mathlib.Omega.{arith}
-use lib.ListN.{length}
 use lib.IntN.{pos}
+use lib.ListN.{length}
 use borrow.Author.Needs.{needs}
 use Rattle.words.specs.Words.{word}
 use Rattle.words.proofs.Writing.{Ends, ends-none, ends-front, ends-all}
@@ -15,9 +15,6 @@ Inv-loop block w₀ i₀ w i = (i ≤ length block) × Ends (pos 0) 0 i 0 (lengt
 
 abbrev μ-loop : tie.MeasureT-loop
 μ-loop block w₀ i₀ w i = length block - i
-
-cast-x : tie.Need-cast-x Inv-loop μ-loop
-cast-x c = let l = c .before .before in sample-widens (word (l .before .args .block .now) (l .loop .i)) (c .x .given)
 
 loop-again : tie.Need-loop-again Inv-loop μ-loop
 loop-again c = (search needs, ends-front (c .before .before .loop .inv .1) (omega arith) (sample-widened _ (c .x .given)))
@@ -34,7 +31,7 @@ load-spec =
     (λ c. search (needs, ends-none))  -- loop-holds
     (λ c. search needs)  -- mul-x
     (λ c. search needs)  -- shared-slice-copy-out-x
-    cast-x
+    (λ c. search (needs, sample-widens))  -- cast-x
     (λ c. search needs)  -- mul-x-2
     (λ c. search needs)  -- slice-set-from-x
     (λ c. search needs)  -- add-i

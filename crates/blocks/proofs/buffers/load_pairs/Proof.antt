@@ -3,7 +3,7 @@ use mathlib.Core.Path.{_≡_, sym, _∙_}
 use Prim.Native.Nat.{_+_, _-_, _*_, _/_, _≤_}
 use native.Mathlib.Omega.{arith}
 use lib.IntN.{pos}
-use lib.ListN.{length, length-set}
+use lib.ListN.{length-set}
 use borrow.Author.Needs.{needs}
 use Rattle.words.specs.Words.{word}
 use Rattle.words.proofs.Writing.{Ends, ends-none, ends-front, ends-all, written-one}
@@ -15,48 +15,33 @@ use Rattle.blocks.proofs.buffers.load_pairs.Statement.{statement}
 use Rattle.blocks.proofs.buffers.load_pairs.Tie as tie
 
 abbrev Inv-loop : tie.InvT-loop
-Inv-loop block w₀ n i₀ w i = (i ≤ n / 2) × Ends (pos 0) 0 (2 * i) 0 n (inPairs n (word block)) w₀ w
+Inv-loop block n w₀ i₀ w i = (i ≤ n / 2) × Ends (pos 0) 0 (2 * i) 0 n (inPairs n (word block)) w₀ w
 
 abbrev μ-loop : tie.MeasureT-loop
-μ-loop block w₀ n i₀ w i = n / 2 - i
-
-cast-x : tie.Need-cast-x Inv-loop μ-loop
-cast-x c = sample-widens (word (c .before .before .args .block .now) 0) (c .x .given)
+μ-loop block n w₀ i₀ w i = n / 2 - i
 
 returns : tie.Need-returns Inv-loop μ-loop
 returns c =
-    let s = c .before .before in
-    let x = word (s .args .block .now) in
-    rw (c .before .if1 .taken) (written-one (omega arith) (sample-widened (x 0) (c .x .given) ∙ sym (pairs-even 1 x 0)))
-
-cast-x-2 : tie.Need-cast-x-2 Inv-loop μ-loop
-cast-x-2 c = let l = c .before .before in sample-widens (word (l .before .before .args .block .now) (l .loop .i)) (c .x2 .given)
-
-cast-y : tie.Need-cast-y Inv-loop μ-loop
-cast-y c =
-    let l = c .before .before .before in
-    let block = l .before .before .args .block .now in
-    sample-widens (word block (length block - 1 - l .loop .i)) (c .y .given)
+    let x = word (c .before .before .args .block .now) in
+    rw (c .before .if1 .taken) (written-one (omega arith) (sample-widened _ (c .x .given) ∙ sym (pairs-even 1 x 0)))
 
 loop-again : tie.Need-loop-again Inv-loop μ-loop
 loop-again c =
     let l = c .before .before .before in
-    let block = l .before .before .args .block .now in
-    let n = length block in
-    let x = word block in
+    let n = l .before .before .args .n in
+    let x = word (l .before .before .args .block .now) in
     let i = l .loop .i in
     let two : 2 * i + 1 + 1 ≡ 2 * (i + 1) = omega arith in (
       omega arith,
       rw (sym two) (ends-front
-          (ends-front (l .loop .inv .1) (omega (arith, l .before .before .pre))
-          (sample-widened (x i) (c .before .x2 .given) ∙ sym (pairs-even n x i)))
-          (omega (arith, l .before .before .pre)) (sample-widened (x (n - 1 - i)) (c .y .given) ∙ sym (pairs-odd n x i))),
+          (ends-front (l .loop .inv .1) (omega arith) (sample-widened _ (c .before .x2 .given) ∙ sym (pairs-even n x i)))
+          (omega arith) (sample-widened _ (c .y .given) ∙ sym (pairs-odd n x i))),
     )
 
 returns-2 : tie.Need-returns-2 Inv-loop μ-loop
 returns-2 c =
     let s = c .before .before .before in
-    let n = length (s .args .block .now) in
+    let n = s .args .n in
     let e = half n (s .pre .0) (omega (arith, length-pos n (s .pre .0))) in
     ends-all (c .before .loop .inv .1) (omega (arith, e .twice))
 
@@ -67,14 +52,14 @@ load-pairs-spec =
     Inv-loop
     μ-loop
     (λ c. search needs)  -- shared-slice-copy-out-x
-    cast-x
+    (λ c. search (needs, sample-widens))  -- cast-x
     (λ c. search needs)  -- slice-set-from-x
     (λ c. search needs)  -- same-length
     returns
-    (λ c. (omega arith, ends-none))  -- loop-holds
+    (λ c. search (needs, ends-none))  -- loop-holds
     (λ c. search needs)  -- mul-x
     (λ c. search needs)  -- shared-slice-copy-out-x-2
-    cast-x-2
+    (λ c. search (needs, sample-widens))  -- cast-x-2
     (λ c. search needs)  -- mul-x-2
     (λ c. search needs)  -- mul-x-3
     (λ c. search needs)  -- slice-set-from-x-2
@@ -82,7 +67,7 @@ load-pairs-spec =
     (λ c. search needs)  -- sub-y-2
     (λ c. search needs)  -- mul-y
     (λ c. search needs)  -- shared-slice-copy-out-y
-    cast-y
+    (λ c. search (needs, sample-widens))  -- cast-y
     (λ c. search needs)  -- mul-y-2
     (λ c. search needs)  -- add-y
     (λ c. search needs)  -- mul-y-3
