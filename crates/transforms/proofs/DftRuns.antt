@@ -5,9 +5,10 @@
 --     odd-ready             then the DCT may be taken
 --     join-ready            then both may be joined
 --     dft-ends              what the join leaves is the transform
---     Run, lent-..          a run up to its fold, and from there the same where the DCT is taken of a tail that is lent
+--     lent-..               the same where the DCT was taken of a tail that was lent
 -- Assumes nothing.
 use mathlib.Core.Path.{_≡_, sym, ap, ap₂, _∙_, subst}
+use mathlib.Core.Bool.{true}
 use mathlib.Core.List.{List}
 use Prim.Native.Nat.{ℕ, suc, _+_, _-_, _*_, _/_, _≤_, _<_}
 use native.Mathlib.Nat.{le-refl, mul-le-mul-left, mul-le-mul-right}
@@ -17,7 +18,7 @@ use lib.ListN.{length}
 use Rattle.whole.proofs.Size.{within-size, size-add, within-sub, size-within}
 use Rattle.words.specs.Words.{Samples, word}
 use Rattle.words.proofs.Parts.{part, back, part-length, part-at}
-use Rattle.ffct.specs.Block.{level, largestSum}
+use Rattle.ffct.specs.Block.{isLength, level, largestSum}
 use Rattle.ffct.specs.Transforms.{Transform, evens, foldedSums, foldedDifferences, alternate, cosineDft, sineDft, dct}
 use Rattle.ffct.proofs.Lengths.{len}
 use Rattle.ffct.proofs.ElevenLengths.{as-len, half, Quarter, quarter}
@@ -248,66 +249,43 @@ module _ {transform : ℕ → Samples → Transform} {fold : ℕ → Samples →
             whole-at : (k : ℕ) → transform (level n) x .at k ≡ join n (even .at) (odd .at) k
             whole-at k = rw (Q .level-is) (rw (sym (Q .four)) at (K .step l x k))
 
--- ---- a run up to its fold; w₁ and t₁ are what the even samples left
-pub record Run (transform : ℕ → Samples → Transform) (fold : ℕ → Samples → Samples) (n s at : ℕ) (w₀ : List ℤ) (spent : Tally)
-    (w₂ : List ℤ) (t₂ : Tally) : Type 0 where
-  pub w₁ : List ℤ
-  pub t₁ : Tally
-  pub start : DftReady transform n s at w₀ spent
-  pub many : 4 ≤ n
-  pub evened : DftDone transform (n / 2) (2 * s) at w₀ w₁ spent t₁
-  pub folded : Folded fold n s (tail at n) w₁ w₂ t₁ t₂
+      -- ---- after the DCT of the tail, which was lent and came back as p
+      module _ {p : List ℤ} {t₃ : Tally} (oddened : DctDone (n / 4) (part b w₂) p t₂ t₃) where
+        whole-odd : Gives (dct l (word (part b w₂))) b (n / 4) w₂ (back b w₂ p) t₂ t₃
+        whole-odd = lent tail-starts oddened
 
-pub run-of : {transform : ℕ → Samples → Transform} {fold : ℕ → Samples → Samples} {n s at : ℕ} {w₀ w₁ w₂ : List ℤ} {spent t₁ t₂ : Tally} →
-    DftReady transform n s at w₀ spent → 4 ≤ n → DftDone transform (n / 2) (2 * s) at w₀ w₁ spent t₁ →
-    Folded fold n s (tail at n) w₁ w₂ t₁ t₂ → Run transform fold n s at w₀ spent w₂ t₂
-run-of start many evened folded = record { w₁ = _; t₁ = _; start = start; many = many; evened = evened; folded = folded }
+        pub lent-join-ready : JoinReady (joins n) n at (back b w₂ p) t₃
+        lent-join-ready = join-ready whole-odd
 
-module _ {transform : ℕ → Samples → Transform} {fold : ℕ → Samples → Samples} {join : ℕ → (ℕ → ℤ) → (ℕ → ℤ) → ℕ → ℤ} {joins : ℕ → ℕ}
-    (K : Kind transform fold join joins) {n s at : ℕ} {w₀ w₂ : List ℤ} {spent t₂ : Tally} (r : Run transform fold n s at w₀ spent w₂ t₂)
-  where
-    -- the tail may be lent to the DCT
-    pub lent-starts : tail at n ≤ length w₂
-    lent-starts = tail-starts K (r .start) (r .many) (r .evened) (r .folded)
-
-    pub lent-ready : DctReady (n / 4) (part (tail at n) w₂) t₂
-    lent-ready = odd-ready K (r .start) (r .many) (r .evened) (r .folded)
-
-    -- after the DCT of the tail, which came back as p
-    module _ {p : List ℤ} {t₃ : Tally} (oddened : DctDone (n / 4) (part (tail at n) w₂) p t₂ t₃) where
-      whole-odd : Gives (dct (level (n / 4)) (word (part (tail at n) w₂))) (tail at n) (n / 4) w₂ (back (tail at n) w₂ p) t₂ t₃
-      whole-odd = lent lent-starts oddened
-
-      pub lent-join-ready : JoinReady (joins n) n at (back (tail at n) w₂ p) t₃
-      lent-join-ready = join-ready K (r .start) (r .many) (r .evened) (r .folded) whole-odd
-
-      pub lent-ends : {w₄ : List ℤ} {t₄ : Tally} → Joined join (joins n) n at (back (tail at n) w₂ p) w₄ t₃ t₄ →
-          DftDone transform n s at w₀ w₄ spent t₄
-      lent-ends = dft-ends K (r .start) (r .many) (r .evened) (r .folded) whole-odd
+        pub lent-ends : {w₄ : List ℤ} {t₄ : Tally} → Joined join (joins n) n at (back b w₂ p) w₄ t₃ t₄ →
+            DftDone transform n s at w₀ w₄ spent t₄
+        lent-ends = dft-ends whole-odd
 
 -- the even samples' sine-DFT is zero where the join takes it to be
-module _ {n s at : ℕ} {w₀ w₂ : List ℤ} {spent t₂ : Tally} (r : Run sineDft foldedDifferences n s at w₀ spent w₂ t₂) where
+module _ {n s at : ℕ} {w₀ : List ℤ} {spent : Tally} (start : DftReady sineDft n s at w₀ spent) (many : 4 ≤ n)
+    {w₁ w₂ : List ℤ} {t₁ t₂ : Tally} (evened : DftDone sineDft (n / 2) (2 * s) at w₀ w₁ spent t₁)
+    (folded : Folded foldedDifferences n s (tail at n) w₁ w₂ t₁ t₂) where
   pub sine-zeros : {w₃ : List ℤ} {t₃ : Tally} → Gives (dct (level (n / 4)) (word (part (tail at n) w₂))) (tail at n) (n / 4) w₂ w₃ t₂ t₃ →
       (evenAt at w₃ 0 ≡ pos 0) × (evenAt at w₃ (n / 4) ≡ pos 0)
   sine-zeros oddened =
-      let at-k = even-word sine-kind (r .start) (r .many) (r .evened) (r .folded) oddened in (
+      let at-k = even-word sine-kind start many evened folded oddened in (
         at-k 0 (omega arith) ∙ sine-first _ _,
-        at-k (n / 4) (omega arith) ∙ sine-last _ _ (n / 4) (omega (arith, quarter-is sine-kind (r .start) (r .many))),
+        at-k (n / 4) (omega arith) ∙ sine-last _ _ (n / 4) (omega (arith, quarter-is sine-kind start many)),
       )
 
   pub lent-sine-ready : {p : List ℤ} {t₃ : Tally} → DctDone (n / 4) (part (tail at n) w₂) p t₂ t₃ →
       let w₃ = back (tail at n) w₂ p in
       JoinReady (n / 2 - 2) n at w₃ t₃ × (evenAt at w₃ 0 ≡ pos 0) × (evenAt at w₃ (n / 4) ≡ pos 0)
   lent-sine-ready done =
-      let z = sine-zeros (whole-odd sine-kind r done) in
-      (lent-join-ready sine-kind r done, z .0, z .1)
+      let z = sine-zeros (whole-odd sine-kind start many evened folded done) in
+      (lent-join-ready sine-kind start many evened folded done, z .0, z .1)
 
--- two differences are put at a time
+-- two differences are put at a time, where a block is not short
 multiple : (n k : ℕ) → n ≡ 8 * k → 8 * (n / 8) ≡ n
 multiple n k e = omega arith
 
-pub eighths : {n s at : ℕ} {w : List ℤ} {spent : Tally} → DftReady sineDft n s at w spent → 8 ≤ n → 8 * (n / 8) ≡ n
-eighths {n} r h =
-    let q = quarter n (r .ready .length-ok) (omega arith) in
+pub eighths : {n : ℕ} → isLength n ≡ true → 32 < n → 8 * (n / 8) ≡ n
+eighths {n} ok h =
+    let q = quarter n ok (omega arith) in
     let e = half (n / 4) (q .ok) (omega arith) in
     multiple n (len (level (n / 4 / 2))) (omega (arith, e .twice, q .four, as-len (n / 4) (q .ok)))

@@ -3,7 +3,7 @@
 -- Assumes nothing.
 use mathlib.Core.Path.{_≡_, sym, ap, _∙_}
 use mathlib.Core.List.{List}
-use Prim.Native.Nat.{ℕ, _+_, _/_, _≤_, _<_}
+use Prim.Native.Nat.{ℕ, suc, _+_, _/_, _^_, _≤_, _<_}
 use native.Mathlib.Nat.{mul-le-mul-right}
 use native.Mathlib.Omega.{arith}
 use lib.IntN.{ℤ, natAbs}
@@ -13,10 +13,10 @@ use Rattle.words.proofs.Parts.{part, back, back-length, back-front, back-at}
 use Rattle.ffct.specs.Block.{level, largestSum}
 use Rattle.ffct.specs.Transforms.{Transform}
 use Rattle.ffct.proofs.Lengths.{len}
-use Rattle.ffct.proofs.ElevenLengths.{as-len, level-le, length-pos}
+use Rattle.ffct.proofs.ElevenLengths.{as-len, level-le, length-pos, next-length}
 use Rattle.ffct.proofs.Sizes.{Inner, share-inner}
 use Rattle.counts.specs.declared.tally.Tally.{Tally}
-use Rattle.transforms.specs.Steps.{Ready, Gives}
+use Rattle.transforms.specs.Steps.{Ready, Gives, DftReady, DftDone, DctReady, DctDone}
 
 module _ {n : ℕ} {x : Samples} (r : Ready n x) where
   -- the inner transform of ffct's laws
@@ -42,3 +42,21 @@ lent {b = b} {before = before} {p = p} h g = record {
   tallied = g .tallied;
   len = back-length b before p h (g .len);
 }
+
+-- ---- the branches over short lengths: a length above 2^L and at most the next is the next, and a transform at that numeral is the one
+-- that is asked for
+module _ (L : ℕ) {n : ℕ} {w : List ℤ} {spent : Tally} (above : 2 ^ L < n) (below : n ≤ 2 ^ suc L) where
+  module _ {transform : ℕ → Samples → Transform} {s at : ℕ} (r : DftReady transform n s at w spent) where
+    pub dft-branch : DftReady transform (2 ^ suc L) s at w spent
+    dft-branch = rw (next-length L n (r .ready .length-ok) above below) at r
+
+    pub dft-branch-done : {v : List ℤ} {total : Tally} → DftDone transform (2 ^ suc L) s at w v spent total →
+        DftDone transform n s at w v spent total
+    dft-branch-done d = rw (next-length L n (r .ready .length-ok) above below) d
+
+  module _ (r : DctReady n w spent) where
+    pub dct-branch : DctReady (2 ^ suc L) w spent
+    dct-branch = rw (next-length L n (r .ready .length-ok) above below) at r
+
+    pub dct-branch-done : {v : List ℤ} {total : Tally} → DctDone (2 ^ suc L) w v spent total → DctDone n w v spent total
+    dct-branch-done d = rw (next-length L n (r .ready .length-ok) above below) d

@@ -1,46 +1,23 @@
 -- `transforms::short::cosine_32` meets its contract: a run of the cosine-DFT at that length. Assumes nothing.
 use borrow.Author.Needs.{needs}
-use lib.Dec.{lit≤}
-use Rattle.ffct.specs.Transforms.{cosineDft, foldedSums}
-use Rattle.transforms.proofs.DftRuns.{cosine-kind, even-ready, fold-ready, Run, run-of}
-use Rattle.transforms.proofs.DftRuns.{lent-starts, lent-ready, lent-join-ready, lent-ends}
+use Rattle.transforms.proofs.DftRuns.{cosine-kind, even-ready, fold-ready, tail-starts, odd-ready, lent-join-ready, lent-ends}
 use Rattle.transforms.proofs.short.cosine_32.Statement.{statement}
 use Rattle.transforms.proofs.short.cosine_32.Tie as tie
-
-put-folded-sums-requires : tie.Need-put-folded-sums-requires
-put-folded-sums-requires c κs =
-    let e = c .before .before in
-    fold-ready cosine-kind (e .before .before .pre .1) (lit≤ tt) (e .cosine-16 .ensures)
-
--- the run up to its fold
-run : (f : tie.After-put-folded-sums) →
-    let a = f .before .before .before .before .before .args in
-    let g = f .put-folded-sums in
-    Run cosineDft foldedSums 32 (a .stride) (a .at) (a .w .now) (a .spent) (g .last .0) (g .result)
-run f =
-    let e = f .before .before .before in
-    run-of (e .before .before .pre .1) (lit≤ tt) (e .cosine-16 .ensures) (f .put-folded-sums .ensures)
-
-returns : tie.Need-returns
-returns c =
-    let d = c .before .before .before .before in
-    lent-ends cosine-kind (run (d .before .before .before)) (d .dct-8 .ensures) (c .before .join-cosine .ensures)
 
 pub cosine-32-spec : {M : Type 1} → statement M
 cosine-32-spec =
     tie.close
     (tie.spec
     (λ c. search needs)  -- mul-cosine-16
-    (λ c κs. (c .before .pre .0, even-ready cosine-kind (c .before .pre .1) (lit≤ tt)))  -- cosine-16-requires
+    (λ c κs. search (needs, even-ready cosine-kind {n = 32}))  -- cosine-16-requires
     (λ c. search needs)  -- add-b
     (λ c. search needs)  -- add-b-2
-    put-folded-sums-requires
+    (λ c κs. search (needs, fold-ready cosine-kind {n = 32}))  -- put-folded-sums-requires
     (λ c. search needs)  -- mul-dct-8
-    (λ c. lent-starts cosine-kind (run (c .before)))  -- sub-dct-8
-    (λ c. lent-starts cosine-kind (run (c .before)))  -- part-dct-8-start
+    (λ c. search (needs, tail-starts cosine-kind {n = 32}))  -- sub-dct-8
+    (λ c. search (needs, tail-starts cosine-kind {n = 32}))  -- part-dct-8-start
     (λ c. search needs)  -- part-dct-8-end
-    (λ c κs. (search needs, lent-ready cosine-kind (run (c .before .before))))  -- dct-8-requires
-    (λ c κs. let d = c .before .before in
-    lent-join-ready cosine-kind (run (d .before .before .before)) (d .dct-8 .ensures))  -- join-cosine-requires
+    (λ c κs. search (needs, odd-ready cosine-kind {n = 32}))  -- dct-8-requires
+    (λ c κs. search (needs, lent-join-ready cosine-kind {n = 32}, c .before .before .dct-8 .ensures))  -- join-cosine-requires
     (λ c. search needs)  -- same-length
-    returns)
+    (λ c. search (needs, lent-ends cosine-kind {n = 32}, c .before .before .before .before .dct-8 .ensures)))  -- returns

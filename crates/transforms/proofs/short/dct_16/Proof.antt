@@ -1,35 +1,15 @@
 -- `transforms::short::dct_16` meets its contract: a run of the DCT at that length. Assumes nothing.
 use borrow.Author.Needs.{needs}
-use lib.Dec.{lit≤}
 use Rattle.transforms.proofs.DctRuns.{cosine-ready, sine-ready, rotation-ready, dct-ends}
 use Rattle.transforms.proofs.short.dct_16.Statement.{statement}
 use Rattle.transforms.proofs.short.dct_16.Tie as tie
-
-sine-16-requires : tie.Need-sine-16-requires
-sine-16-requires c κs =
-    let d = c .before .before in
-    let s = d .before .before in
-    (s .pre .0, sine-ready (s .pre .1) (lit≤ tt) (d .cosine-16 .ensures))
-
-rotate-requires : tie.Need-rotate-requires
-rotate-requires c κs =
-    let e = c .before .before in
-    let d = e .before .before .before in
-    let s = d .before .before in
-    (s .pre .0, rotation-ready (s .pre .1) (lit≤ tt) (d .cosine-16 .ensures) (e .sine-16 .ensures))
-
-returns : tie.Need-returns
-returns c =
-    let e = c .before .before .before .before in
-    let d = e .before .before .before in
-    dct-ends (d .before .before .pre .1) (lit≤ tt) (d .cosine-16 .ensures) (e .sine-16 .ensures) (c .before .rotate .ensures)
 
 pub dct-16-spec : {M : Type 1} → statement M
 dct-16-spec =
     tie.close
     (tie.spec
-    (λ c κs. (c .before .pre .0, cosine-ready (c .before .pre .1) (lit≤ tt)))  -- cosine-16-requires
-    sine-16-requires
-    rotate-requires
+    (λ c κs. search (needs, cosine-ready {n = 16}))  -- cosine-16-requires
+    (λ c κs. search (needs, sine-ready {n = 16}))  -- sine-16-requires
+    (λ c κs. search (needs, rotation-ready {n = 16}))  -- rotate-requires
     (λ c. search needs)  -- same-length
-    returns)
+    (λ c. search (needs, dct-ends {n = 16})))  -- returns

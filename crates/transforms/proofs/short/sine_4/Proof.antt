@@ -5,7 +5,7 @@ use lib.Dec.{lit≤}
 use Rattle.ffct.specs.Transforms.{sineDft, foldedDifferences}
 use Rattle.transforms.specs.Steps.{DftDone, Folded}
 use Rattle.transforms.proofs.Bases.{sine-few, four-ready, four-folded, dct-single}
-use Rattle.transforms.proofs.DftRuns.{sine-kind, even-ready, fold-ready, join-ready, run-of, sine-zeros, dft-ends}
+use Rattle.transforms.proofs.DftRuns.{sine-kind, even-ready, fold-ready, join-ready, sine-zeros, dft-ends}
 use Rattle.transforms.proofs.short.sine_4.Statement.{statement}
 use Rattle.transforms.proofs.short.sine_4.Tie as tie
 
@@ -25,15 +25,12 @@ folded c =
     let e = c .before .before .before in
     four-folded (fold-ready sine-kind (e .before .before .pre) (lit≤ tt) (even e)) (c .put-difference .ensures)
 
-put-difference-requires : tie.Need-put-difference-requires
-put-difference-requires c κs = let e = c .before .before in four-ready (fold-ready sine-kind (e .before .before .pre) (lit≤ tt) (even e))
-
 join-sine-requires : tie.Need-join-sine-requires
 join-sine-requires c κs =
     let f = c .before .before in
     let e = f .before .before .before in
     let s = e .before .before in
-    let z = sine-zeros (run-of (s .pre) (lit≤ tt) (even e) (folded f)) dct-single in
+    let z = sine-zeros (s .pre) (lit≤ tt) (even e) (folded f) dct-single in
     (join-ready sine-kind (s .pre) (lit≤ tt) (even e) (folded f) dct-single, z .0, z .1)
 
 returns : tie.Need-returns
@@ -52,7 +49,7 @@ sine-4-spec =
     (λ c. search needs)  -- sub-put-difference
     (λ c. search needs)  -- add-put-difference
     (λ c. search needs)  -- add-put-difference-2
-    put-difference-requires
+    (λ c κs. search (needs, four-ready, fold-ready sine-kind {n = 4}, even (c .before .before)))  -- put-difference-requires
     join-sine-requires
     (λ c. search needs)  -- same-length
     returns)

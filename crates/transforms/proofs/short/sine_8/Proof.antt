@@ -1,46 +1,23 @@
 -- `transforms::short::sine_8` meets its contract: a run of the sine-DFT at that length. Assumes nothing.
-use mathlib.Core.Path.{refl}
 use borrow.Author.Needs.{needs}
-use lib.Dec.{lit≤}
-use Rattle.ffct.specs.Transforms.{sineDft, foldedDifferences}
-use Rattle.transforms.proofs.DftRuns.{sine-kind, even-ready, fold-ready, Run, run-of}
-use Rattle.transforms.proofs.DftRuns.{lent-starts, lent-ready, lent-sine-ready, lent-ends}
+use Rattle.transforms.proofs.DftRuns.{sine-kind, even-ready, fold-ready, tail-starts, odd-ready, lent-sine-ready, lent-ends}
 use Rattle.transforms.proofs.short.sine_8.Statement.{statement}
 use Rattle.transforms.proofs.short.sine_8.Tie as tie
-
-put-folded-differences-requires : tie.Need-put-folded-differences-requires
-put-folded-differences-requires c κs =
-    let e = c .before .before in
-    (fold-ready sine-kind (e .before .before .pre .1) (lit≤ tt) (e .sine-4 .ensures), refl)
-
--- the run up to its fold
-run : (f : tie.After-put-folded-differences) →
-    let a = f .before .before .before .before .before .args in
-    let g = f .put-folded-differences in
-    Run sineDft foldedDifferences 8 (a .stride) (a .at) (a .w .now) (a .spent) (g .last .0) (g .result)
-run f =
-    let e = f .before .before .before in
-    run-of (e .before .before .pre .1) (lit≤ tt) (e .sine-4 .ensures) (f .put-folded-differences .ensures)
-
-returns : tie.Need-returns
-returns c =
-    let d = c .before .before .before .before in
-    lent-ends sine-kind (run (d .before .before .before)) (d .dct-2 .ensures) (c .before .join-sine .ensures)
 
 pub sine-8-spec : {M : Type 1} → statement M
 sine-8-spec =
     tie.close
     (tie.spec
     (λ c. search needs)  -- mul-sine-4
-    (λ c κs. even-ready sine-kind (c .before .pre .1) (lit≤ tt))  -- sine-4-requires
+    (λ c κs. search (needs, even-ready sine-kind {n = 8}))  -- sine-4-requires
     (λ c. search needs)  -- add-b
     (λ c. search needs)  -- add-b-2
-    put-folded-differences-requires
+    (λ c κs. search (needs, fold-ready sine-kind {n = 8}))  -- put-folded-differences-requires
     (λ c. search needs)  -- mul-dct-2
-    (λ c. lent-starts sine-kind (run (c .before)))  -- sub-dct-2
-    (λ c. lent-starts sine-kind (run (c .before)))  -- part-dct-2-start
+    (λ c. search (needs, tail-starts sine-kind {n = 8}))  -- sub-dct-2
+    (λ c. search (needs, tail-starts sine-kind {n = 8}))  -- part-dct-2-start
     (λ c. search needs)  -- part-dct-2-end
-    (λ c κs. (search needs, lent-ready sine-kind (run (c .before .before))))  -- dct-2-requires
-    (λ c κs. let d = c .before .before in lent-sine-ready (run (d .before .before .before)) (d .dct-2 .ensures))  -- join-sine-requires
+    (λ c κs. search (needs, odd-ready sine-kind {n = 8}))  -- dct-2-requires
+    (λ c κs. search (needs, lent-sine-ready {n = 8}, c .before .before .dct-2 .ensures))  -- join-sine-requires
     (λ c. search needs)  -- same-length
-    returns)
+    (λ c. search (needs, lent-ends sine-kind {n = 8}, c .before .before .before .before .dct-2 .ensures)))  -- returns
