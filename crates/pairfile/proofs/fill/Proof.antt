@@ -23,9 +23,6 @@ loop-again c = (
       (toZ-ofZ (sfits-of (c .signed-at .ok)) ∙ c .signed-at .ensures),
 )
 
-returns : tie.Need-returns Inv-loop μ-loop
-returns c = ends-all (c .before .loop .inv .1) (omega arith)
-
 pub fill-spec : {M : Type 1} → statement M
 fill-spec =
     tie.close
@@ -42,4 +39,4 @@ fill-spec =
     (λ c. search needs)  -- loop-less
     loop-again
     (λ c. search needs)  -- same-length
-    returns)
+    (λ c. ends-all (c .before .loop .inv .1) (omega arith)))  -- returns

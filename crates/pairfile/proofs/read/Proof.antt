@@ -78,30 +78,6 @@ passed-6 c =
     record { past = passed-3 (lent-to s); range = (in-a s, (in-b, tt)) }
 
 -- ---- the refusals
-returns : tie.Need-returns
-returns c = read-refused (refused-7 (c .if1 .taken))
-
-returns-2 : tie.Need-returns-2
-returns-2 c = read-refused (refused-8 (c .before .before .if1 .left) (inl (omega arith)))
-
-returns-3 : tie.Need-returns-3
-returns-3 c = read-refused (refused-8 (c .before .before .before .if1 .left) (inr (omega arith)))
-
-returns-4 : tie.Need-returns-4
-returns-4 c = read-refused (refused-9 (passed-8 (c .before)) (λ e. omega arith))
-
-returns-5 : tie.Need-returns-5
-returns-5 c = read-refused (refused-1 (passed-9 (c .before .before .before)) (blocks (c .before) ∙ not-true _ (c .if5 .taken)))
-
-returns-6 : tie.Need-returns-6
-returns-6 c = read-refused (refused-3 (passed-1 (c .before)) (inl (omega arith)))
-
-returns-7 : tie.Need-returns-7
-returns-7 c = read-refused (refused-3 (passed-1 (c .before .before)) (inr (inl (omega arith))))
-
-returns-8 : tie.Need-returns-8
-returns-8 c = read-refused (refused-6 (passed-3 (c .before .before)) (inl (out-of-a (c .before), omega arith)))
-
 returns-9 : tie.Need-returns-9
 returns-9 c =
     let s = searched (c .before) in
@@ -120,24 +96,24 @@ pub read-spec : {M : Type 1} → statement M
 read-spec =
     tie.close
     (tie.spec
-    returns
+    (λ c. read-refused (refused-7 (c .if1 .taken)))  -- returns
     (λ c κs. search needs)  -- unsigned-at-requires
     (λ c. search needs)  -- cast-m
-    returns-2
-    returns-3
+    (λ c. read-refused (refused-8 (c .before .before .if1 .left) (inl (omega arith))))  -- returns-2
+    (λ c. read-refused (refused-8 (c .before .before .before .if1 .left) (inr (omega arith))))  -- returns-3
     (λ c. search needs)  -- mul-if4
     (λ c. search needs)  -- add-if4
-    returns-4
+    (λ c. read-refused (refused-9 (passed-8 (c .before)) (λ e. omega arith)))  -- returns-4
     (λ c κs. search needs)  -- unsigned-at-requires-2
     (λ c. search needs)  -- cast-n
     (λ c κs. search needs)  -- is-length-requires
-    returns-5
-    returns-6
-    returns-7
+    (λ c. read-refused (refused-1 (passed-9 (c .before .before .before)) (blocks (c .before) ∙ not-true _ (c .if5 .taken))))  -- returns-5
+    (λ c. read-refused (refused-3 (passed-1 (c .before)) (inl (omega arith))))  -- returns-6
+    (λ c. read-refused (refused-3 (passed-1 (c .before .before)) (inr (inl (omega arith)))))  -- returns-7
     (λ c. search needs)  -- mul-of-b
     (λ c. search needs)  -- add-of-b
     (λ c κs. search needs)  -- first-out-requires
-    returns-8
+    (λ c. read-refused (refused-6 (passed-3 (c .before .before)) (inl (out-of-a (c .before), omega arith))))  -- returns-8
     (λ c κs. search needs)  -- first-out-requires-2
     returns-9
     (λ c κs. search needs)  -- fill-requires

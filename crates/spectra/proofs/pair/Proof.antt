@@ -36,9 +36,6 @@ passed c =
     let (p, range) = passes (c .before .before) in
     record { past = p; range = (range, (first-end _ _ _ (c .before .first-out .ensures) (c .if1 .left), tt)) }
 
-returns : tie.Need-returns
-returns c = turned-down (refl, refl, refl) (subst (Told _ _) (c .before .tested .given .1) (told-by (c .before .before .before)))
-
 returns-2 : tie.Need-returns-2
 returns-2 c =
     let (p, range) = passes (c .before .before) in
@@ -77,7 +74,7 @@ pair-spec =
     (λ c κs. search needs)  -- shorter-requires-2
     (λ c κs. search needs)  -- test-requires
     (λ c. search needs)  -- enum-known-tested
-    returns
+    (λ c. turned-down (refl, refl, refl) (subst (Told _ _) (c .before .tested .given .1) (told-by (c .before .before .before))))  -- returns
     (λ c. search needs)  -- enum-told
     (λ c. record { fits = omega (arith, passes c .0 .recordings .0) })  -- add-end
     (λ c κs. passes c .0 .recordings .1 .0)  -- first-out-requires

@@ -28,9 +28,6 @@ passed c =
     let (p, range) = subst (Told _ _) (c .enum-told .given .1) (told-by (c .before .before)) in
     record { past = p; range = (range, tt) }
 
-returns : tie.Need-returns
-returns c = turned-down (refl, refl, refl) (subst (Told _ _) (c .before .tested .given .1) (told-by (c .before .before .before)))
-
 -- ---- the accepted call
 abbrev words : tie.After-spectrum-of-arg4 → tie.After-scratch-words
 words c = c .before .before .before .before
@@ -61,7 +58,7 @@ spectrum-spec =
     (λ c. search needs)  -- add-test
     (λ c κs. search needs)  -- test-requires
     (λ c. search needs)  -- enum-known-tested
-    returns
+    (λ c. turned-down (refl, refl, refl) (subst (Told _ _) (c .before .tested .given .1) (told-by (c .before .before .before))))  -- returns
     (λ c. search needs)  -- enum-told
     (λ c. record { fits = omega (arith, passed c .past .recordings .0) })  -- add-end
     (λ c κs. length-le _ (passed c .past .length-ok))  -- scratch-words-requires

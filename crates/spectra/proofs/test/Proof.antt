@@ -63,9 +63,6 @@ returns-4 c =
     let short = lt-ltb (a .scratch) (scratchWords (a .length)) (omega arith) in
     (search needs, λ rest. rw (passed-1 (p .before .before), le-ltb _ _ (passed-2 p), le-ltb _ _ (c .before .before .if3 .left), short))
 
-returns-5 : tie.Need-returns-5
-returns-5 c = (search needs, λ rest. past-4 (c .before) rest ∙ rw (lt-ltb _ _ (c .if5 .taken)))
-
 returns-6 : tie.Need-returns-6
 returns-6 c =
     let p = c .before .before in
@@ -96,7 +93,7 @@ test-spec =
     returns-3
     (λ c κs. length-le _ (passed-1 (c .before .before .before)))  -- scratch-words-requires
     returns-4
-    returns-5
+    (λ c. (search needs, λ rest. past-4 (c .before) rest ∙ rw (lt-ltb _ _ (c .if5 .taken))))  -- returns-5
     (λ c κs. inside (c .before))  -- first-out-requires
     (λ c. record { fits = omega (arith, inside (c .before .before)) })  -- add-if6
     returns-6

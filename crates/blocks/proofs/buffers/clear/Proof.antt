@@ -15,12 +15,6 @@ Inv-loop w₀ i₀ w i = (i ≤ length w₀) × Ends (pos 0) 0 i 0 (length w₀)
 abbrev μ-loop : tie.MeasureT-loop
 μ-loop w₀ i₀ w i = length w₀ - i
 
-loop-again : tie.Need-loop-again Inv-loop μ-loop
-loop-again c = (search needs, ends-front (c .before .loop .inv .1) (omega arith) refl)
-
-returns : tie.Need-returns Inv-loop μ-loop
-returns c = ends-all (c .before .loop .inv .1) (omega arith)
-
 pub clear-spec : {M : Type 1} → statement M
 clear-spec =
     tie.close
@@ -32,6 +26,6 @@ clear-spec =
     (λ c. search needs)  -- slice-set-of-w
     (λ c. search needs)  -- add-i
     (λ c. search needs)  -- loop-less
-    loop-again
+    (λ c. (search needs, ends-front (c .before .loop .inv .1) (omega arith) refl))  -- loop-again
     (λ c. search needs)  -- same-length
-    returns)
+    (λ c. ends-all (c .before .loop .inv .1) (omega arith)))  -- returns

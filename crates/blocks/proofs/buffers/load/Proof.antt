@@ -16,12 +16,6 @@ Inv-loop block w₀ i₀ w i = (i ≤ length block) × Ends (pos 0) 0 i 0 (lengt
 abbrev μ-loop : tie.MeasureT-loop
 μ-loop block w₀ i₀ w i = length block - i
 
-loop-again : tie.Need-loop-again Inv-loop μ-loop
-loop-again c = (search needs, ends-front (c .before .before .loop .inv .1) (omega arith) (sample-widened _ (c .x .given)))
-
-returns : tie.Need-returns Inv-loop μ-loop
-returns c = ends-all (c .before .loop .inv .1) (omega arith)
-
 pub load-spec : {M : Type 1} → statement M
 load-spec =
     tie.close
@@ -36,6 +30,6 @@ load-spec =
     (λ c. search needs)  -- slice-set-from-x
     (λ c. search needs)  -- add-i
     (λ c. search needs)  -- loop-less
-    loop-again
+    (λ c. (search needs, ends-front (c .before .before .loop .inv .1) (omega arith) (sample-widened _ (c .x .given))))  -- loop-again
     (λ c. search needs)  -- same-length
-    returns)
+    (λ c. ends-all (c .before .loop .inv .1) (omega arith)))  -- returns

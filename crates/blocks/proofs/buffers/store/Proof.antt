@@ -20,9 +20,6 @@ loop-again c =
     let l = c .before .before in
     (search needs, ends-front (l .loop .inv .1) (omega arith) (coefficient-narrowed _ (l .before .pre .1 (l .loop .k) (omega arith))))
 
-returns : tie.Need-returns Inv-loop μ-loop
-returns c = ends-all (c .before .loop .inv .1) (omega arith)
-
 pub store-spec : {M : Type 1} → statement M
 store-spec =
     tie.close
@@ -40,4 +37,4 @@ store-spec =
     (λ c. search needs)  -- loop-less
     loop-again
     (λ c. search needs)  -- same-length
-    returns)
+    (λ c. ends-all (c .before .loop .inv .1) (omega arith)))  -- returns
