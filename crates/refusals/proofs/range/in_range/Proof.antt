@@ -21,9 +21,11 @@ not-low : (z : ℤ) → ltZ z (negsuc 999999) ≡ false → leZ z (pos 1000000) 
 not-low (pos n) e = refl
 not-low (negsuc n) e = sym (le-leb (suc n) largestSample (omega (arith, ltb-false 999999 n e)))
 
+returns : tie.Need-returns
+returns c = sym (too-low (c .before .args .x) (rw (toZ-ofZ (c .before .fits .x)) at (c .if1 .taken)))
+
+returns-2 : tie.Need-returns-2
+returns-2 c = rw (toZ-ofZ (c .before .fits .x)) (not-low (c .before .args .x) (rw (toZ-ofZ (c .before .fits .x)) at (c .if1 .left)))
+
 pub in-range-spec : {M : Type 1} → statement M
-in-range-spec =
-    tie.close
-    (tie.spec
-    (λ c. sym (too-low (c .before .args .x) (rw (toZ-ofZ (c .before .fits .x)) at (c .if1 .taken))))  -- returns
-    (λ c. rw (toZ-ofZ (c .before .fits .x)) (not-low (c .before .args .x) (rw (toZ-ofZ (c .before .fits .x)) at (c .if1 .left)))))  -- returns-2
+in-range-spec = tie.close (tie.spec returns returns-2)
