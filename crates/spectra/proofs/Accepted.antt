@@ -1,9 +1,9 @@
 -- An accepted call: what it has left behind, from what the functions on a block promise.
 -- Assumes nothing.
-use mathlib.Core.Path.{_≡_, sym, ap, _∙_}
+use mathlib.Core.Path.{_≡_, refl, sym, ap, _∙_}
 use mathlib.Core.Bool.{true}
 use mathlib.Core.List.{List, _++_}
-use Prim.Native.Nat.{ℕ, _+_, _-_, _≤_, _<_}
+use Prim.Native.Nat.{ℕ, _+_, _-_, _/_, _≤_, _<_}
 use native.Mathlib.Omega.{arith}
 use lib.IntN.{ℤ, pos}
 use lib.ListN.{length, take, drop, length-drop, List·getD-append}
@@ -21,9 +21,10 @@ use Rattle.blocks.specs.Blocks.{Workable, CosineMade, SpectrumMade, PairMade}
 use Rattle.blocks.proofs.BlockRuns.{accepted}
 use Rattle.refusals.specs.Refusals.{scratchWords, block, firstOut}
 use Rattle.refusals.proofs.Ranges.{all-in}
+use Rattle.spectra.specs.declared.Answer.the-variants.{Done}
 use Rattle.spectra.specs.Calls.{Call}
-use Rattle.spectra.specs.Promises.{CosineDone, cosineCall, SpectrumDone, spectrumCall, PairDone, pairCall}
-use Rattle.spectra.proofs.Verdicts.{Passed6}
+use Rattle.spectra.specs.Promises.{CosinePromise, cosineCall, SpectrumPromise, spectrumCall, PairPromise, pairCall}
+use Rattle.spectra.proofs.Verdicts.{Passed6, carried-out}
 
 -- ---- the block of N samples from s on, lent as a slice of the recording r
 abbrev pub lent : List ℤ → ℕ → ℕ → List ℤ
@@ -64,7 +65,10 @@ module _ {recording : List ℤ} {start N : ℕ} (f : Fit recording start N) wher
     room = omega (arith, is, length-take-le m scratch (omega arith));
   })
 
--- the lent part of a buffer, put back to its front
+-- the lent part of a buffer; and put back to its front
+pub taken : (m : ℕ) (w : List ℤ) → m ≤ length w → m ≡ length (take m w)
+taken m w h = sym (length-take-le m w h)
+
 put-back : {m n : ℕ} {g : ℕ → ℤ} {w w′ : List ℤ} → m ≡ n → m ≤ length w
     → Written 0 (length (take m w)) g (take m w) w′ → Written 0 n g w (w′ ++ drop m w)
 put-back {m} {n} {g} {w} {w′} e h p =
@@ -80,80 +84,112 @@ put-back {m} {n} {g} {w} {w′} e h p =
       len = length-front w w′ m (p .len);
     }
 
--- ---- what an accepted call has done. m words of scratch were lent, and came back as w′
-module _ {N m allowance start : ℕ} {scratch w′ : List ℤ} {spent : Tally} (is : m ≡ scratchWords N) where
-  pub cosine-done : {r coefficients coefficients′ : List ℤ} → Passed6 (cosineCall r start N allowance coefficients scratch)
-      → let n = length (lent r start N) in
-      CosineMade n (dct (level n) (word (lent r start N))) coefficients (take m scratch) coefficients′ w′ spent
-      → CosineDone N (block r start) allowance coefficients scratch coefficients′ (w′ ++ drop m scratch) spent
-  cosine-done {r} passed done =
-      let f = fit r passed (passed .past .recordings .0) (passed .range .0) in
-      let x = block r start in
-      let made = rw (fit-length f, dct-same (level N) _ x (fit-same f)) at done in
-      let (products, sums) = made .tallied in
-      let forms = published (level N) in
-      record {
-        block = fit-block f;
-        words = made .words;
-        near = λ k h. rw (front (made .words) k h) ((rw (sym (is-power N (f .length-ok))) at (limits (level N) x (fit-block f) .dct)) k h);
-        scratchCleared = put-back is (omega (arith, is, passed .past .scratch)) (made .cleared);
-        tallied = made .tallied;
-        published = (ap pos products ∙ forms .dctP x, ap pos sums ∙ forms .dctS x);
-        allowed = omega (arith, products, passed .past .allowance);
-      }
+-- ---- what an accepted call asks of the functions on a block, and what it has done. m words of scratch are lent, and come back as w′
+module _ {N m allowance start : ℕ} {scratch : List ℤ} (is : m ≡ scratchWords N) where
+  module _ {r coefficients : List ℤ} (passed : Passed6 (cosineCall r start N allowance coefficients scratch)) where
+    fit-x : Fit r start N
+    fit-x = fit r passed (passed .past .recordings .0) (passed .range .0)
 
-  pub spectrum-done : {r cosine sine cosine′ sine′ : List ℤ} → Passed6 (spectrumCall r start N allowance cosine sine scratch)
-      → let n = length (lent r start N) in
-      SpectrumMade n (spectrum (level n) (word (lent r start N))) cosine sine (take m scratch) cosine′ sine′ w′ spent
-      → SpectrumDone N (block r start) allowance cosine sine scratch cosine′ sine′ (w′ ++ drop m scratch) spent
-  unfolding spectrum
-  spectrum-done {r} passed done =
-      let f = fit r passed (passed .past .recordings .0) (passed .range .0) in
-      let x = block r start in
-      let made = rw (fit-length f, spectrum-same (level N) _ x (fit-same f)) at done in
-      let power = sym (is-power N (f .length-ok)) in
-      let near = limits (level N) x (fit-block f) in
-      let (products, sums) = made .tallied in
-      let forms = published (level N) in
-      record {
-        block = fit-block f;
-        cosineWords = made .cosineWords;
-        sineWords = made .sineWords;
-        cosineNear = λ k h. rw (front (made .cosineWords) k (omega (arith, h))) ((rw power at (near .cosine)) k h);
-        sineNear = λ k h. rw (front (made .sineWords) k (omega (arith, h))) ((rw power at (near .sine)) k h);
-        scratchCleared = put-back is (omega (arith, is, passed .past .scratch)) (made .cleared);
-        tallied = made .tallied;
-        published = λ h. let some = some-level N (f .length-ok) h in
-            (ap pos products ∙ forms .spectrumP x some, ap pos sums ∙ forms .spectrumS x some);
-        nothingAtOne = λ e. omega (arith, made .tallied, forms .spectrumAtOne x (one-level N e));
-        allowed = omega (arith, products, passed .past .allowance);
-      }
+    pub cosine-ready : let n = length (lent r start N) in Workable n (lent r start N) (take m scratch) × (n ≤ length coefficients)
+    cosine-ready = let e = fit-length fit-x in
+        (fit-workable fit-x scratch e is (passed .past .scratch), omega (arith, e, passed .past .results .0))
 
-  pub pair-done : {a b real imaginary real′ imaginary′ : List ℤ} → Passed6 (pairCall a b start N allowance real imaginary scratch)
-      → let n = length (lent a start N) in
-      PairMade n (pair (level n) (word (lent a start N)) (word (lent b start N))) real imaginary (take m scratch) real′ imaginary′ w′ spent
-      → PairDone N (block a start) (block b start) allowance real imaginary scratch real′ imaginary′ (w′ ++ drop m scratch) spent
-  pair-done {a} {b} passed done =
-      let f = fit a passed (passed .past .recordings .0) (passed .range .0) in
-      let g = fit b passed (passed .past .recordings .1 .0) (passed .range .1 .0) in
-      let x = block a start in
-      let y = block b start in
-      let made = rw (fit-length f, pair-same (level N) _ x _ y (fit-same f) (fit-same g)) at done in
-      let power = sym (is-power N (f .length-ok)) in
-      let near = pair-limits (level N) x y (fit-block f) (fit-block g) in
-      let (products, sums) = made .tallied in
-      let forms = published (level N) in
-      record {
-        blockA = fit-block f;
-        blockB = fit-block g;
-        realWords = made .realWords;
-        imaginaryWords = made .imaginaryWords;
-        realNear = λ k h. rw (front (made .realWords) k h) ((rw power at (near .real)) k h);
-        imaginaryNear = λ k h. rw (front (made .imaginaryWords) k h) ((rw power at (near .imaginary)) k h);
-        scratchCleared = put-back is (omega (arith, is, passed .past .scratch)) (made .cleared);
-        tallied = made .tallied;
-        published = λ h. let some = some-level N (f .length-ok) h in
-            (ap pos products ∙ forms .pairP x y some, ap pos sums ∙ forms .pairS x y some);
-        nothingAtOne = λ e. omega (arith, made .tallied, forms .pairAtOne x y (one-level N e));
-        allowed = omega (arith, products, passed .past .allowance);
-      }
+    pub cosine-done : {coefficients′ w′ : List ℤ} {spent : Tally} → let n = length (lent r start N) in
+        CosineMade n (dct (level n) (word (lent r start N))) coefficients (take m scratch) coefficients′ w′ spent
+        → CosinePromise r start N allowance coefficients scratch coefficients′ (w′ ++ drop m scratch) (Done spent)
+    cosine-done done =
+        let x = block r start in
+        let made = rw (fit-length fit-x, dct-same (level N) _ x (fit-same fit-x)) at done in
+        let (products, sums) = made .tallied in
+        let forms = published (level N) in
+        let near = limits (level N) x (fit-block fit-x) .dct in
+        carried-out passed refl (record {
+          block = fit-block fit-x;
+          words = made .words;
+          near = λ k h. rw (front (made .words) k h) ((rw (sym (is-power N (fit-x .length-ok))) at near) k h);
+          scratchCleared = put-back is (omega (arith, is, passed .past .scratch)) (made .cleared);
+          tallied = made .tallied;
+          published = (ap pos products ∙ forms .dctP x, ap pos sums ∙ forms .dctS x);
+          allowed = omega (arith, products, passed .past .allowance);
+        })
+
+  module _ {r cosine sine : List ℤ} (passed : Passed6 (spectrumCall r start N allowance cosine sine scratch)) where
+    fit-r : Fit r start N
+    fit-r = fit r passed (passed .past .recordings .0) (passed .range .0)
+
+    pub spectrum-ready : let n = length (lent r start N) in
+        Workable n (lent r start N) (take m scratch) × (n / 2 + 1 ≤ length cosine) × (n / 2 + 1 ≤ length sine)
+    spectrum-ready = let e = fit-length fit-r in (
+      fit-workable fit-r scratch e is (passed .past .scratch),
+      omega (arith, e, passed .past .results .0),
+      omega (arith, e, passed .past .results .1 .0),
+    )
+
+    pub spectrum-done : {cosine′ sine′ w′ : List ℤ} {spent : Tally} → let n = length (lent r start N) in
+        SpectrumMade n (spectrum (level n) (word (lent r start N))) cosine sine (take m scratch) cosine′ sine′ w′ spent
+        → SpectrumPromise r start N allowance cosine sine scratch cosine′ sine′ (w′ ++ drop m scratch) (Done spent)
+    unfolding spectrum
+    spectrum-done done =
+        let x = block r start in
+        let made = rw (fit-length fit-r, spectrum-same (level N) _ x (fit-same fit-r)) at done in
+        let power = sym (is-power N (fit-r .length-ok)) in
+        let near = limits (level N) x (fit-block fit-r) in
+        let (products, sums) = made .tallied in
+        let forms = published (level N) in
+        carried-out passed refl (record {
+          block = fit-block fit-r;
+          cosineWords = made .cosineWords;
+          sineWords = made .sineWords;
+          cosineNear = λ k h. rw (front (made .cosineWords) k (omega (arith, h))) ((rw power at (near .cosine)) k h);
+          sineNear = λ k h. rw (front (made .sineWords) k (omega (arith, h))) ((rw power at (near .sine)) k h);
+          scratchCleared = put-back is (omega (arith, is, passed .past .scratch)) (made .cleared);
+          tallied = made .tallied;
+          published = λ h. let some = some-level N (fit-r .length-ok) h in
+              (ap pos products ∙ forms .spectrumP x some, ap pos sums ∙ forms .spectrumS x some);
+          nothingAtOne = λ e. omega (arith, made .tallied, forms .spectrumAtOne x (one-level N e));
+          allowed = omega (arith, products, passed .past .allowance);
+        })
+
+  module _ {a b real imaginary : List ℤ} (passed : Passed6 (pairCall a b start N allowance real imaginary scratch)) where
+    fit-a : Fit a start N
+    fit-a = fit a passed (passed .past .recordings .0) (passed .range .0)
+
+    fit-b : Fit b start N
+    fit-b = fit b passed (passed .past .recordings .1 .0) (passed .range .1 .0)
+
+    pub pair-ready : let n = length (lent a start N) in
+        Workable n (lent a start N) (take m scratch) × Workable n (lent b start N) (take m scratch)
+        × (n ≤ length real) × (n ≤ length imaginary)
+    pair-ready = let e = fit-length fit-a in (
+      fit-workable fit-a scratch e is (passed .past .scratch),
+      fit-workable fit-b scratch e is (passed .past .scratch),
+      omega (arith, e, passed .past .results .0),
+      omega (arith, e, passed .past .results .1 .0),
+    )
+
+    pub pair-done : {real′ imaginary′ w′ : List ℤ} {spent : Tally} → let n = length (lent a start N) in
+        PairMade n (pair (level n) (word (lent a start N)) (word (lent b start N))) real imaginary (take m scratch)
+        real′ imaginary′ w′ spent
+        → PairPromise a b start N allowance real imaginary scratch real′ imaginary′ (w′ ++ drop m scratch) (Done spent)
+    pair-done done =
+        let x = block a start in
+        let y = block b start in
+        let made = rw (fit-length fit-a, pair-same (level N) _ x _ y (fit-same fit-a) (fit-same fit-b)) at done in
+        let power = sym (is-power N (fit-a .length-ok)) in
+        let near = pair-limits (level N) x y (fit-block fit-a) (fit-block fit-b) in
+        let (products, sums) = made .tallied in
+        let forms = published (level N) in
+        carried-out passed refl (record {
+          blockA = fit-block fit-a;
+          blockB = fit-block fit-b;
+          realWords = made .realWords;
+          imaginaryWords = made .imaginaryWords;
+          realNear = λ k h. rw (front (made .realWords) k h) ((rw power at (near .real)) k h);
+          imaginaryNear = λ k h. rw (front (made .imaginaryWords) k h) ((rw power at (near .imaginary)) k h);
+          scratchCleared = put-back is (omega (arith, is, passed .past .scratch)) (made .cleared);
+          tallied = made .tallied;
+          published = λ h. let some = some-level N (fit-a .length-ok) h in
+              (ap pos products ∙ forms .pairP x y some, ap pos sums ∙ forms .pairS x y some);
+          nothingAtOne = λ e. omega (arith, made .tallied, forms .pairAtOne x y (one-level N e));
+          allowed = omega (arith, products, passed .past .allowance);
+        })

@@ -1,7 +1,8 @@
 -- The verdict on a call: what is known of one that passes the tests, what follows from a refusal, and the whole promise of a call that is
 -- turned down, and of one that is carried out.
 -- Assumes nothing.
-use mathlib.Core.Path.{_≡_, refl, sym, ap, _∙_}
+use mathlib.Core.Path.{_≡_, refl, sym, ap, subst, _∙_}
+use mathlib.Core.Logic.{inr}
 use mathlib.Core.Bool.{Bool, true, false, not, cond}
 use mathlib.Core.List.{List, _∷_}
 use Prim.Native.Nat.{ℕ, _+_, _≤_, _<_}
@@ -10,9 +11,9 @@ use lib.Dec.{ltb}
 use lib.IntN.{ℤ}
 use lib.ListN.{length}
 use borrow.Author.Tests.{le-ltb}
-use Rattle.words.specs.Words.{word}
+use Rattle.words.specs.Words.{Samples}
 use Rattle.ffct.specs.Block.{isLength}
-use Rattle.refusals.specs.Refusals.{someBelow, scratchWords, Verdict, number, firstOut, firstOutIn, accepted}
+use Rattle.refusals.specs.Refusals.{someBelow, scratchWords, Verdict, number, firstOutIn, refusedAt, accepted}
 use Rattle.refusals.proofs.Conditions.{AllReach, all-reach, reach-all, AllIn, OutAt, in-verdict, out-verdict}
 use Rattle.spectra.specs.declared.Answer.{Answer}
 use Rattle.spectra.specs.declared.Answer.the-variants.{OutOfRange}
@@ -22,14 +23,6 @@ use Rattle.spectra.specs.Answers.{verdictOf}
 use Rattle.spectra.specs.Calls.{lengthsOf, samplesOf, Call, verdict}
 use Rattle.spectra.specs.Tests.{tests, Tells}
 use Rattle.spectra.specs.Promises.{Promise}
-
--- ---- a call that is turned down
-pub record TurnedDown (call : Call) (answer : Answer) : Type 0 where
-  pub verdict : verdictOf answer ≡ verdict call
-  pub never : verdictOf answer ≡ accepted → ⊥
-
-down : {call : Call} {answer : Answer} → 0 < number (verdictOf answer) → verdict call ≡ verdictOf answer → TurnedDown call answer
-down some e = record { verdict = sym e; never = λ a. absurd (omega (arith, some, ap number a)) }
 
 -- ---- a call that passes 1 to 5, and 6
 pub record Passed5 (call : Call) : Type 0 where
@@ -51,24 +44,22 @@ module _ {call : Call} where
       let room = all-reach (call .yields) (lengthsOf (call .results)) (p .results) in
       rw (p .length-ok, reach, room, le-ltb _ _ (p .scratch), le-ltb _ _ (p .allowance))
 
-  pub refused-6 : {place : ℕ} → Passed5 call → OutAt (samplesOf (call .recordings)) (call .start) (call .N) place
-      → TurnedDown call (OutOfRange place)
-  refused-6 p h = down (omega arith) (past-5 p ∙ out-verdict (samplesOf (call .recordings)) (call .start) (call .N) _ h)
-
   pub is-accepted : Passed6 call → verdict call ≡ accepted
   is-accepted p = past-5 (p .past) ∙ in-verdict (samplesOf (call .recordings)) (call .start) (call .N) (p .range)
 
--- ---- what the tests tell of a call on x, and on other recordings
-abbrev pub Told : Call → List ℤ → Tested → Type 0
-Told call x (Refused answer) = TurnedDown call answer
-Told call x Passed = Passed5 call × (firstOut (word x) (call .start) (call .N) ≡ call .start + call .N)
+-- ---- what the tests tell of a call on a recording and on others
+pub record Told (call : Call) (others : List Samples) (t : Tested) : Type 0 where
+  pub refused : {answer : Answer} → t ≡ Refused answer → (0 < number (verdictOf answer)) × (verdict call ≡ verdictOf answer)
+  pub past : t ≡ Passed → Passed5 call
+  pub out : t ≡ Passed → {place : ℕ} → OutAt others (call .start) (call .N) place → verdict call ≡ refusedAt 6 place
+  pub passed : t ≡ Passed → AllIn others (call .start) (call .N) → Passed6 call
 
 of-length : (b : Bool) (u v w : Verdict) → (b ≡ true → v ≡ w) → cond (not b) u v ≡ cond (not b) u w
 of-length true u v w e = e refl
 of-length false u v w e = refl
 
 -- `shortest` stands for all recordings, `room` for the result buffers; the products are the call's where N is a length
-module _ (call : Call) (x : List ℤ) (others : List (List ℤ)) (shortest room products : ℕ) (is : call .recordings ≡ x ∷ others)
+module _ (call : Call) {x : List ℤ} {others : List (List ℤ)} (is : call .recordings ≡ x ∷ others) (shortest room products : ℕ)
     (below : (n : ℕ) → someBelow n (lengthsOf (call .recordings)) ≡ ltb shortest n)
     (short : (n : ℕ) → someBelow n (lengthsOf (call .results)) ≡ ltb room n)
     (spends : isLength (call .N) ≡ true → products ≡ call .products) where
@@ -79,26 +70,39 @@ module _ (call : Call) (x : List ℤ) (others : List (List ℤ)) (shortest room 
   by-tests = rw (below (call .start + call .N), short (call .yields), is)
       (of-length (isLength (call .N)) _ _ _ (λ h. rw (spends h)))
 
-  pub told : (t : Tested)
-      → Tells x shortest (call .start) (call .N) (call .allowance) room (call .yields) (length (call .scratch)) products t
-      → Told call x t
-  told (Refused answer) (some, e) = down some (by-tests ∙ e _)
-  told Passed p = (
-    record {
-      length-ok = p .length-ok;
-      recordings = reach-all (call .start + call .N) (lengthsOf (call .recordings))
-          (below (call .start + call .N) ∙ le-ltb _ _ (p .inside));
-      results = reach-all (call .yields) (lengthsOf (call .results)) (short (call .yields) ∙ le-ltb _ _ (p .results));
-      scratch = p .words;
-      allowance = omega (arith, p .allowed, spends (p .length-ok));
-    },
-    p .range,
-  )
+  abbrev Tell : Tested → Type 0
+  Tell = Tells x shortest (call .start) (call .N) (call .allowance) room (call .yields) (length (call .scratch)) products
+
+  past : Tell Passed → Passed5 call
+  past p = record {
+    length-ok = p .length-ok;
+    recordings = reach-all (call .start + call .N) (lengthsOf (call .recordings))
+        (below (call .start + call .N) ∙ le-ltb _ _ (p .inside));
+    results = reach-all (call .yields) (lengthsOf (call .results)) (short (call .yields) ∙ le-ltb _ _ (p .results));
+    scratch = p .words;
+    allowance = omega (arith, p .allowed, spends (p .length-ok));
+  }
+
+  pub told : {t : Tested} → Tell t → Told call (samplesOf others) t
+  told h = record {
+    refused = λ e. let (some, is) = subst Tell e h in (some, by-tests ∙ is _);
+    past = λ e. past (subst Tell e h);
+    out = λ e o. let p = subst Tell e h in past-5 (past p) ∙ rw is (out-verdict (_ ∷ samplesOf others) _ _ _ (inr (p .range, o)));
+    passed = λ e i. let p = subst Tell e h in record { past = past p; range = rw is (p .range, i) };
+  }
 
 -- ---- the promise of a call that is turned down, and of one that is carried out
 module _ {call : Call} {answer : Answer} {Unchanged Done : Type 0} where
-  pub turned-down : Unchanged → TurnedDown call answer → Promise call answer Unchanged Done
-  turned-down u t = record { verdict = t .verdict; unchanged = λ _. u; done = λ d. absurd (t .never d) }
+  turned-down : Unchanged → 0 < number (verdictOf answer) → verdict call ≡ verdictOf answer → Promise call answer Unchanged Done
+  turned-down u some e =
+      record { verdict = sym e; unchanged = λ _. u; done = λ a. absurd (omega (arith, some, ap number a)) }
 
   pub carried-out : Passed6 call → verdictOf answer ≡ accepted → Done → Promise call answer Unchanged Done
   carried-out p ok d = record { verdict = ok ∙ sym (is-accepted p); unchanged = λ no. absurd (no ok); done = λ _. d }
+
+module _ {call : Call} {others : List Samples} {t : Tested} {Unchanged Done : Type 0} (u : Unchanged) (told : Told call others t) where
+  pub refused-by : {answer : Answer} → t ≡ Refused answer → Promise call answer Unchanged Done
+  refused-by e = let (some, is) = told .refused e in turned-down u some is
+
+  pub refused-at : {place : ℕ} → t ≡ Passed → OutAt others (call .start) (call .N) place → Promise call (OutOfRange place) Unchanged Done
+  refused-at e o = turned-down u (omega arith) (told .out e o)

@@ -9,21 +9,15 @@ use Rattle.whole.proofs.Words.{word, widens, widened}
 use Rattle.circle.proofs.wave_at.Statement.{statement}
 use Rattle.circle.proofs.wave_at.Tie as tie
 
-mul-result : tie.Need-mul-result
-mul-result c = search needs
-
-element-copy-out-result : tie.Need-element-copy-out-result
-element-copy-out-result c = search needs
-
 -- the entry that was read fits its word
 fits : (c : tie.After-result) → SFits w32 (getD (c .before .args .wave .now) (c .before .args .j) (pos 0))
 fits c = search needs
 
-cast-result : tie.Need-cast-result
-cast-result c = widens tt (word (fits c))
-
-returns : tie.Need-returns
-returns c = widened tt (word (fits c)) .is ∙ c .before .pre .0 (c .before .args .j) (c .before .pre .1)
-
 pub wave-at-spec : {M : Type 1} → statement M
-wave-at-spec = tie.close (tie.spec mul-result element-copy-out-result cast-result returns)
+wave-at-spec =
+    tie.close
+    (tie.spec
+    (λ c. search needs)  -- mul-result
+    (λ c. search needs)  -- element-copy-out-result
+    (λ c. widens tt (word (fits c)))  -- cast-result
+    (λ c. widened tt (word (fits c)) .is ∙ c .before .pre .0 (c .before .args .j) (c .before .pre .1)))  -- returns

@@ -1,5 +1,5 @@
 -- `mealbis::mealbis_counts` meets its contract: the arm taken says which answer of the count query its promise is about. Assumes nothing.
-use mathlib.Core.Path.{_≡_, refl, subst}
+use mathlib.Core.Path.{_≡_, subst}
 use borrow.Author.Needs.{needs}
 use Prim.Native.Nat.{ℕ}
 use Rattle.refusals.specs.Refusals.{number}
@@ -13,14 +13,7 @@ use Rattle.mealbis.proofs.mealbis_counts.Tie as tie
 told : {N : ℕ} {answer : CountsAnswer} (is : CountsAnswer) → CountsPromise N answer → answer ≡ is → let c = countsOf is in
     CountsTold N (c .dct .products) (c .dct .sums) (c .spectrum .products) (c .spectrum .sums) (c .pair .products) (c .pair .sums)
     (number (verdictOfCounts is))
-told {N} is p e = record {
-  answer = is;
-  promise = subst (CountsPromise N) e p;
-  number-is = refl;
-  dct-is = (refl, refl);
-  spectrum-is = (refl, refl);
-  pair-is = (refl, refl);
-}
+told {N} is p e = let q = subst (CountsPromise N) e p in search needs
 
 pub mealbis-counts-spec : {M : Type 1} → statement M
 mealbis-counts-spec =

@@ -1,100 +1,63 @@
--- `spectra::test` meets its contract. Assumes nothing.
+-- `spectra::test` meets its contract: each test that is passed leads to the tests behind it. Assumes nothing.
 use mathlib.Core.Path.{_≡_, sym, _∙_}
-use mathlib.Core.Bool.{true, cond}
-use Prim.Native.Nat.{_+_, _≤_}
+use mathlib.Core.Bool.{true}
+use mathlib.Core.List.{List}
+use Prim.Native.Nat.{ℕ, _+_, _≤_, _<_}
 use native.Mathlib.Omega.{arith}
-use lib.Dec.{ltb}
-use lib.ListN.{length}
+use lib.IntN.{ℤ}
 use borrow.Author.Needs.{needs}
-use borrow.Author.Tests.{ltb-false, lt-ltb, le-ltb, not-true, not-false}
+use borrow.Author.Tests.{ltb-false, lt-ltb, le-ltb, not-false}
 use Rattle.words.specs.Words.{word}
 use Rattle.ffct.specs.Block.{isLength}
 use Rattle.ffct.proofs.ElevenLengths.{length-le}
-use Rattle.refusals.specs.Refusals.{scratchWords, Verdict, refused, firstOutOr}
+use Rattle.refusals.specs.Refusals.{scratchWords, Verdict, refused, refusedAt, firstOut}
 use Rattle.refusals.proofs.Ranges.{first-end}
 use Rattle.spectra.specs.Tests.{tests}
 use Rattle.spectra.proofs.test.Statement.{statement}
 use Rattle.spectra.proofs.test.Tie as tie
 
-abbrev entry : tie.Else4 → tie.Start
-entry c = c .before .before .before .before .before .before .before
+-- ---- 3 to 6, where the tests before are passed
+module _ (x : List ℤ) (m s N a r y w p : ℕ) (rest : Verdict) (ok : isLength N ≡ true) (inside : s + N ≤ m) where
+  refused-3 : r < y → tests x m s N a r y w p rest ≡ refused 3
+  unfolding tests
+  refused-3 h = rw (ok, le-ltb _ _ inside, lt-ltb _ _ h)
 
--- ---- 1 to 4 passed
+  module _ (results : y ≤ r) {k : ℕ} (is : k ≡ scratchWords N) where
+    refused-4 : w < k → tests x m s N a r y w p rest ≡ refused 4
+    unfolding tests
+    refused-4 h = rw (ok, le-ltb _ _ inside, le-ltb _ _ results, ← is, lt-ltb _ _ h)
+
+    module _ (words : k ≤ w) where
+      refused-5 : a < p → tests x m s N a r y w p rest ≡ refused 5
+      unfolding tests
+      refused-5 h = rw (ok, le-ltb _ _ inside, le-ltb _ _ results, ← is, le-ltb _ _ words, lt-ltb _ _ h)
+
+      refused-6 : p ≤ a → {out : ℕ} → out ≡ firstOut (word x) s N → out < s + N → tests x m s N a r y w p rest ≡ refusedAt 6 out
+      unfolding tests
+      refused-6 l e h =
+          rw (ok, le-ltb _ _ inside, le-ltb _ _ results, ← is, le-ltb _ _ words, le-ltb _ _ l, ← e) (rw (lt-ltb _ _ h))
+
+-- ---- what the code has tested
 passed-1 : (c : tie.Else1) → isLength (c .before .before .args .length) ≡ true
 passed-1 c = sym (c .before .is-length .ensures) ∙ not-false _ (c .if1 .left)
 
 passed-2 : (c : tie.Else2) → let a = c .before .before .before .before .args in a .start + a .length ≤ a .shortest
 passed-2 c = ltb-false _ _ (sym (c .before .reaches-beyond .ensures) ∙ c .if2 .left)
 
-passed-4 : (c : tie.Else4) → let a = entry c .args in scratchWords (a .length) ≤ a .scratch
-passed-4 c = omega arith
-
-past-4 : (c : tie.Else4) (rest : Verdict) → let a = entry c .args in
-    tests (a .recording .now) (a .shortest) (a .start) (a .length) (a .allowance) (a .room) (a .yields) (a .scratch) (a .products) rest
-    ≡ cond (ltb (a .allowance) (a .products)) (refused 5) (firstOutOr (word (a .recording .now)) (a .start) (a .length) rest)
-unfolding tests
-past-4 c rest =
-    let p = c .before .before .before in
-    rw (passed-1 (p .before .before), le-ltb _ _ (passed-2 p), le-ltb _ _ (c .before .before .if3 .left), le-ltb _ _ (passed-4 c))
-
-inside : (c : tie.Else4) → let a = entry c .args in a .start + a .length ≤ length (a .recording .now)
-inside c = omega (arith, passed-2 (c .before .before .before), entry c .pre)
-
--- ---- the answers
-returns : tie.Need-returns
-unfolding tests
-returns c = (search needs, λ rest. rw (sym (c .before .is-length .ensures) ∙ not-true _ (c .if1 .taken)))
-
-returns-2 : tie.Need-returns-2
-unfolding tests
-returns-2 c = (search needs, λ rest. rw (passed-1 (c .before .before), sym (c .before .reaches-beyond .ensures) ∙ c .if2 .taken))
-
-returns-3 : tie.Need-returns-3
-unfolding tests
-returns-3 c =
-    let p = c .before in
-    (search needs, λ rest. rw (passed-1 (p .before .before), le-ltb _ _ (passed-2 p), lt-ltb _ _ (c .if3 .taken)))
-
-returns-4 : tie.Need-returns-4
-unfolding tests
-returns-4 c =
-    let p = c .before .before .before in
-    let a = p .before .before .before .before .args in
-    let short = lt-ltb (a .scratch) (scratchWords (a .length)) (omega arith) in
-    (search needs, λ rest. rw (passed-1 (p .before .before), le-ltb _ _ (passed-2 p), le-ltb _ _ (c .before .before .if3 .left), short))
-
-returns-6 : tie.Need-returns-6
-returns-6 c =
-    let p = c .before .before in
-    let out = lt-ltb _ _ (c .if6 .taken) in
-    (search needs, λ rest. past-4 (p .before) rest ∙ rw (le-ltb _ _ (p .if5 .left), ← c .before .first-out .ensures) (rw out))
-
-returns-7 : tie.Need-returns-7
-returns-7 c =
-    let p = c .before .before in
-    let q = p .before .before .before .before in
-    record {
-      length-ok = passed-1 (q .before .before);
-      inside = passed-2 q;
-      results = p .before .before .before .if3 .left;
-      words = passed-4 (p .before);
-      allowed = p .if5 .left;
-      range = first-end _ _ _ (c .before .first-out .ensures) (c .if6 .left);
-    }
-
 pub test-spec : {M : Type 1} → statement M
+unfolding tests
 test-spec =
     tie.close
     (tie.spec
     (λ c κs. search needs)  -- is-length-requires
-    returns
+    (λ c. (search needs, λ rest. rw (← c .before .is-length .ensures, c .if1 .taken)))  -- returns
     (λ c κs. search needs)  -- reaches-beyond-requires
-    returns-2
-    returns-3
+    (λ c. (search needs, λ rest. rw (passed-1 (c .before .before), ← c .before .reaches-beyond .ensures, c .if2 .taken)))  -- returns-2
+    (λ c. (search needs, λ rest. search (needs, refused-3, passed-1, passed-2)))  -- returns-3
     (λ c κs. length-le _ (passed-1 (c .before .before .before)))  -- scratch-words-requires
-    returns-4
-    (λ c. (search needs, λ rest. past-4 (c .before) rest ∙ rw (lt-ltb _ _ (c .if5 .taken))))  -- returns-5
-    (λ c κs. inside (c .before))  -- first-out-requires
-    (λ c. record { fits = omega (arith, inside (c .before .before)) })  -- add-if6
-    returns-6
-    returns-7)
+    (λ c. (search needs, λ rest. search (needs, refused-4, passed-1, passed-2)))  -- returns-4
+    (λ c. (search needs, λ rest. search (needs, refused-5, passed-1, passed-2)))  -- returns-5
+    (λ c κs. omega (arith, passed-2 (c .before .before .before .before)))  -- first-out-requires
+    (λ c. record { fits = omega (arith, passed-2 (c .before .before .before .before .before)) })  -- add-if6
+    (λ c. (search needs, λ rest. search (needs, refused-6, passed-1, passed-2)))  -- returns-6
+    (λ c. search (needs, passed-1, passed-2, first-end)))  -- returns-7

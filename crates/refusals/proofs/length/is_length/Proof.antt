@@ -5,11 +5,5 @@ use Rattle.ffct.proofs.ElevenLengths.{length-digit, too-long}
 use Rattle.refusals.proofs.length.is_length.Statement.{statement}
 use Rattle.refusals.proofs.length.is_length.Tie as tie
 
-returns : tie.Need-returns
-returns c = sym (too-long _ (omega arith))
-
-returns-2 : tie.Need-returns-2
-returns-2 c = sym (length-digit _ (omega arith))
-
 pub is-length-spec : {M : Type 1} → statement M
-is-length-spec = tie.close (tie.spec returns returns-2)
+is-length-spec = tie.close (tie.spec (λ c. sym (too-long _ (omega arith))) (λ c. sym (length-digit _ (omega arith))))

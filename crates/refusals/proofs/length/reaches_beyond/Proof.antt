@@ -16,11 +16,9 @@ same-test start n len h = ⊎-elim
     (λ l. rw (lt-ltb (len - n) start l, lt-ltb len (start + n) (omega arith)))
     (le-or-lt start (len - n))
 
-returns : tie.Need-returns
-returns c = let a = c .before .args in sym (lt-ltb (a .len) (a .start + a .n) (omega arith))
-
-returns-2 : tie.Need-returns-2
-returns-2 c = let a = c .before .args in same-test (a .start) (a .n) (a .len) (omega arith)
-
 pub reaches-beyond-spec : {M : Type 1} → statement M
-reaches-beyond-spec = tie.close (tie.spec returns returns-2)
+reaches-beyond-spec =
+    tie.close
+    (tie.spec
+    (λ c. let a = c .before .args in sym (lt-ltb (a .len) (a .start + a .n) (omega arith)))  -- returns
+    (λ c. let a = c .before .args in same-test (a .start) (a .n) (a .len) (omega arith)))  -- returns-2
