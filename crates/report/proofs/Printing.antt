@@ -4,12 +4,14 @@ use mathlib.Core.Bool.{true}
 use mathlib.Core.Path.{_≡_, refl, ap₂, _∙_}
 use mathlib.Core.List.{List, _++_}
 use Prim.Native.Nat.{ℕ, zero, suc, _+_, _*_, _/_, _≤_, _<_}
-use native.Mathlib.Nat.{mul-le-mul-left, mul-le-mul-right, suc-mul, div-mul-le-self}
+use native.Mathlib.Nat.{mul-le-mul-left, mul-le-mul-right, suc-mul, div-le-self, div-mul-le-self}
 use native.Mathlib.Numerals.{add-one}
 use native.Mathlib.Omega.{arith}
 use lib.IntN.{ℤ}
 use lib.ListN.{length}
 use lib.Pow.{pow-pos}
+use mir.Syntax.{w64}
+use mir.Val.{Fits}
 use Rattle.words.specs.Words.{Samples, word}
 use Rattle.ffct.specs.Block.{isLength, level}
 use Rattle.ffct.specs.Transforms.{pair as pairOf}
@@ -85,6 +87,10 @@ module _ (N : ℕ) (a b : Samples) {at : ℕ} {page : List ℕ} {real imaginary 
     imaginaryWords = q .imaginaryWords ∙ p .imaginaryWords;
     scratchWords = q .scratchWords ∙ p .scratchWords;
   }
+
+pub next-fits : {m N : ℕ} (i : ℕ) {a b real imaginary scratch : List ℤ} → Printable m N a b real imaginary scratch → i < m / N
+    → Fits w64 (i + 1)
+next-fits {m} {N} i k l = record { fits = omega (arith, k .most, div-le-self m N) }
 
 -- ---- a run of `put_spectra`: the heading is put, and the blocks before number i
 module _ (m N : ℕ) (a b : List ℤ) {real imaginary scratch : List ℤ} (k : Printable m N a b real imaginary scratch)
