@@ -123,7 +123,9 @@ module _ (file : List ℕ) (a b a′ b′ : List ℤ) (answer : FileAnswer) (n :
       read-spectra : spectra m N (word a′) (word b′) ≡ spectra (sampleCount file) (blockLength file) (samplesOfA file) (samplesOfB file)
       read-spectra =
           let ok = done .length-ok in
-          let same = same-blocks N ok (word a′) (samplesOfA file) (word b′) (samplesOfB file) (front (done .wordsOfA)) (front (done .wordsOfB)) in
+          let same = same-blocks N ok (word a′) (samplesOfA file) (word b′) (samplesOfB file)
+          (front (done .wordsOfA))
+          (front (done .wordsOfB)) in
           ap (λ l. heading ++ l) (same (m / N) (whole-blocks (m / N) m N ok (omega arith)))
           ∙ ap₂ (λ m N. spectra m N (samplesOfA file) (samplesOfB file)) (done .samples-is) (done .length-is)
 
