@@ -1,37 +1,32 @@
--- The verdict on a file, condition by condition: what is known of a file that has passed the first tests, what each refusal follows from,
--- and that an accepted file has passed. A refusal is the whole promise of a reader that leaves the recordings as they are; the promise of
--- an accepted file follows from what was written.
+-- The verdict on a file, condition by condition: what 7, 8 and 9 follow from, and that an accepted file has passed them; then a run of the
+-- reader, which at each test promises a refusal that leaves the recordings as they are, and at the end what was written.
 -- Assumes nothing.
-use mathlib.Core.Path.{_≡_, refl, sym, ap, subst, _∙_}
+use mathlib.Core.Path.{_≡_, refl, sym, ap, _∙_}
 use mathlib.Core.Logic.{_⊎_, inl, inr, ⊎-elim}
-use mathlib.Core.Bool.{true, false, cond, _||_}
+use mathlib.Core.Bool.{Bool, true, false, not, cond, _||_}
 use mathlib.Core.List.{List, [], _∷_}
-use Prim.Native.Nat.{ℕ, _≤_, _<_}
+use Prim.Native.Nat.{ℕ, _+_, _≤_, _<_}
 use native.Mathlib.Decide.{ℕ-discrete}
 use native.Mathlib.Omega.{arith}
 use lib.Dec.{eqb, ltb}
 use lib.IntN.{ℤ}
 use lib.ListN.{length}
-use borrow.Author.Tests.{lt-ltb, le-ltb, eq-eqb, ne-eqb}
+use borrow.Author.Tests.{lt-ltb, le-ltb, eq-eqb, ne-eqb, not-false}
 use Rattle.whole.proofs.Cases.{le-or-lt}
 use Rattle.words.specs.Words.{Samples, Written}
 use Rattle.ffct.specs.Block.{isLength}
-use Rattle.refusals.specs.Refusals.{someBelow, firstOutIn, refused, accepted, number}
-use Rattle.refusals.proofs.Ranges.{passed}
-use Rattle.refusals.proofs.Conditions.{AllReach, SomeBelow, all-reach, some-below, AllIn, OutAt, in-verdict, out-verdict}
+use Rattle.refusals.specs.Refusals.{someBelow, firstOut, firstOutIn, refused, accepted, number}
+use Rattle.refusals.proofs.Ranges.{first-end, passed}
+use Rattle.refusals.proofs.Conditions.{all-reach, some-below, in-verdict, out-verdict}
 use Rattle.pairfile.specs.declared.FileAnswer.{FileAnswer}
 use Rattle.pairfile.specs.declared.FileAnswer.the-variants.{BelowHeader, BadCount, BadFileLength, BadLength}
 use Rattle.pairfile.specs.declared.FileAnswer.the-variants.{RecordingTooShort, OutOfRange, Read}
-use Rattle.pairfile.specs.declared.Sizes.{Sizes}
-use Rattle.pairfile.specs.File.{sampleCount, blockLength, samplesAt, startOfA, startOfB, samplesOfA, samplesOfB}
+use Rattle.pairfile.specs.File.{sampleCount, blockLength, samplesAt, startOfA, startOfB}
 use Rattle.pairfile.specs.File.{headerBytes, mostSamples, fileBytes, fileVerdict}
 use Rattle.pairfile.specs.Answers.{verdictOf}
 use Rattle.pairfile.specs.Promises.{ReadPromise}
 
-abbrev recordingsOf : List ℕ → List Samples
-recordingsOf file = samplesOfA file ∷ samplesOfB file ∷ []
-
--- ---- a file that the conditions 7, 8, 9, 1, 3, 6, up to the named one, do not turn down
+-- ---- a file that the conditions 7 and 8, and then 9, do not turn down
 pub record Passed8 (file : List ℕ) : Type 0 where
   pub header : headerBytes ≤ length file
   pub some : 1 ≤ sampleCount file
@@ -41,28 +36,8 @@ pub record Passed9 (file : List ℕ) : Type 0 where
   pub past : Passed8 file
   pub bytes : length file ≡ fileBytes (sampleCount file)
 
-pub record Passed1 (file : List ℕ) : Type 0 where
-  pub past : Passed9 file
-  pub blocks : isLength (blockLength file) ≡ true
-
-pub record Passed3 (file lent : List ℕ) : Type 0 where
-  pub past : Passed1 file
-  pub recordings : AllReach (sampleCount file) lent
-
-pub record Passed6 (file lent : List ℕ) : Type 0 where
-  pub past : Passed3 file lent
-  pub range : AllIn (recordingsOf file) 0 (sampleCount file)
-
--- ---- the tests of 8, passed, and all that come before 3
-module _ {file : List ℕ} where
-  count-good : Passed8 file → (eqb (sampleCount file) 0 || ltb mostSamples (sampleCount file)) ≡ false
-  count-good p = rw (ne-eqb (sampleCount file) 0 (λ e. omega arith), le-ltb _ _ (p .most))
-
-  past-1 : Passed1 file → (lent : List ℕ) →
-      let m = sampleCount file in
-      fileVerdict file lent ≡ cond (someBelow m lent) (refused 3) (firstOutIn (recordingsOf file) 0 m)
-  unfolding fileVerdict
-  past-1 p lent = let q = p .past in rw (le-ltb _ _ (q .past .header), count-good (q .past), eq-eqb _ _ (q .bytes), p .blocks)
+count-good : {file : List ℕ} → Passed8 file → (eqb (sampleCount file) 0 || ltb mostSamples (sampleCount file)) ≡ false
+count-good {file} p = rw (ne-eqb (sampleCount file) 0 (λ e. omega arith), le-ltb _ _ (p .most))
 
 -- ---- a file that is turned down
 pub record TurnedDown (file lent : List ℕ) (answer : FileAnswer) : Type 0 where
@@ -86,23 +61,6 @@ module _ {file lent : List ℕ} where
   unfolding fileVerdict
   refused-9 p n = down (omega arith) (rw (le-ltb _ _ (p .header), count-good p, ne-eqb _ _ n))
 
-  pub refused-1 : Passed9 file → isLength (blockLength file) ≡ false → TurnedDown file lent BadLength
-  unfolding fileVerdict
-  refused-1 p f = down (omega arith) (rw (le-ltb _ _ (p .past .header), count-good (p .past), eq-eqb _ _ (p .bytes), f))
-
-  pub refused-3 : Passed1 file → SomeBelow (sampleCount file) lent → TurnedDown file lent RecordingTooShort
-  refused-3 p h = down (omega arith) (past-1 p lent ∙ rw (some-below (sampleCount file) lent h))
-
-  past-3 : Passed3 file lent → fileVerdict file lent ≡ firstOutIn (recordingsOf file) 0 (sampleCount file)
-  past-3 p = past-1 (p .past) lent ∙ rw (all-reach (sampleCount file) lent (p .recordings))
-
-  pub refused-6 : {place : ℕ} → Passed3 file lent → OutAt (recordingsOf file) 0 (sampleCount file) place
-      → TurnedDown file lent (OutOfRange place)
-  refused-6 p h = down (omega arith) (past-3 p ∙ out-verdict (recordingsOf file) 0 (sampleCount file) _ h)
-
-  pub is-accepted : Passed6 file lent → fileVerdict file lent ≡ accepted
-  is-accepted p = past-3 (p .past) ∙ in-verdict (recordingsOf file) 0 (sampleCount file) (p .range)
-
 -- ---- what an accepted file has passed, as far as its length
 module _ (file lent : List ℕ) (ok : fileVerdict file lent ≡ accepted) where
   not-refused : {answer : FileAnswer} → TurnedDown file lent answer → ⊥
@@ -125,28 +83,85 @@ module _ (file lent : List ℕ) (ok : fileVerdict file lent ≡ accepted) where
       from (yes e) = e
       from (no n) = absurd (not-refused (refused-9 accepted-8 n))
 
--- ---- the promise of a reader: of one that turns a file down, and of one that has read it
-module _ {file : List ℕ} {a b : List ℤ} where
-  pub read-refused : {answer : FileAnswer} → TurnedDown file (length a ∷ length b ∷ []) answer → ReadPromise file a b a b answer
-  read-refused t = record { verdict = t .verdict; unchanged = λ _. (refl, refl); done = λ d. absurd (t .never d) }
+-- ---- a file of m samples that was accepted, with blocks of N: what is promised once the samples are written
+pub record Accepted (file : List ℕ) (a b : List ℤ) (m N : ℕ) : Type 0 where
+  pub reads : {a′ b′ : List ℤ} → Written 0 m (samplesAt file startOfA) a a′ → Written 0 m (samplesAt file (startOfB m)) b b′
+      → ReadPromise file a b a′ b′ (Read (record { samples = m; length = N }))
 
-  pub read-accepted : {a′ b′ : List ℤ} (sizes : Sizes) → Passed6 file (length a ∷ length b ∷ [])
-      → sizes .samples ≡ sampleCount file → sizes .length ≡ blockLength file
-      → Written 0 (sizes .samples) (samplesAt file startOfA) a a′
-      → Written 0 (sizes .samples) (samplesAt file (startOfB (sizes .samples))) b b′
-      → ReadPromise file a b a′ b′ (Read sizes)
-  read-accepted {b′ = b′} sizes p e l v w = let counted = p .past .past .past .past in record {
-    verdict = sym (is-accepted p);
-    unchanged = λ n. absurd (n refl);
-    done = λ _. record {
-      samples-is = e;
-      length-is = l;
-      wordsOfA = v;
-      wordsOfB = subst (λ m. Written 0 (sizes .samples) (samplesAt file (startOfB m)) b b′) e w;
-      some = omega (arith, counted .some);
-      most = omega (arith, counted .most);
-      length-ok = rw l (p .past .past .blocks);
-      rangeOfA = λ n h. passed (samplesOfA file) 0 (sampleCount file) (p .range .0) n (omega arith) (omega arith);
-      rangeOfB = λ n h. passed (samplesOfB file) 0 (sampleCount file) (p .range .1 .0) n (omega arith) (omega arith);
-    };
-  }
+-- ---- a run of the reader: the answer at each test, and what is known behind it
+module _ (file : List ℕ) (a b : List ℤ) where
+  abbrev lent : List ℕ
+  lent = length a ∷ length b ∷ []
+
+  turned : {answer : FileAnswer} → TurnedDown file lent answer → ReadPromise file a b a b answer
+  turned t = record { verdict = t .verdict; unchanged = λ _. (refl, refl); done = λ d. absurd (t .never d) }
+
+  pub below-header : length file < headerBytes → ReadPromise file a b a b BelowHeader
+  below-header h = turned (refused-7 h)
+
+  module _ (m : ℕ) (count : m ≡ sampleCount file) (header : headerBytes ≤ length file) where
+    pub no-samples : m < 1 → ReadPromise file a b a b BadCount
+    no-samples h = turned (refused-8 header (inl (omega arith)))
+
+    pub many-samples : mostSamples < m → ReadPromise file a b a b BadCount
+    many-samples h = turned (refused-8 header (inr (omega arith)))
+
+    module _ (some : 1 ≤ m) (most : m ≤ mostSamples) where
+      passed-8 : Passed8 file
+      passed-8 = record { header = header; some = omega arith; most = omega arith }
+
+      pub bad-bytes : (length file ≡ fileBytes m → ⊥) → ReadPromise file a b a b BadFileLength
+      bad-bytes differ = turned (refused-9 passed-8 (λ e. differ (omega arith)))
+
+      module _ (N : ℕ) (ok : Bool) (bytes : length file ≡ fileBytes m) (is : ok ≡ isLength N) (blocks : N ≡ blockLength file) where
+        abbrev recordings : List Samples
+        recordings = samplesAt file startOfA ∷ samplesAt file (startOfB m) ∷ []
+
+        past-9 : fileVerdict file lent ≡ cond (not ok) (refused 1) (cond (someBelow m lent) (refused 3) (firstOutIn recordings 0 m))
+        unfolding fileVerdict
+        past-9 = rw (is, blocks, count, le-ltb _ _ header, count-good passed-8, eq-eqb _ _ (rw count at bytes))
+
+        pub bad-length : not ok ≡ true → ReadPromise file a b a b BadLength
+        bad-length h = turned (down (omega arith) (past-9 ∙ rw h))
+
+        module _ (good : not ok ≡ false) where
+          pub a-short : length a < m → ReadPromise file a b a b RecordingTooShort
+          a-short h = turned (down (omega arith) (past-9 ∙ rw (good, some-below m lent (inl h))))
+
+          pub b-short : length b < m → ReadPromise file a b a b RecordingTooShort
+          b-short h = turned (down (omega arith) (past-9 ∙ rw (good, some-below m lent (inr (inl h)))))
+
+          module _ (for-a : m ≤ length a) (for-b : m ≤ length b) (out : ℕ) (o : out ≡ firstOut (samplesAt file startOfA) 0 m) where
+            past-3 : fileVerdict file lent ≡ firstOutIn recordings 0 m
+            past-3 = past-9 ∙ rw (good, all-reach m lent (for-a, (for-b, tt)))
+
+            pub a-out : out < m → ReadPromise file a b a b (OutOfRange out)
+            a-out h = turned (down (omega arith) (past-3 ∙ out-verdict recordings 0 m out (inl (o, omega arith))))
+
+            module _ (beyond : ℕ) (in-a : m ≤ out) (o₂ : beyond ≡ firstOut (samplesAt file (startOfB m)) 0 m) where
+              range-a : firstOut (samplesAt file startOfA) 0 m ≡ 0 + m
+              range-a = first-end _ 0 m o (omega arith)
+
+              pub b-out : beyond < m → ReadPromise file a b a b (OutOfRange beyond)
+              b-out h = turned (down (omega arith) (past-3 ∙ out-verdict recordings 0 m beyond (inr (range-a, inl (o₂, omega arith)))))
+
+              pub all-in-range : m ≤ beyond → Accepted file a b m N
+              all-in-range in-b =
+                  let range-b = first-end (samplesAt file (startOfB m)) 0 m o₂ (omega arith) in
+                  record {
+                    reads = λ v w. record {
+                      verdict = sym (past-3 ∙ in-verdict recordings 0 m (range-a, (range-b, tt)));
+                      unchanged = λ n. absurd (n refl);
+                      done = λ _. record {
+                        samples-is = count;
+                        length-is = blocks;
+                        wordsOfA = v;
+                        wordsOfB = rw (← count) w;
+                        some = some;
+                        most = most;
+                        length-ok = sym is ∙ not-false ok good;
+                        rangeOfA = λ n h. passed (samplesAt file startOfA) 0 m range-a n (omega arith) (omega arith);
+                        rangeOfB = rw (← count) (λ n h. passed (samplesAt file (startOfB m)) 0 m range-b n (omega arith) (omega arith));
+                      };
+                    };
+                  }

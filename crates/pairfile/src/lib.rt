@@ -66,7 +66,7 @@ pub fn read(file: &[u8], a: &mut [i32], b: &mut [i32]) -> FileAnswer
         return FileAnswer::BelowHeader;
     }
     let m = unsigned_at(file, 0) as usize;
-    if m == 0 {
+    if m < 1 {
         return FileAnswer::BadCount;
     }
     if 4096 < m {

@@ -14,17 +14,18 @@ use Rattle.ffct.proofs.Lengths.{pow-len}
 use Rattle.ffct.proofs.ElevenLengths.{is-power, length-le}
 use Rattle.ffct.proofs.Blocks.{pair-same}
 use Rattle.refusals.specs.Refusals.{Verdict, refused, refusedAt, accepted, number}
+use Rattle.text.specs.Put.{Put}
 use Rattle.text.specs.Lines.{heading, refusal, lines}
 use Rattle.pairfile.specs.declared.FileAnswer.{FileAnswer}
 use Rattle.pairfile.specs.declared.FileAnswer.the-variants.{BelowHeader, BadCount, BadFileLength, BadLength}
 use Rattle.pairfile.specs.declared.FileAnswer.the-variants.{RecordingTooShort, OutOfRange, Read}
 use Rattle.pairfile.specs.File.{sampleCount, blockLength, samplesOfA, samplesOfB, mostSamples, fileVerdict}
-use Rattle.pairfile.specs.Answers.{verdictOf}
-use Rattle.pairfile.specs.Promises.{ReadDone}
+use Rattle.pairfile.specs.Answers.{verdictOf, sampleCountOf, blockLengthOf}
+use Rattle.pairfile.specs.Promises.{ReadDone, ReadPromise}
 use Rattle.pairfile.specs.Laws.{firstBytes}
 use Rattle.pairfile.proofs.Longer.{longer}
 use Rattle.report.specs.Output.{pairAt, blockLines, spectra, printed, output, LongerOutput}
-use Rattle.report.specs.Puts.{Printable}
+use Rattle.report.specs.Puts.{Printable, PutFrom, OutputPut}
 use Rattle.report.proofs.Printing.{whole-blocks, next-block}
 
 -- ---- the number of an answer has one digit, and is 0 for acceptance alone
@@ -41,20 +42,6 @@ numbered RecordingTooShort = record { small = omega arith; none = λ e. absurd (
 numbered (OutOfRange place) = record { small = omega arith; none = λ e. absurd (omega arith) }
 numbered (Read sizes) = record { small = omega arith; none = λ e. refl }
 
--- ---- the output, by the reader's verdict
-module _ (file : List ℕ) where
-  pub refused-output : (v : Verdict) → v ≡ fileVerdict file (mostSamples ∷ mostSamples ∷ []) → (v ≡ accepted → ⊥)
-      → output file ≡ refusal (number v)
-  unfolding output
-  refused-output (refused n) e never = rw (sym e) refl
-  refused-output (refusedAt n place) e never = rw (sym e) refl
-  refused-output accepted e never = absurd (never refl)
-
-  pub read-output : {v : Verdict} → v ≡ fileVerdict file (mostSamples ∷ mostSamples ∷ []) → v ≡ accepted
-      → output file ≡ spectra (sampleCount file) (blockLength file) (samplesOfA file) (samplesOfB file)
-  unfolding output
-  read-output e a = rw (sym e ∙ a) refl
-
 -- ---- equal recordings have equal lines
 module _ {m : ℕ} (N : ℕ) (ok : isLength N ≡ true) (a a′ b b′ : Samples)
     (e : (n : ℕ) → n < m → a n ≡ a′ n) (d : (n : ℕ) → n < m → b n ≡ b′ n) where
@@ -70,29 +57,88 @@ module _ {m : ℕ} (N : ℕ) (ok : isLength N ≡ true) (a a′ b b′ : Samples
       let fits : i * N + N ≤ m = omega (arith, next-block i N) in
       ap₂ _++_ (same-blocks i (omega arith)) (ap (λ p. lines i (p .real) (p .imaginary) N) (same-pair i fits))
 
--- ---- a file that was read
-module _ {file : List ℕ} {a b a′ b′ : List ℤ} {m N : ℕ} (r : ReadDone file a b a′ b′ m N) where
-  pub read-spectra : spectra m N (word a′) (word b′) ≡ spectra (sampleCount file) (blockLength file) (samplesOfA file) (samplesOfB file)
-  read-spectra =
-      let ok = r .length-ok in
-      let same = same-blocks N ok (word a′) (samplesOfA file) (word b′) (samplesOfB file) (front (r .wordsOfA)) (front (r .wordsOfB)) in
-      ap (λ l. heading ++ l) (same (m / N) (whole-blocks (m / N) m N ok (omega arith)))
-      ∙ ap₂ (λ m N. spectra m N (samplesOfA file) (samplesOfB file)) (r .samples-is) (r .length-is)
+-- ---- the output, by the reader's verdict
+module _ (file : List ℕ) where
+  pub refused-output : (v : Verdict) → v ≡ fileVerdict file (mostSamples ∷ mostSamples ∷ []) → (v ≡ accepted → ⊥)
+      → output file ≡ refusal (number v)
+  unfolding output
+  refused-output (refused n) e never = rw (sym e) refl
+  refused-output (refusedAt n place) e never = rw (sym e) refl
+  refused-output accepted e never = absurd (never refl)
 
-  pub read-printable : {real imaginary scratch : List ℤ} → mostSamples ≤ length a → mostSamples ≤ length b
-      → 1024 ≤ length real → 1024 ≤ length imaginary → 8256 ≤ length scratch → Printable m N a′ b′ real imaginary scratch
-  read-printable f g h i j =
-      let short = length-le N (r .length-ok) in
-      record {
-        length-ok = r .length-ok;
-        most = r .most;
-        wordsOfA = omega (arith, r .most, r .wordsOfA .len);
-        wordsOfB = omega (arith, r .most, r .wordsOfB .len);
-        rangeOfA = λ n l. rw (front (r .wordsOfA) n l) (r .rangeOfA n l);
-        rangeOfB = λ n l. rw (front (r .wordsOfB) n l) (r .rangeOfB n l);
-        realWords = omega arith;
-        imaginaryWords = omega arith;
-        scratchFits = omega arith;
+  pub read-output : {v : Verdict} → v ≡ fileVerdict file (mostSamples ∷ mostSamples ∷ []) → v ≡ accepted
+      → output file ≡ spectra (sampleCount file) (blockLength file) (samplesOfA file) (samplesOfB file)
+  unfolding output
+  read-output e a = rw (sym e ∙ a) refl
+
+-- ---- a run of `put_output`: the reader's answer and its number, then a refusal's line or the spectra
+module _ (file : List ℕ) (a b a′ b′ : List ℤ) (answer : FileAnswer) (n : ℕ) (r : ReadPromise file a b a′ b′ answer)
+    (is : n ≡ number (verdictOf answer)) where
+  pub one-digit : n < 10
+  one-digit = omega (arith, is, numbered answer .small)
+
+  module _ (ofA : length a ≡ mostSamples) (ofB : length b ≡ mostSamples) where
+    verdict : verdictOf answer ≡ fileVerdict file (mostSamples ∷ mostSamples ∷ [])
+    verdict = rw (ofA, ofB) at (r .verdict)
+
+    pub refusal-put : {next : ℕ} {page page′ : List ℕ} {real imaginary scratch : List ℤ} → Put page 0 (refusal n) next page′ → 0 < n
+        → OutputPut file page next page′ a b real imaginary scratch a′ b′ real imaginary scratch
+    refusal-put p some =
+        let never : (verdictOf answer ≡ accepted → ⊥) = λ e. absurd (omega (arith, is, ap number e)) in
+        record {
+          put = rw (refused-output file (verdictOf answer) verdict never) (rw is at p);
+          wordsOfA = ap length (r .unchanged never .0);
+          wordsOfB = ap length (r .unchanged never .1);
+          realWords = refl;
+          imaginaryWords = refl;
+          scratchWords = refl;
+        }
+
+    module _ (m N : ℕ) (samples : m ≡ sampleCountOf answer) (blocks : N ≡ blockLengthOf answer) (none : n ≤ 0) where
+      accepts : verdictOf answer ≡ accepted
+      accepts = numbered answer .none (omega (arith, is))
+
+      done : ReadDone file a b a′ b′ m N
+      done = rw (samples, blocks) (r .done accepts)
+
+      pub spectra-room : (page : List ℕ) → 139278 ≤ length page → 14 + 34 * m ≤ length page
+      spectra-room page room = omega (arith, done .most)
+
+      pub spectra-ready : {real imaginary scratch : List ℤ} → 1024 ≤ length real → 1024 ≤ length imaginary → 8256 ≤ length scratch
+          → Printable m N a′ b′ real imaginary scratch
+      spectra-ready h i j =
+          let short = length-le N (done .length-ok) in
+          record {
+            length-ok = done .length-ok;
+            most = done .most;
+            wordsOfA = omega (arith, done .most, done .wordsOfA .len);
+            wordsOfB = omega (arith, done .most, done .wordsOfB .len);
+            rangeOfA = λ n l. rw (front (done .wordsOfA) n l) (done .rangeOfA n l);
+            rangeOfB = λ n l. rw (front (done .wordsOfB) n l) (done .rangeOfB n l);
+            realWords = omega arith;
+            imaginaryWords = omega arith;
+            scratchFits = omega arith;
+          }
+
+      read-spectra : spectra m N (word a′) (word b′) ≡ spectra (sampleCount file) (blockLength file) (samplesOfA file) (samplesOfB file)
+      read-spectra =
+          let ok = done .length-ok in
+          let same = same-blocks N ok (word a′) (samplesOfA file) (word b′) (samplesOfB file)
+          (front (done .wordsOfA))
+          (front (done .wordsOfB)) in
+          ap (λ l. heading ++ l) (same (m / N) (whole-blocks (m / N) m N ok (omega arith)))
+          ∙ ap₂ (λ m N. spectra m N (samplesOfA file) (samplesOfB file)) (done .samples-is) (done .length-is)
+
+      pub spectra-put : {most next : ℕ} {page page′ : List ℕ} {real imaginary scratch real′ imaginary′ scratch′ : List ℤ}
+          → PutFrom page 0 (spectra m N (word a′) (word b′)) most next page′ real imaginary scratch real′ imaginary′ scratch′
+          → OutputPut file page next page′ a b real imaginary scratch a′ b′ real′ imaginary′ scratch′
+      spectra-put p = record {
+        put = rw (read-output file verdict accepts ∙ sym read-spectra) (p .put);
+        wordsOfA = done .wordsOfA .len;
+        wordsOfB = done .wordsOfB .len;
+        realWords = p .realWords;
+        imaginaryWords = p .imaginaryWords;
+        scratchWords = p .scratchWords;
       }
 
 -- ---- the output for a longer file is that for its first 32,777 bytes, which `pairspec` reads

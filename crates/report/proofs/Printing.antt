@@ -4,12 +4,14 @@ use mathlib.Core.Bool.{true}
 use mathlib.Core.Path.{_≡_, refl, ap₂, _∙_}
 use mathlib.Core.List.{List, _++_}
 use Prim.Native.Nat.{ℕ, zero, suc, _+_, _*_, _/_, _≤_, _<_}
-use native.Mathlib.Nat.{mul-le-mul-left, mul-le-mul-right, suc-mul, div-mul-le-self}
+use native.Mathlib.Nat.{mul-le-mul-left, mul-le-mul-right, suc-mul, div-le-self, div-mul-le-self}
 use native.Mathlib.Numerals.{add-one}
 use native.Mathlib.Omega.{arith}
 use lib.IntN.{ℤ}
 use lib.ListN.{length}
 use lib.Pow.{pow-pos}
+use mir.Syntax.{w64}
+use mir.Val.{Fits}
 use Rattle.words.specs.Words.{Samples, word}
 use Rattle.ffct.specs.Block.{isLength, level}
 use Rattle.ffct.specs.Transforms.{pair as pairOf}
@@ -20,9 +22,10 @@ use Rattle.spectra.specs.declared.Answer.{Answer}
 use Rattle.spectra.specs.Answers.{spent}
 use Rattle.spectra.specs.Promises.{PairDone, PairPromise}
 use Rattle.spectra.proofs.Verdicts.{is-accepted}
-use Rattle.text.specs.Lines.{line, lines}
+use Rattle.text.specs.Put.{Put}
+use Rattle.text.specs.Lines.{heading, line, lines}
 use Rattle.text.proofs.Putting.{put-none, _then_}
-use Rattle.report.specs.Output.{linesAt, blockLines}
+use Rattle.report.specs.Output.{linesAt, blockLines, spectra}
 use Rattle.report.specs.Puts.{Printable, PutFrom}
 
 -- ---- Pair accepts a block of recordings that are printable up to its end
@@ -64,24 +67,6 @@ whole-blocks i m N h l = omega (arith, some-samples N h, mul-le-mul-right N l, d
 pub next-block : (i N : ℕ) → (i + 1) * N ≡ i * N + N
 next-block i N = rw add-one (suc-mul i N)
 
-pub printable-block : {m N : ℕ} (i : ℕ) {a b real imaginary scratch real′ imaginary′ scratch′ : List ℤ}
-    → Printable m N a b real imaginary scratch → i < m / N
-    → length real′ ≡ length real → length imaginary′ ≡ length imaginary → length scratch′ ≡ length scratch
-    → Printable (i * N + N) N a b real′ imaginary′ scratch′
-printable-block {m} {N} i p l r s t =
-    let fits : i * N + N ≤ m = omega (arith, whole-blocks (i + 1) m N (p .length-ok) (omega arith), next-block i N) in
-    record {
-      length-ok = p .length-ok;
-      most = omega (arith, p .most);
-      wordsOfA = omega (arith, p .wordsOfA);
-      wordsOfB = omega (arith, p .wordsOfB);
-      rangeOfA = λ n h. p .rangeOfA n (omega arith);
-      rangeOfB = λ n h. p .rangeOfB n (omega arith);
-      realWords = omega (arith, p .realWords);
-      imaginaryWords = omega (arith, p .imaginaryWords);
-      scratchFits = omega (arith, p .scratchFits);
-    }
-
 -- ---- what the loop over the blocks puts: nothing yet, and one block more
 module _ (N : ℕ) (a b : Samples) {at : ℕ} {page : List ℕ} {real imaginary scratch : List ℤ} where
   pub no-blocks : at ≤ length page
@@ -102,3 +87,43 @@ module _ (N : ℕ) (a b : Samples) {at : ℕ} {page : List ℕ} {real imaginary 
     imaginaryWords = q .imaginaryWords ∙ p .imaginaryWords;
     scratchWords = q .scratchWords ∙ p .scratchWords;
   }
+
+pub next-fits : {m N : ℕ} (i : ℕ) {a b real imaginary scratch : List ℤ} → Printable m N a b real imaginary scratch → i < m / N
+    → Fits w64 (i + 1)
+next-fits {m} {N} i k l = record { fits = omega (arith, k .most, div-le-self m N) }
+
+-- ---- a run of `put_spectra`: the heading is put, and the blocks before number i
+module _ (m N : ℕ) (a b : List ℤ) {real imaginary scratch : List ℤ} (k : Printable m N a b real imaginary scratch)
+    {at : ℕ} {page page₁ : List ℕ} (h : Put page 0 heading at page₁) (i : ℕ) {next : ℕ} {page′ : List ℕ}
+    {real′ imaginary′ scratch′ : List ℤ} (p : PutFrom page₁ at (blockLines N (word a) (word b) i) (34 * (i * N)) next page′
+    real imaginary scratch real′ imaginary′ scratch′) where
+  fits : i < m / N → i * N + N ≤ m
+  fits l = omega (arith, whole-blocks (i + 1) m N (k .length-ok) (omega arith), next-block i N)
+
+  pub block-ready : i < m / N → Printable (i * N + N) N a b real′ imaginary′ scratch′
+  block-ready l = record {
+    length-ok = k .length-ok;
+    most = omega (arith, fits l, k .most);
+    wordsOfA = omega (arith, fits l, k .wordsOfA);
+    wordsOfB = omega (arith, fits l, k .wordsOfB);
+    rangeOfA = λ n h. k .rangeOfA n (omega (arith, fits l));
+    rangeOfB = λ n h. k .rangeOfB n (omega (arith, fits l));
+    realWords = omega (arith, k .realWords, p .realWords);
+    imaginaryWords = omega (arith, k .imaginaryWords, p .imaginaryWords);
+    scratchFits = omega (arith, k .scratchFits, p .scratchWords);
+  }
+
+  pub block-room : i < m / N → 14 + 34 * m ≤ length page → next + 34 * N ≤ length page′
+  block-room l room = omega (arith, fits l, h .next-is, h .len, p .fits, p .put .len)
+
+  pub spectra-put : i ≤ m / N → m / N ≤ i → PutFrom page 0 (spectra m N (word a) (word b)) (14 + 34 * m) next page′
+      real imaginary scratch real′ imaginary′ scratch′
+  spectra-put l g =
+      let all : i ≡ m / N = omega arith in
+      record {
+        put = rw all at (h then p .put);
+        fits = omega (arith, p .fits, h .next-is, whole-blocks i m N (k .length-ok) l);
+        realWords = p .realWords;
+        imaginaryWords = p .imaginaryWords;
+        scratchWords = p .scratchWords;
+      }

@@ -100,7 +100,7 @@ pub fn put_output(
 {
     let answer = read(file, a, b);
     let number = number_of(answer);
-    if number != 0 {
+    if 0 < number {
         return put_refusal(number, page, 0);
     }
     let sizes = sizes_of(answer);

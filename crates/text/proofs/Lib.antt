@@ -1,2 +1,3 @@
 pub mod Putting
 pub mod Spelling
+pub mod Runs

@@ -2,6 +2,7 @@
 ghost use Prim.Native.Nat.{_+_, _*_, _≤_, _<_};
 ghost use lib.IntN.{natAbs};
 ghost use lib.ListN.{length};
+ghost use mathlib.Core.List.{_++_};
 ghost use mathlib.Core.Path.{_≡_};
 ghost use Rattle.words.specs.Words.{word};
 ghost use Rattle.text.specs.Decimal.{number, decimal};
@@ -20,13 +21,15 @@ pub fn put(text: &[u8], page: &mut [u8], at: usize) -> usize
     at + i
 }
 
-fn put_number(n: u64, page: &mut [u8], at: usize) -> usize
-    requires { ⌜ at + length (number n) ≤ length (now page) ⌝ }
-    ensures { λ r. ⌜ Put (now (page .entry)) at (number n) r (now (page .exit)) ⌝ }
+// A number, and what ends it.
+fn put_number(n: u64, end: &[u8], page: &mut [u8], at: usize) -> usize
+    requires { ⌜ at + length (number n ++ now end) ≤ length (now page) ⌝ }
+    ensures { λ r. ⌜ Put (now (page .entry)) at (number n ++ now (end .entry)) r (now (page .exit)) ⌝ }
 {
     let mut digits = [0u8; 20];
     let count = io::decimal(n, &mut digits);
-    put(&digits[..count], page, at)
+    let behind = put(&digits[..count], page, at);
+    put(end, page, behind)
 }
 
 // The size of a number, without its sign.
@@ -36,16 +39,17 @@ pub fn magnitude(x: i32) -> u64
     if x < 0 { (!x) as u64 + 1 } else { x as u64 }
 }
 
-fn put_decimal(x: i32, page: &mut [u8], at: usize) -> usize
-    requires { ⌜ at + length (decimal x) ≤ length (now page) ⌝ }
-    ensures { λ r. ⌜ Put (now (page .entry)) at (decimal x) r (now (page .exit)) ⌝ }
+// A number with its sign, and what ends it.
+fn put_decimal(x: i32, end: &[u8], page: &mut [u8], at: usize) -> usize
+    requires { ⌜ at + length (decimal x ++ now end) ≤ length (now page) ⌝ }
+    ensures { λ r. ⌜ Put (now (page .entry)) at (decimal x ++ now (end .entry)) r (now (page .exit)) ⌝ }
 {
     let size = magnitude(x);
     if x < 0 {
         let behind = put(b"-", page, at);
-        return put_number(size, page, behind);
+        return put_number(size, end, page, behind);
     }
-    put_number(size, page, at)
+    put_number(size, end, page, at)
 }
 
 pub fn put_heading(page: &mut [u8], at: usize) -> usize
@@ -60,26 +64,21 @@ pub fn put_refusal(number: u64, page: &mut [u8], at: usize) -> usize
     ensures { λ r. ⌜ Put (now (page .entry)) at (refusal number) r (now (page .exit)) ⌝ }
 {
     let behind = put(b"refused ", page, at);
-    let end = put_number(number, page, behind);
-    put(b"\n", page, end)
+    put_number(number, b"\n", page, behind)
 }
 
-// The widest line has 34 bytes: two numbers of 4 digits, two of 10 with a sign, three spaces and the line feed.
 fn put_line(block: u64, k: u64, re: i32, im: i32, page: &mut [u8], at: usize) -> usize
-    requires { ⌜ (block < 10000) × (k < 10000) × (at + 34 ≤ length (now page)) ⌝ }
-    ensures { λ r. ⌜ Put (now (page .entry)) at (line block k re im) r (now (page .exit)) × (r ≤ at + 34) ⌝ }
+    requires { ⌜ at + length (line block k re im) ≤ length (now page) ⌝ }
+    ensures { λ r. ⌜ Put (now (page .entry)) at (line block k re im) r (now (page .exit)) ⌝ }
 {
-    let a = put_number(block, page, at);
-    let b = put(b" ", page, a);
-    let c = put_number(k, page, b);
-    let d = put(b" ", page, c);
-    let e = put_decimal(re, page, d);
-    let f = put(b" ", page, e);
-    let g = put_decimal(im, page, f);
-    put(b"\n", page, g)
+    let a = put_number(block, b" ", page, at);
+    let b = put_number(k, b" ", page, a);
+    let c = put_decimal(re, b" ", page, b);
+    put_decimal(im, b"\n", page, c)
 }
 
-// The lines of one block, a line for each k below n.
+// The lines of one block, a line for each k below n. The widest has 34 bytes: two numbers of 4 digits, two of 10 with a sign, three spaces
+// and the line feed.
 pub fn put_lines(
     block: u64,
     real: &[i32],

@@ -3,8 +3,7 @@ use mathlib.Core.Path.{_∙_}
 use Prim.Native.Nat.{_-_, _≤_}
 use native.Mathlib.Omega.{arith}
 use lib.IntN.{pos}
-use mir.Facts.{toZ-ofZ}
-use borrow.Author.Needs.{needs, sfits-of}
+use borrow.Author.Needs.{needs}
 use Rattle.words.proofs.Writing.{Ends, ends-none, ends-front, ends-all}
 use Rattle.pairfile.specs.File.{samplesAt}
 use Rattle.pairfile.proofs.fill.Statement.{statement}
@@ -15,13 +14,6 @@ Inv-loop file start m recording₀ i₀ recording i = (i ≤ m) × Ends (pos 0) 
 
 abbrev μ-loop : tie.MeasureT-loop
 μ-loop file start m recording₀ i₀ recording i = m - i
-
-loop-again : tie.Need-loop-again Inv-loop μ-loop
-loop-again c = (
-  omega arith,
-  ends-front (c .before .before .loop .inv .1) (omega arith)
-      (toZ-ofZ (sfits-of (c .signed-at .ok)) ∙ c .signed-at .ensures),
-)
 
 pub fill-spec : {M : Type 1} → statement M
 fill-spec =
@@ -37,6 +29,6 @@ fill-spec =
     (λ c. search needs)  -- slice-set-from-x
     (λ c. search needs)  -- add-i
     (λ c. search needs)  -- loop-less
-    loop-again
+    (λ c. (search needs, ends-front (c .before .before .loop .inv .1) (omega arith) (search (needs, _∙_))))  -- loop-again
     (λ c. search needs)  -- same-length
     (λ c. ends-all (c .before .loop .inv .1) (omega arith)))  -- returns

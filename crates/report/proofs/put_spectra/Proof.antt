@@ -1,59 +1,21 @@
 -- `report::put_spectra` meets its contract: when the loop comes to a block, the lines of the blocks before it are put behind the heading.
 -- Assumes nothing.
-use mathlib.Core.Path.{_≡_}
-use Prim.Native.Nat.{_+_, _-_, _*_, _/_, _≤_}
-use native.Mathlib.Nat.{div-le-self}
-use native.Mathlib.Omega.{arith}
+use Prim.Native.Nat.{_-_, _*_, _≤_}
 use borrow.Author.Needs.{needs}
 use Rattle.words.specs.Words.{word}
-use Rattle.text.proofs.Putting.{_then_}
 use Rattle.report.specs.Output.{blockLines}
 use Rattle.report.specs.Puts.{PutFrom}
-use Rattle.report.proofs.Printing.{some-samples, whole-blocks, next-block, printable-block, no-blocks, one-more}
+use Rattle.report.proofs.Printing.{some-samples, no-blocks, one-more, next-fits, block-ready, block-room, spectra-put}
 use Rattle.report.proofs.put_spectra.Statement.{statement}
 use Rattle.report.proofs.put_spectra.Tie as tie
 
 abbrev Inv-loop : tie.InvT-loop
 Inv-loop a b m n real₀ imaginary₀ scratch₀ page₀ count at₀ block₀ real imaginary scratch page at block =
-    (block ≤ count) × (count ≤ 4096)
+    (block ≤ count)
     × PutFrom page₀ at₀ (blockLines n (word a) (word b) block) (34 * (block * n)) at page real₀ imaginary₀ scratch₀ real imaginary scratch
 
 abbrev μ-loop : tie.MeasureT-loop
 μ-loop a b m n real₀ imaginary₀ scratch₀ page₀ count at₀ block₀ real imaginary scratch page at block = count - block
-
-loop-holds : tie.Need-loop-holds Inv-loop μ-loop
-loop-holds c =
-    let s = c .before .before .before .before .before in
-    (search needs, omega (arith, s .pre .0 .most, div-le-self (s .args .m) (s .args .n)), no-blocks _ _ _ (omega arith))
-
-put-block-requires : tie.Need-put-block-requires Inv-loop μ-loop
-put-block-requires c κs =
-    let i = c .before .before .before .before in
-    let l = i .before in
-    let s = l .before .before .before .before .before .before in
-    let p = s .pre .0 in
-    let b = l .loop .block in
-    let n = s .args .n in
-    let v = l .loop .inv .2 in (
-      printable-block b p (omega arith) (v .realWords) (v .imaginaryWords) (v .scratchWords),
-      omega (arith, whole-blocks (b + 1) (s .args .m) n (p .length-ok) (omega arith), next-block b n, v .fits),
-    )
-
-returns : tie.Need-returns Inv-loop μ-loop
-returns c =
-    let l = c .before in
-    let h = l .before .before .before in
-    let s = h .before .before .before in
-    let v = l .loop .inv .2 in
-    let all : l .loop .block ≡ s .args .m / s .args .n = omega (arith, l .loop .inv .0) in
-    let whole = whole-blocks (l .loop .block) (s .args .m) (s .args .n) (s .pre .0 .length-ok) (l .loop .inv .0) in
-    record {
-      put = rw all at (h .put-heading .ensures then v .put);
-      fits = omega (arith, v .fits, h .put-heading .ensures .next-is, whole);
-      realWords = v .realWords;
-      imaginaryWords = v .imaginaryWords;
-      scratchWords = v .scratchWords;
-    }
 
 pub put-spectra-spec : {M : Type 1} → statement M
 put-spectra-spec =
@@ -63,13 +25,13 @@ put-spectra-spec =
     μ-loop
     (λ c. search (needs, some-samples))  -- div-count
     (λ c κs. search needs)  -- put-heading-requires
-    loop-holds
-    put-block-requires
-    (λ c. search needs)  -- add-block
+    (λ c. search (needs, no-blocks))  -- loop-holds
+    (λ c κs. (search (needs, block-ready), search (needs, block-room)))  -- put-block-requires
+    (λ c. search (needs, next-fits))  -- add-block
     (λ c. search needs)  -- loop-less
     (λ c. search (needs, one-more))  -- loop-again
     (λ c. search needs)  -- same-length
     (λ c. search needs)  -- same-length-2
     (λ c. search needs)  -- same-length-3
     (λ c. search needs)  -- same-length-4
-    returns)
+    (λ c. search (needs, spectra-put)))  -- returns

@@ -23,11 +23,6 @@ Inv-loop text page₀ at i₀ page i = (i ≤ length text) × Put page₀ at (ta
 abbrev μ-loop : tie.MeasureT-loop
 μ-loop text page₀ at i₀ page i = length text - i
 
-returns : tie.Need-returns Inv-loop μ-loop
-returns c =
-    let l = c .before .loop in
-    rw (take-all (l .i) (c .before .before .args .text .now) (omega arith)) at (l .inv .1)
-
 pub put-spec : {M : Type 1} → statement M
 put-spec =
     tie.close
@@ -43,4 +38,4 @@ put-spec =
     (λ c. (search needs, put-more _ _ _ (omega arith) (omega arith) (c .before .before .loop .inv .1)))  -- loop-again
     (λ c. search needs)  -- add-result
     (λ c. search needs)  -- same-length
-    returns)
+    (λ c. rw (take-all (c .before .loop .i) (c .before .before .args .text .now) (omega arith)) at (c .before .loop .inv .1)))  -- returns
