@@ -78,10 +78,9 @@ pub fn rotate(wave: &[i32; 1025], w: &mut [i64], n: usize, spent: Tally) -> Tall
     let mut products = spent.products;
     let mut sums = spent.sums;
     let mut k = 1;
-    let mut j = step;
     while k < h {
-        let c = wave_at(wave, j);
-        let s = wave_at(wave, 1024 - j);
+        let c = wave_at(wave, step * k);
+        let s = wave_at(wave, 1024 - step * k);
         let x = w[n + k];
         let y = w[n + h + 1 + k];
         let r = rotate_pair(c, s, x, y);
@@ -92,7 +91,6 @@ pub fn rotate(wave: &[i32; 1025], w: &mut [i64], n: usize, spent: Tally) -> Tall
         products += r.products;
         sums += r.sums;
         k += 1;
-        j += step;
     }
     let first = w[n];
     let cosine = w[n + h];

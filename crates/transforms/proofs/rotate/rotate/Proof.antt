@@ -17,16 +17,12 @@ use Rattle.transforms.proofs.rotate.rotate.Statement.{statement}
 use Rattle.transforms.proofs.rotate.rotate.Tie as tie
 
 abbrev Inv-loop : tie.InvT-loop
-Inv-loop wave w₀ n h step products₀ sums₀ k₀ j₀ w products sums k j =
-    ((1 ≤ k) × (k ≤ h) × (j ≡ step * k) × (products ≡ products₀ + 3 * (k - 1)) × (sums ≡ sums₀ + 3 * (k - 1)))
+Inv-loop wave w₀ n h step products₀ sums₀ k₀ w products sums k =
+    ((1 ≤ k) × (k ≤ h) × (products ≡ products₀ + 3 * (k - 1)) × (sums ≡ sums₀ + 3 * (k - 1)))
     × Ends (pos 0) 1 (k - 1) (k - 1) (n - 1) (λ i. rotated n (cosineAt n w₀) (sineAt n w₀) (1 + i)) w₀ w
 
 abbrev μ-loop : tie.MeasureT-loop
-μ-loop wave w₀ n h step products₀ sums₀ k₀ j₀ w products sums k j = h - k
-
--- the place in the table, and the step to the next
-inside : (l : tie.At-loop Inv-loop μ-loop) → (l .loop .j ≤ 1024) × (1024 / l .before .args .n ≤ 1024)
-inside l = let r = l .before .pre .1 in omega (arith, place r (l .loop .k) (omega arith), place r 1 (omega (arith, r .some)))
+μ-loop wave w₀ n h step products₀ sums₀ k₀ w products sums k = h - k
 
 -- what a turn reads
 reads : (c : tie.After-y Inv-loop μ-loop) →
@@ -36,9 +32,8 @@ reads c =
     let l = c .before .before .before .before .before in
     let v = c .before .before .before .wave-at in
     let v2 = c .before .before .wave-at2 in
-    let e = l .loop .inv .0 .2 in
     turn (l .before .pre .1) (l .loop .inv .1) (omega (arith, l .before .pre .1 .some)) _ (omega arith) (c .before .x .given)
-    (c .y .given) (v .ok) (v .ensures ∙ ap T e) (v2 .ok) (v2 .ensures ∙ ap (λ j. T (1024 - j)) e)
+    (c .y .given) (v .ok) (v .ensures) (v2 .ok) (v2 .ensures)
 
 loop-again : tie.Need-loop-again Inv-loop μ-loop
 loop-again c =
@@ -93,8 +88,10 @@ rotate-spec =
     μ-loop
     (λ c. search needs)  -- div-step
     (λ c. (omega (arith, c .pre .1 .some), ends-none))  -- loop-holds
-    (λ c κs. (c .before .before .pre .0, omega (arith, inside (c .before))))  -- wave-at-requires
-    (λ c. omega (arith, inside (c .before .before)))  -- sub-wave-at
+    (λ c. omega (arith, place (c .before .before .pre .1) (c .before .loop .k) (omega arith)))  -- mul-wave-at
+    (λ c κs. let s = c .before .before in (s .pre .0, place (s .pre .1) _ (omega arith)))  -- wave-at-requires
+    (λ c. omega (arith, place (c .before .before .before .pre .1) (c .before .before .loop .k) (omega arith)))  -- mul-wave-at-2
+    (λ c. place (c .before .before .before .pre .1) _ (omega arith))  -- sub-wave-at
     (λ c κs. (c .before .before .before .pre .0, omega arith))  -- wave-at-requires-2
     (λ c. search needs)  -- add-x
     (λ c. search needs)  -- mul-x
@@ -113,7 +110,6 @@ rotate-spec =
     (λ c. search needs)  -- add-products
     (λ c. search needs)  -- add-sums
     (λ c. search needs)  -- add-k
-    (λ c. let l = c .before .before .before .before .before .before .before .before .before .before in omega (arith, inside l))  -- add-j
     (λ c. search needs)  -- loop-less
     loop-again
     (λ c. search needs)  -- mul-first
