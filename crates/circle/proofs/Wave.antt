@@ -13,7 +13,7 @@ use Rattle.whole.proofs.Cases.{le-or-lt, both}
 use Rattle.whole.proofs.Size.{_within_, within-neg}
 use Rattle.circle.specs.Circle.{B, rootOf, halved, Point, unitStep, step, stepped, firstQuarter, K}
 use Rattle.circle.proofs.Tests.{small, entry, allSmall, all-small}
-use Rattle.circle.proofs.Places.{K-cases, K-quarter}
+use Rattle.circle.proofs.Places.{on-both, K-quarter}
 
 -- the unit step in digits
 abbrev pub unit : Point
@@ -75,10 +75,8 @@ unfolding entry
 quarter-within j = rw (quarter-at j) (all-small B wave wave-small j)
 
 pub K-within : (p : ℕ) → K p within B
-K-within p = go (K-cases p)
-  where
-    go : (j : ℕ) × ((K p ≡ firstQuarter j) ⊎ (K p ≡ negℤ (firstQuarter j))) → K p within B
-    go c = ⊎-elim (λ e. rw e (quarter-within (c .0))) (λ e. rw e (within-neg (quarter-within (c .0)))) (c .1)
+unfolding K
+K-within p = on-both (λ a b. a within B) (λ a b h. within-neg h) firstQuarter firstQuarter (λ j h. quarter-within j) p
 
 pub K-start : K 0 ≡ pos B
 unfolding entry wave cosines

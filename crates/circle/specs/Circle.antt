@@ -58,15 +58,18 @@ stepped (suc j) = step unitStep (stepped j)
 unfoldable pub firstQuarter : ℕ → ℤ
 firstQuarter j = cond (ltb j 1024) (stepped j .c) (pos 0)
 
--- "For the other places K(2048 − j) = −K(j) ..": the places 0 .. 2,048
-unfoldable pub firstHalf : ℕ → ℤ
-firstHalf j = cond (leb j 1024) (firstQuarter j) (negℤ (firstQuarter (2048 - j)))
+-- "For the other places K(2048 − j) = −K(j) ..": a wave that is given on the first quarter, at the places 0 .. 2,048
+unfoldable pub onHalf : (ℕ → ℤ) → ℕ → ℤ
+onHalf quarter j = cond (leb j 1024) (quarter j) (negℤ (quarter (2048 - j)))
 
--- ".. and K(4096 − j) = K(j). Places are taken modulo 4,096."
-unfoldable pub K : ℕ → ℤ
-K place =
+-- ".. and K(4096 − j) = K(j). Places are taken modulo 4,096.": the same wave at every place
+unfoldable pub onCircle : (ℕ → ℤ) → ℕ → ℤ
+onCircle quarter place =
     let j = place % 4096 in
-    cond (leb j 2048) (firstHalf j) (firstHalf (4096 - j))
+    cond (leb j 2048) (onHalf quarter j) (onHalf quarter (4096 - j))
+
+unfoldable pub K : ℕ → ℤ
+K place = onCircle firstQuarter place
 
 -- the sine's place is p − 1,024: modulo 4,096 that is p + 3,072 (p - 1024 on natural numbers would stop at 0)
 abbrev pub sineAt : ℕ → ℤ

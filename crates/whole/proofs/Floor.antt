@@ -2,7 +2,7 @@
 -- Assumes nothing.
 use mathlib.Core.Path.{_≡_, ap}
 use Prim.Native.Nat.{ℕ, suc, _+_, _*_, _-_, _/_, _%_, _<_}
-use native.Mathlib.Nat.{div-add-mod', mod-lt}
+use native.Mathlib.Nat.{div-add-mod', mod-lt, mul-le-mul, le-refl}
 use native.Mathlib.Omega.{arith}
 use lib.IntN.{ℤ, pos, negsuc, negℤ, _+ℤ_, _-ℤ_, _*ℤ_}
 use lib.Signed.{shrZ, _≤ℤ_, _<ℤ_}
@@ -26,23 +26,32 @@ floor (negsuc a) m h =
     let l = mod-lt a h in
     record { rest = m - 1 - a % m; below = omega arith; split = below-zero a m (a / m) (m - 1 - a % m) (omega (arith, div-add-mod' a m)) }
 
--- ---- q (2 h) is the multiple of 2 h nearest to v, a tie going to the larger
-pub record NearestMultiple (h : ℕ) (v q : ℤ) : Type 0 where
-  pub low : negℤ (int h) ≤ℤ (v -ℤ int (2 * h) *ℤ q)
-  pub high : (v -ℤ int (2 * h) *ℤ q) <ℤ int h
+pub floor-one : (v : ℤ) → shrZ v 1 ≡ v
+floor-one v = go (shrZ v 1) (floor v 1 (omega arith))
+  where
+    go : (q : ℤ) → Floor v 1 q → q ≡ v
+    go q f =
+        let e = ⊖-same _ _ _ _ (simp diff at (rw (parts v, parts q) at (f .split))) in
+        let b = f .below in
+        rw (parts v, parts q) (omega near)
 
-module _ (h : ℕ) (v : ℤ) where
+-- ---- q m is the multiple of m nearest to v, a tie going to the larger (`Nearest` of specs/Round, with `int`)
+pub record NearestMultiple (m : ℕ) (v q : ℤ) : Type 0 where
+  pub low : negℤ (int m) ≤ℤ (int 2 *ℤ (v -ℤ int m *ℤ q))
+  pub high : (int 2 *ℤ (v -ℤ int m *ℤ q)) <ℤ int m
+
+module _ (m : ℕ) (v : ℤ) where
   -- that fixes q
-  pub nearest-only : (p q : ℤ) → NearestMultiple h v p → NearestMultiple h v q → p ≡ q
-  nearest-only p q s t = within-same p q (within-less (2 * h) some off)
+  pub nearest-only : (p q : ℤ) → NearestMultiple m v p → NearestMultiple m v q → p ≡ q
+  nearest-only p q s t = within-same p q (within-less m some off)
     where
-      some : 0 < 2 * h
+      some : 0 < m
       some =
           let s₁ = le-⊖ _ _ _ _ (simp diff at (rw (parts v, parts p) at (s .low))) in
           let s₂ = lt-⊖ _ _ _ _ (simp diff at (rw (parts v, parts p) at (s .high))) in
           omega arith
 
-      off : int (2 * h) *ℤ (p -ℤ q) within 2 * h - 1
+      off : int m *ℤ (p -ℤ q) within m - 1
       off =
           let s₁ = le-⊖ _ _ _ _ (simp diff at (rw (parts v, parts p) at (s .low))) in
           let s₂ = lt-⊖ _ _ _ _ (simp diff at (rw (parts v, parts p) at (s .high))) in
@@ -50,18 +59,34 @@ module _ (h : ℕ) (v : ℤ) where
           let t₂ = lt-⊖ _ _ _ _ (simp diff at (rw (parts v, parts q) at (t .high))) in
           rw (parts p, parts q) (simp diff (omega near))
 
-  pub nearest-within : (q : ℤ) → NearestMultiple h v q → q *ℤ int (2 * h) -ℤ v within h
+  pub nearest-within : (q : ℤ) → NearestMultiple m v q → int 2 *ℤ (q *ℤ int m -ℤ v) within m
   nearest-within q s =
       let l = le-⊖ _ _ _ _ (simp diff at (rw (parts v, parts q) at (s .low))) in
       let u = lt-⊖ _ _ _ _ (simp diff at (rw (parts v, parts q) at (s .high))) in
       rw (parts v, parts q) (simp diff (omega near))
 
-  -- and q is the floor of (v + h) / 2 h
-  pub nearest-floor : 0 < h → NearestMultiple h v (shrZ (v +ℤ int h) (2 * h))
-  nearest-floor l = go (shrZ (v +ℤ int h) (2 * h)) (floor (v +ℤ int h) (2 * h) (omega arith))
+  -- the floor of (2 v + m) / 2 m is such a q
+  pub nearest-floor : 0 < m → NearestMultiple m v (shrZ (int 2 *ℤ v +ℤ int m) (2 * m))
+  nearest-floor l = go (shrZ (int 2 *ℤ v +ℤ int m) (2 * m)) (floor (int 2 *ℤ v +ℤ int m) (2 * m) (omega arith))
     where
-      go : (q : ℤ) → Floor (v +ℤ int h) (2 * h) q → NearestMultiple h v q
+      go : (q : ℤ) → Floor (int 2 *ℤ v +ℤ int m) (2 * m) q → NearestMultiple m v q
       go q f =
           let e = ⊖-same _ _ _ _ (simp diff at (rw (parts v, parts q) at (f .split))) in
           let b = f .below in
           record { low = rw (parts v, parts q) (simp diff (omega near)); high = rw (parts v, parts q) (simp diff (omega near)) }
+
+  -- and so is, where m is 2 h d, that of (H + h) / 2 h, H being the floor of v / d
+  pub nearest-quotient : (h d : ℕ) → m ≡ 2 * h * d → 0 < h → 0 < d → NearestMultiple m v (shrZ (shrZ v d +ℤ int h) (2 * h))
+  nearest-quotient h d e l k =
+      go (shrZ v d) (floor v d k) (shrZ (shrZ v d +ℤ int h) (2 * h)) (floor (shrZ v d +ℤ int h) (2 * h) (omega arith))
+    where
+      go : (H : ℤ) → Floor v d H → (q : ℤ) → Floor (H +ℤ int h) (2 * h) q → NearestMultiple m v q
+      go H f q g =
+          let a = ⊖-same _ _ _ _ (simp diff at (rw (parts v, parts H) at (f .split))) in
+          let b = ⊖-same _ _ _ _ (simp diff at (rw (parts H, parts q) at (ap (λ z. z *ℤ int d) (g .split)))) in
+          let r = f .below in
+          let s = mul-le-mul (g .below) (le-refl d) in
+          record {
+            low = rw (e, parts v, parts q) (simp diff (omega (near, a, b, r, s)));
+            high = rw (e, parts v, parts q) (simp diff (omega (near, a, b, r, s)));
+          }

@@ -1,31 +1,50 @@
--- The laws of rounding. `round-near` is the only one that error limits cite; `round-nearest` is what the tie rule says.
+-- The laws of rounding. `nearest-near` and `round-near` are the only ones that error limits cite; `round-nearest` is what the tie rule says.
 -- Assumes nothing.
-use mathlib.Core.Path.{refl}
-use Prim.Native.Nat.{_*_, _^_, _≤_}
+use mathlib.Core.Path.{_≡_, refl, sym, _∙_, ap}
+use Prim.Native.Nat.{ℕ, _*_, _^_, _<_, _≤_}
+use native.Mathlib.Nat.{mul-le-mul}
 use native.Mathlib.Omega.{arith}
 use lib.Dec.{lit<}
-use lib.IntN.{ℤ, pos, natAbs, _-ℤ_, _*ℤ_}
-use Rattle.whole.specs.Round.{round, RoundsToNearest, KnownRounds}
+use lib.IntN.{ℤ, pos, natAbs, _+ℤ_, _-ℤ_, _*ℤ_}
+use lib.Signed.{shrZ}
+use Rattle.whole.specs.Round.{nearest, round, RoundsToNearest, KnownRounds}
 use Rattle.whole.proofs.Difference.{int}
-use Rattle.whole.proofs.Size.{within-size}
-use Rattle.whole.proofs.Floor.{NearestMultiple, nearest-floor, nearest-only, nearest-within}
+use Rattle.whole.proofs.Size.{_within_, within-size, within-cancel, size-mul, size-int}
+use Rattle.whole.proofs.Floor.{floor-one, NearestMultiple, nearest-floor, nearest-only, nearest-within, nearest-quotient}
 
-multiple : (v : ℤ) → NearestMultiple (2 ^ 29) v (round v)
-unfolding round int
-multiple v = nearest-floor (2 ^ 29) v (lit< tt)
+-- ---- the ties nearest to zero, computed
+pub known-rounds : KnownRounds
+unfolding nearest round
+known-rounds = record { tie = refl; below = refl; negativeTie = refl; negativeBelow = refl }
 
-pub round-nearest : (v : ℤ) → RoundsToNearest v
+-- ---- the tie rule
+multiple : (v : ℤ) (m : ℕ) → 0 < m → NearestMultiple m v (nearest v m)
+unfolding nearest int
+multiple v m l = nearest-floor m v l
+
+pub round-nearest : (v : ℤ) (m : ℕ) → 0 < m → RoundsToNearest v m
 unfolding int
-round-nearest v = record {
-  nearest = record { low = multiple v .low; high = multiple v .high };
-  only = λ q n. nearest-only (2 ^ 29) v q (round v) (record { low = n .low; high = n .high }) (multiple v);
+round-nearest v m l = record {
+  is-nearest = record { low = multiple v m l .low; high = multiple v m l .high };
+  only = λ q n. nearest-only m v q (nearest v m) (record { low = n .low; high = n .high }) (multiple v m l);
 }
 
-pub known-rounds : KnownRounds
-unfolding round
-known-rounds = record { tie = refl; below = refl; negativeTie = refl; negativeBelow = refl }
+-- ---- as code makes it: h added before the floor division by m = 2 h; for m = 2 h d in two steps, with the floor of v / d
+pub by-quotient : (v : ℤ) (h d m : ℕ) → m ≡ 2 * h * d → 0 < h → 0 < d → shrZ (shrZ v d +ℤ int h) (2 * h) ≡ nearest v m
+by-quotient v h d m e l k = nearest-only m v _ _ (nearest-quotient m v h d e l k) (multiple v m (omega (arith, e, mul-le-mul l k)))
+
+pub by-half : (v : ℤ) (h m : ℕ) → m ≡ 2 * h → 0 < h → shrZ (v +ℤ int h) m ≡ nearest v m
+by-half v h m e l =
+    ap (λ z. shrZ (z +ℤ int h) m) (sym (floor-one v)) ∙ ap (shrZ (shrZ v 1 +ℤ int h)) e ∙ by-quotient v h 1 m (omega (arith, e)) l (lit< tt)
+
+-- ---- 2 |q m - v| ≤ m, for q = v / m rounded
+pub nearest-near : (v : ℤ) (m : ℕ) → 0 < m → int 2 *ℤ (nearest v m *ℤ int m -ℤ v) within m
+nearest-near v m l = nearest-within m v (nearest v m) (multiple v m l)
+
+pub half-near : (v : ℤ) (h : ℕ) → 0 < h → nearest v (2 * h) *ℤ int (2 * h) -ℤ v within h
+half-near v h l = within-cancel 2 (lit< tt) (nearest-near v (2 * h) (omega arith))
 
 -- 2 |round v 2^30 - v| ≤ 2^30
 pub round-near : (v : ℤ) → 2 * natAbs (round v *ℤ pos (2 ^ 30) -ℤ v) ≤ 2 ^ 30
-unfolding int
-round-near v = omega (arith, within-size (nearest-within (2 ^ 29) v (round v) (multiple v)))
+unfolding int round
+round-near v = rw (size-mul, size-int 2) at (within-size (nearest-near v (2 ^ 30) (lit< tt)))

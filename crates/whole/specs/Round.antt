@@ -1,23 +1,27 @@
 -- Document 01, "The transforms": rounding.
 use mathlib.Core.Path.{_≡_}
-use Prim.Native.Nat.{_+_, _-_, _^_}
+use Prim.Native.Nat.{ℕ, _+_, _-_, _*_, _^_}
 use lib.IntN.{ℤ, pos, negℤ, _+ℤ_, _-ℤ_, _*ℤ_}
 use lib.Signed.{shrZ, _≤ℤ_, _<ℤ_}
 
--- "the nearest multiple of 2^30, a tie going to the larger, then divided by 2^30. Negative numbers follow the same rule":
--- the floor of (v + 2^29) / 2^30. (`shrZ a m` is a / m rounded toward minus infinity.)
+-- v / m rounded to the nearest whole number, "a tie going to the larger": the floor of v / m + 1/2, which is (2 v + m) / 2 m.
+-- (`shrZ a m` is a / m rounded toward minus infinity.)
+unfoldable pub nearest : ℤ → ℕ → ℤ
+nearest v m = shrZ (pos 2 *ℤ v +ℤ pos m) (2 * m)
+
+-- "the nearest multiple of 2^30, a tie going to the larger, then divided by 2^30. Negative numbers follow the same rule"
 unfoldable pub round : ℤ → ℤ
-round v = shrZ (v +ℤ pos (2 ^ 29)) (2 ^ 30)
+round v = nearest v (2 ^ 30)
 
--- q · 2^30 is the multiple of 2^30 nearest to v, a tie going to the larger: -2^29 ≤ v - q · 2^30 < 2^29
-pub record Nearest (v q : ℤ) : Type 0 where
-  pub low : negℤ (pos (2 ^ 29)) ≤ℤ (v -ℤ pos (2 ^ 30) *ℤ q)
-  pub high : (v -ℤ pos (2 ^ 30) *ℤ q) <ℤ pos (2 ^ 29)
+-- q · m is the multiple of m nearest to v, a tie going to the larger: -m/2 ≤ v - q · m < m/2
+pub record Nearest (v : ℤ) (m : ℕ) (q : ℤ) : Type 0 where
+  pub low : negℤ (pos m) ≤ℤ (pos 2 *ℤ (v -ℤ pos m *ℤ q))
+  pub high : (pos 2 *ℤ (v -ℤ pos m *ℤ q)) <ℤ pos m
 
--- what is proved of `round` in proofs/Rounding, for every v: it gives the nearest multiple, and no other number does
-pub record RoundsToNearest (v : ℤ) : Type 0 where
-  pub nearest : Nearest v (round v)
-  pub only : (q : ℤ) → Nearest v q → q ≡ round v
+-- what is proved of `nearest` in proofs/Rounding, for every v and every m from 1: it gives the nearest multiple, and no other number does
+pub record RoundsToNearest (v : ℤ) (m : ℕ) : Type 0 where
+  pub is-nearest : Nearest v m (nearest v m)
+  pub only : (q : ℤ) → Nearest v m q → q ≡ nearest v m
 
 -- "exact around zero and at ties": the two ties nearest to zero and the numbers just below them
 pub record KnownRounds : Type 0 where

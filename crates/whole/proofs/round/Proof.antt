@@ -1,6 +1,7 @@
--- `whole::round` meets its contract: v and the half fit a word together, and the shift is the floor division. Assumes nothing.
-use mathlib.Core.Path.{refl}
-use Prim.Native.Nat.{ℕ}
+-- `whole::round` meets its contract: v and the half fit a word together, and the shift is the floor division (`by-half`). Assumes nothing.
+use mathlib.Core.Path.{refl, _∙_}
+use Prim.Native.Nat.{ℕ, _^_}
+use native.Mathlib.Omega.{arith}
 use lib.Dec.{lit<}
 use lib.IntN.{_+ℤ_}
 use mir.Syntax.{w64}
@@ -9,6 +10,7 @@ use mir.Facts.{sfits-lit}
 use Rattle.whole.specs.Round.{round}
 use Rattle.whole.proofs.Difference.{int}
 use Rattle.whole.proofs.Size.{size-within, within-add, within-int, within-fits}
+use Rattle.whole.proofs.Rounding.{by-half}
 use Rattle.whole.proofs.Words.{Word, word, asked, made, shifted}
 use Rattle.whole.proofs.round.Statement.{statement}
 use Rattle.whole.proofs.round.Tie as tie
@@ -28,8 +30,8 @@ add-result : tie.Need-add-result
 add-result c = asked _+ℤ_ (word (c .fits .v)) half (sum-fits c)
 
 returns : tie.Need-returns
-unfolding int round
-returns c = shifted _ (made _+ℤ_ (word (c .fits .v)) half (sum-fits c)) .is
+unfolding round
+returns c = shifted _ (made _+ℤ_ (word (c .fits .v)) half (sum-fits c)) .is ∙ by-half (c .args .v) added (2 ^ 30) (omega arith) (omega arith)
 
 pub round-spec : {M : Type 1} → statement M
 round-spec = tie.close (tie.spec add-result returns)
