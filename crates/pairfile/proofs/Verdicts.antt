@@ -140,14 +140,14 @@ module _ (file : List ℕ) (a b : List ℤ) where
 
             module _ (beyond : ℕ) (in-a : m ≤ out) (o₂ : beyond ≡ firstOut (samplesAt file (startOfB m)) 0 m) where
               range-a : firstOut (samplesAt file startOfA) 0 m ≡ 0 + m
-              range-a = first-end _ 0 m o (omega arith)
+              range-a = first-end _ _ 0 m o (omega arith)
 
               pub b-out : beyond < m → ReadPromise file a b a b (OutOfRange beyond)
               b-out h = turned (down (omega arith) (past-3 ∙ out-verdict recordings 0 m beyond (inr (range-a, inl (o₂, omega arith)))))
 
               pub all-in-range : m ≤ beyond → Accepted file a b m N
               all-in-range in-b =
-                  let range-b = first-end (samplesAt file (startOfB m)) 0 m o₂ (omega arith) in
+                  let range-b = first-end _ (samplesAt file (startOfB m)) 0 m o₂ (omega arith) in
                   record {
                     reads = λ v w. record {
                       verdict = sym (past-3 ∙ in-verdict recordings 0 m (range-a, (range-b, tt)));
@@ -160,8 +160,8 @@ module _ (file : List ℕ) (a b : List ℤ) where
                         some = some;
                         most = most;
                         length-ok = sym is ∙ not-false ok good;
-                        rangeOfA = λ n h. passed (samplesAt file startOfA) 0 m range-a n (omega arith) (omega arith);
-                        rangeOfB = rw (← count) (λ n h. passed (samplesAt file (startOfB m)) 0 m range-b n (omega arith) (omega arith));
+                        rangeOfA = λ n h. passed _ (samplesAt file startOfA) 0 m range-a n (omega arith) (omega arith);
+                        rangeOfB = rw (← count) (λ n h. passed _ (samplesAt file (startOfB m)) 0 m range-b n (omega arith) (omega arith));
                       };
                     };
                   }

@@ -2,6 +2,7 @@
 -- verdict on a call (crate spectra) and on a file.
 use mathlib.Core.Bool.{Bool, false, cond, _||_}
 use mathlib.Core.List.{List, [], _∷_}
+use mathlib.Core.Path.{_≡_}
 use Prim.Native.Nat.{ℕ, zero, suc, _+_, _*_}
 use lib.Dec.{leb, ltb}
 use lib.IntN.{ℤ, natAbs}
@@ -23,13 +24,20 @@ scratchWords N = 8 * N + 64
 abbrev pub block : List ℤ → ℕ → Samples
 block recording start n = word recording (start + n)
 
-abbrev pub inRange : ℤ → Bool
-inRange z = leb (natAbs z) largestSample
+-- a number at most a limit in size
+abbrev pub atMost : ℕ → ℤ → Bool
+atMost limit z = leb (natAbs z) limit
 
--- the first place out of range among i, i + 1, .. i + d - 1, or i + d where there is none
-unfoldable pub firstOut : Samples → ℕ → ℕ → ℕ
-firstOut x i zero = i
-firstOut x i (suc d) = cond (inRange (x i)) (firstOut x (suc i) d) i
+-- the first place among i, i + 1, .. i + d - 1 where the number is beyond the limit on either side, or i + d where there is none
+unfoldable pub firstBeyond : ℕ → Samples → ℕ → ℕ → ℕ
+firstBeyond limit x i zero = i
+firstBeyond limit x i (suc d) = cond (atMost limit (x i)) (firstBeyond limit x (suc i) d) i
+
+abbrev pub inRange : ℤ → Bool
+inRange z = atMost largestSample z
+
+abbrev pub firstOut : Samples → ℕ → ℕ → ℕ
+firstOut x i d = firstBeyond largestSample x i d
 
 -- ---- the verdict: the number of the first condition that holds, for 6 with "the place in the recording"
 pub data Verdict : Type 0 where
@@ -43,11 +51,23 @@ number (refused n) = n
 number (refusedAt n place) = n
 number accepted = 0
 
--- 6 on a recording, and then the rest. "The place in answer 6 counts from 0 at the first sample of the recording, not of the block."
+-- a refusal with the place of the first number beyond a limit, and then the rest
+abbrev pub firstBeyondOr : (number limit : ℕ) → Samples → ℕ → ℕ → Verdict → Verdict
+firstBeyondOr number limit x start N rest =
+    cond (ltb (firstBeyond limit x start N) (start + N)) (refusedAt number (firstBeyond limit x start N)) rest
+
+-- 6 on a recording. "The place in answer 6 counts from 0 at the first sample of the recording, not of the block."
 abbrev pub firstOutOr : Samples → ℕ → ℕ → Verdict → Verdict
-firstOutOr x start N rest = cond (ltb (firstOut x start N) (start + N)) (refusedAt 6 (firstOut x start N)) rest
+firstOutOr x start N rest = firstBeyondOr 6 largestSample x start N rest
 
 -- "in Pair a before b"
 abbrev pub firstOutIn : List Samples → ℕ → ℕ → Verdict
 firstOutIn [] start N = accepted
 firstOutIn (x ∷ xs) start N = firstOutOr x start N (firstOutIn xs start N)
+
+-- ---- what a call promises of the verdict that its answer tells: it is the one that is stated; what stays where the call is turned down,
+-- and what is done where it is accepted
+pub record Promise (told stated : Verdict) (Unchanged Done : Type 0) : Type 0 where
+  pub verdict : told ≡ stated
+  pub unchanged : (told ≡ accepted → ⊥) → Unchanged
+  pub done : told ≡ accepted → Done

@@ -41,7 +41,7 @@ module _ (i : ℕ) {N allowance : ℕ} {a b real imaginary scratch real′ imagi
       scratch = p .scratchFits;
       allowance = omega (arith, e (block a (i * N)) (block b (i * N)));
     };
-    range = (none-out (word a) (i * N) N (λ j _ l. p .rangeOfA j l), (none-out (word b) (i * N) N (λ j _ l. p .rangeOfB j l), tt));
+    range = (none-out _ (word a) (i * N) N (λ j _ l. p .rangeOfA j l), (none-out _ (word b) (i * N) N (λ j _ l. p .rangeOfB j l), tt));
   }))
 
 -- ---- equal coefficients have equal lines

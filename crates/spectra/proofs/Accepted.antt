@@ -42,7 +42,7 @@ fit recording p inside range = record { length-ok = p .past .length-ok; inside =
 
 module _ {recording : List ℤ} {start N : ℕ} (f : Fit recording start N) where
   fit-block : AcceptedBlock (level N) (block recording start)
-  fit-block = accepted (record { length-ok = f .length-ok; range = all-in (word recording) start N (f .range) })
+  fit-block = accepted (record { length-ok = f .length-ok; range = all-in _ (word recording) start N (f .range) })
 
   pub fit-length : length (lent recording start N) ≡ N
   fit-length =
@@ -60,7 +60,7 @@ module _ {recording : List ℤ} {start N : ℕ} (f : Fit recording start N) wher
     whole = omega (arith, fit-length);
     block-ok = record {
       length-ok = f .length-ok;
-      range = λ k h. rw (fit-word k h) (all-in (word recording) start N (f .range) k h);
+      range = λ k h. rw (fit-word k h) (all-in _ (word recording) start N (f .range) k h);
     };
     room = omega (arith, is, length-take-le m scratch (omega arith));
   })

@@ -5,6 +5,7 @@ use native.Mathlib.Omega.{arith}
 use mir.Facts.{toZ-ofZ}
 use borrow.Author.Needs.{needs, sfits-of}
 use borrow.Author.Tests.{not-true, not-false}
+use Rattle.ffct.specs.Block.{largestSample}
 use Rattle.refusals.specs.Refusals.{inRange}
 use Rattle.refusals.proofs.Ranges.{Searched, searched-none, searched-on, searched-out, searched-all}
 use Rattle.pairfile.specs.File.{samplesAt}
@@ -12,7 +13,7 @@ use Rattle.pairfile.proofs.first_out.Statement.{statement}
 use Rattle.pairfile.proofs.first_out.Tie as tie
 
 abbrev Inv-loop : tie.InvT-loop
-Inv-loop file start m i₀ i = Searched (samplesAt file start) m i
+Inv-loop file start m i₀ i = Searched largestSample (samplesAt file start) m i
 
 abbrev μ-loop : tie.MeasureT-loop
 μ-loop file start m i₀ i = m - i

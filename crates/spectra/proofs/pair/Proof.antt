@@ -32,7 +32,7 @@ past c = told-by (c .before .before) .past (c .enum-told .given .1)
 passed : (c : tie.Else1) → Passed6 (call (c .before .before .before .before))
 passed c =
     let d = c .before .before in
-    told-by (d .before .before) .passed (d .enum-told .given .1) (first-end _ _ _ (c .before .first-out .ensures) (c .if1 .left), tt)
+    told-by (d .before .before) .passed (d .enum-told .given .1) (first-end _ _ _ _ (c .before .first-out .ensures) (c .if1 .left), tt)
 
 returns-2 : tie.Need-returns-2
 returns-2 c =
