@@ -1,20 +1,24 @@
 -- The cosines of the DCT are orthogonal, and the exact sums give the block back. With n w = 1024 as in Sums: twice a product of two cosines
--- is B times the sum of two cosines, by the addition law, and the sums of these over all places are known without error.
+-- is B times the sum of two cosines, by the addition law, and the sums of these over all places are known without error. Coefficients near
+-- the exact sums give the block back too, as nearly (`inverse-of-near`).
 -- Assumes nothing.
 use mathlib.Core.Path.{_≡_, refl, sym, _∙_, ap, ap₂}
 use mathlib.Core.Logic.{⊎-elim}
 use Prim.Native.Nat.{ℕ, zero, suc, _+_, _*_, _-_, _/_, _%_, _^_, _<_, _≤_}
 use native.Mathlib.Nat.{div-le-self}
 use native.Mathlib.Omega.{arith}
+use lib.Dec.{lit<}
 use lib.IntN.{ℤ, pos, negℤ, natAbs, _+ℤ_, _-ℤ_, _*ℤ_, +ℤ-invr}
 use Rattle.whole.specs.Sum.{sum}
 use Rattle.whole.proofs.Cases.{le-or-lt, same-or-not}
 use Rattle.whole.proofs.Difference.{int, parts, diff}
 use Rattle.whole.proofs.Ring.{expand, *ℤ-assoc, +ℤ-*ℤ}
 use Rattle.whole.proofs.Size.{near, _within_, size-within, within-size, within-int, within-eq, within-le, within-add, within-mul}
+use Rattle.whole.proofs.Size.{within-trans, within-cancel}
 use Rattle.whole.proofs.Sums.{sum-cong, sum-add, sum-sub, sum-neg, sum-scale, sum-scaled, sum-same, sum-halves, sum-first, sum-reverse}
 use Rattle.whole.proofs.Sums.{sum-swap, sum-within, sum-one}
 use Rattle.circle.specs.Circle.{B, K, sineAt}
+use Rattle.circle.specs.Laws.{additionError}
 use Rattle.circle.proofs.Places.{mirror, opposite, turns-on, half-turn-on}
 use Rattle.circle.proofs.Wave.{K-within, K-start}
 use Rattle.words.specs.Words.{Samples}
@@ -190,17 +194,37 @@ inverse-add N E e n =
     joined : (u v b t y z : ℤ) → (u +ℤ v) *ℤ b +ℤ t *ℤ (y +ℤ z) ≡ u *ℤ b +ℤ t *ℤ y +ℤ (v *ℤ b +ℤ t *ℤ z)
     joined u v b t y z = simp expand
 
+-- of multiples: d(k) is c(k) b below N
+pub inverse-scale : (N : ℕ) (c d : ℕ → ℤ) (b : ℤ) (n : ℕ) → 0 < N → ((k : ℕ) → k < N → c k *ℤ b ≡ d k) →
+    exactInverse N c n *ℤ b ≡ exactInverse N d n
+unfolding exactInverse
+inverse-scale N c d b n l h =
+    gathered (c 0) (pos B) (pos 2) (sum (N - 1) (λ i. c (i + 1) *ℤ z i))
+    ∙ ap₂ (λ u s. u *ℤ pos B +ℤ pos 2 *ℤ s) (h 0 l)
+    (sym (sum-scaled (N - 1) (λ i. c (i + 1) *ℤ z i) b)
+    ∙ sum-cong (N - 1) _ _ (λ i k. turned (c (i + 1)) (z i) ∙ ap (λ u. u *ℤ z i) (h (i + 1) (omega arith))))
+  where
+    z : ℕ → ℤ
+    z = λ i. K ((2 * n + 1) * (i + 1) * 1024 / N)
+
+    gathered : (u v t s : ℤ) → (u *ℤ v +ℤ t *ℤ s) *ℤ b ≡ u *ℤ b *ℤ v +ℤ t *ℤ (s *ℤ b)
+    gathered u v t s = simp expand
+
+    turned : (u v : ℤ) → u *ℤ v *ℤ b ≡ u *ℤ b *ℤ v
+    turned u v = simp expand
+
+-- a term once and N - 1 terms twice, each at most t in size
+pub twice-within : (N : ℕ) (a : ℤ) (f : ℕ → ℤ) {t : ℕ} → 0 < N → a within t → ((i : ℕ) → i < N - 1 → f i within t) →
+    a +ℤ int 2 *ℤ sum (N - 1) f within (2 * N - 1) * t
+twice-within N a f {t} l h g =
+    within-le (within-add h (within-mul (within-int 2) (sum-within (N - 1) f g)))
+    (omega (arith, ap (λ n. n * t) {x = 2 * N - 1} {y = 2 * (N - 1) + 1} (omega arith)))
+
 pub inverse-size : (N : ℕ) (e : ℕ → ℤ) (n : ℕ) {m : ℕ} → 0 < N → ((k : ℕ) → k < N → e k within m) →
     exactInverse N e n within (2 * N - 1) * (m * B)
 unfolding exactInverse int
-inverse-size N e n {m} l h =
-    within-le
-    (within-add (within-mul (h 0 l) (within-int B))
-    (within-mul (within-int 2) (sum-within (N - 1) _ (λ i k. within-mul (h (i + 1) (omega arith)) (K-within _)))))
-    (counted N (m * B) l)
-  where
-    counted : (N t : ℕ) → 0 < N → t + 2 * ((N - 1) * t) ≤ (2 * N - 1) * t
-    counted N t l = omega (arith, ap (λ n. n * t) {x = 2 * N - 1} {y = 2 * (N - 1) + 1} (omega arith))
+inverse-size N e n l h =
+    twice-within N _ _ l (within-mul (h 0 l) (within-int B)) (λ i k. within-mul (h (i + 1) (omega arith)) (K-within _))
 
 -- ---- and the inverse gives the block back
 first-place : (N a : ℕ) → K (a * 0 * 1024 / N) ≡ int B
@@ -262,6 +286,43 @@ inverse-near L x n l hn b =
   where
     out : (x y z : ℤ) → x *ℤ (y -ℤ z) ≡ x *ℤ y -ℤ x *ℤ z
     out x y z = simp expand
+
+-- and so do coefficients c that are within e of the exact sums, as nearly as they are: the errors of the 2 N - 1 terms, and the circle's
+module _ (L : ℕ) (x : Samples) (c : ℕ → ℤ) (n : ℕ) {X e : ℕ} (l : L ≤ topLevel) (hn : n < 2 ^ L) (b : (i : ℕ) → i < 2 ^ L → x i within X)
+    (h : (k : ℕ) → k < 2 ^ L → c k *ℤ int B -ℤ exactDct (2 ^ L) x k within e) where
+  abbrev E : ℕ → ℤ
+  E = exactDct (2 ^ L) x
+
+  error-is : exactInverse (2 ^ L) (λ k. c k *ℤ int B -ℤ E k) n ≡ exactInverse (2 ^ L) c n *ℤ int B -ℤ exactInverse (2 ^ L) E n
+  error-is =
+      moved (exactInverse (2 ^ L) E n) (exactInverse (2 ^ L) (λ k. c k *ℤ int B -ℤ E k) n)
+      ∙ ap (λ z. z -ℤ exactInverse (2 ^ L) E n)
+      (sym
+      (inverse-scale (2 ^ L) c (λ k. E k +ℤ (c k *ℤ int B -ℤ E k)) (int B) n (omega arith) (λ k i. split (c k *ℤ int B) (E k))
+      ∙ inverse-add (2 ^ L) E (λ k. c k *ℤ int B -ℤ E k) n))
+    where
+      moved : (u v : ℤ) → v ≡ u +ℤ v -ℤ u
+      moved u v = rw (parts u, parts v) (simp diff (omega near))
+
+      split : (u v : ℤ) → u ≡ v +ℤ (u -ℤ v)
+      split u v = rw (parts u, parts v) (simp diff (omega near))
+
+  pub inverse-of-near : exactInverse (2 ^ L) c n -ℤ x n *ℤ (int (2 ^ L) *ℤ int B)
+      within (2 * 2 ^ L - 1) * e + 2 ^ L * (X * (2 ^ L * (2 * additionError)))
+  inverse-of-near =
+      within-cancel B (lit< tt)
+      (within-le
+      (within-eq (out (exactInverse (2 ^ L) c n) (x n) (int (2 ^ L)) (int B))
+      (within-trans (exactInverse (2 ^ L) c n *ℤ int B) (exactInverse (2 ^ L) E n) (x n *ℤ (int (2 ^ L) *ℤ (int B *ℤ int B)))
+      (within-eq error-is (inverse-size (2 ^ L) (λ k. c k *ℤ int B -ℤ E k) n (omega arith) h))
+      (inverse-near L x n l hn b)))
+      (shared B (2 * 2 ^ L - 1) e (2 ^ L) X additionError))
+    where
+      out : (u x n b : ℤ) → u *ℤ b -ℤ x *ℤ (n *ℤ (b *ℤ b)) ≡ b *ℤ (u -ℤ x *ℤ (n *ℤ b))
+      out u x n b = simp expand
+
+      shared : (b m e n x a : ℕ) → m * (e * b) + n * (x * (n * (2 * (a * b)))) ≤ b * (m * e + n * (x * (n * (2 * a))))
+      shared b m e n x a = omega arith
 
 pub inverts : (L : ℕ) (x : Samples) (X n : ℕ) → L ≤ topLevel → n < 2 ^ L → ((i : ℕ) → i < 2 ^ L → natAbs (x i) ≤ X) → Inverts (2 ^ L) x X n
 unfolding int
