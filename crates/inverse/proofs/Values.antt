@@ -1,7 +1,7 @@
 -- A value from a sum that is kept in two words: the floor of the quotient by 2^30, then the half of N and the floor of the quotient by N.
 -- Assumes nothing.
-use mathlib.Core.Path.{_≡_, sym, ap, _∙_}
-use Prim.Native.Nat.{ℕ, _+_, _*_, _/_, _^_, _≤_, _<_}
+use mathlib.Core.Path.{_≡_, sym, ap, ap₂, _∙_}
+use Prim.Native.Nat.{ℕ, _+_, _-_, _*_, _/_, _^_, _≤_, _<_}
 use native.Mathlib.Omega.{arith}
 use lib.Dec.{lit<, lit≤}
 use lib.IntN.{ℤ, pos, _+ℤ_, _-ℤ_, _*ℤ_, +ℤ-idr}
@@ -11,10 +11,11 @@ use Rattle.whole.specs.Sum.{sum as total}
 use Rattle.whole.proofs.Difference.{parts, diff, int, ⊖-same}
 use Rattle.whole.proofs.Size.{near, _within_, size-within, within-int, within-le, within-mul, within-add, within-sub}
 use Rattle.whole.proofs.Floor.{Floor, floor, floor-only}
+use Rattle.whole.proofs.Sums.{sum-cong}
 use Rattle.whole.proofs.Rounding.{by-quotient, nearest-exact}
 use Rattle.ffct.proofs.ElevenLengths.{twice-half, length-le}
 use Rattle.inverse.specs.declared.sum.Sum.{Sum}
-use Rattle.inverse.specs.Inverse.{inverseSum, inverseDct}
+use Rattle.inverse.specs.Inverse.{T°, inverseSum, inverseDct}
 use Rattle.inverse.specs.Steps.{held, ValueReady, valueOf}
 
 -- ---- the floor of the quotient by 2^30
@@ -70,3 +71,9 @@ module _ {sum : Sum} {c : ℤ} {n : ℕ} (r : ValueReady sum c n) where
 pub value-one : (c : ℕ → ℤ) → inverseDct 1 c 0 ≡ c 0
 unfolding inverseDct inverseSum total int
 value-one c = ap (λ v. nearest v (2 ^ 30)) (+ℤ-idr (c 0 *ℤ pos (2 ^ 30))) ∙ nearest-exact (c 0) (2 ^ 30) (lit< tt)
+
+-- ---- a value reads only the N coefficients
+pub value-same : (N : ℕ) (c d : ℕ → ℤ) (n : ℕ) → 0 < N → ((k : ℕ) → k < N → c k ≡ d k) → inverseDct N c n ≡ inverseDct N d n
+unfolding inverseDct inverseSum
+value-same N c d n l e = ap (λ v. nearest v (N * 2 ^ 30)) (ap₂ (λ a s. a *ℤ pos (2 ^ 30) +ℤ pos 2 *ℤ s) (e 0 l)
+    (sum-cong (N - 1) _ _ (λ i h. ap (λ z. z *ℤ T° ((2 * n + 1) * (i + 1) * 1024 / N)) (e (i + 1) (omega arith)))))

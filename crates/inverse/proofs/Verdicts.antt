@@ -13,7 +13,7 @@ use Rattle.ffct.specs.Block.{isLength}
 use Rattle.refusals.specs.Refusals.{accepted, firstBeyond, firstBeyondOr}
 use Rattle.refusals.proofs.Conditions.{first-beyond, none-beyond}
 use Rattle.refusals.proofs.Promises.{turned-down, carried-out}
-use Rattle.refusals.proofs.Ranges.{first-end, passed}
+use Rattle.refusals.proofs.Ranges.{first-end, passed, none-out}
 use Rattle.inverse.specs.declared.InverseAnswer.the-variants.{BadLength, TooFewStored, ResultTooShort, BeyondLimit, Done}
 use Rattle.inverse.specs.Inverse.{inverseDct, largestCoefficient, inverseVerdict}
 use Rattle.inverse.specs.Promises.{InversePromise}
@@ -61,3 +61,11 @@ module _ (cs vs : List ℤ) (N : ℕ) (ok : Bool) (is : ok ≡ isLength N) where
               writes = λ w. carried-out refl (past ∙ none-beyond 10 _ (word cs) 0 N accepted within)
                   (record { words = w; length-ok = length-ok; range = range });
             }
+
+-- ---- the whole verdict where nothing is amiss
+pub accepts : (cs vs : List ℤ) (N : ℕ) → isLength N ≡ true → N ≤ length cs → N ≤ length vs
+    → ((k : ℕ) → k < N → natAbs (word cs k) ≤ largestCoefficient N) → inverseVerdict cs N vs ≡ accepted
+unfolding inverseVerdict
+accepts cs vs N ok enough room range =
+    rw (ok, le-ltb _ _ enough, le-ltb _ _ room)
+    (none-beyond 10 _ (word cs) 0 N accepted (none-out _ (word cs) 0 N (λ j _ l. range j (omega arith))))

@@ -42,7 +42,7 @@ pub fn inverse_dct(coefficients: &[i32], length: usize, values: &mut [i32]) -> I
 }
 
 // Document 02's number of an answer; 0 where the call was accepted.
-pub fn number_of(answer: InverseAnswer) -> u64
+pub fn number_of(answer: InverseAnswer) -> u32
     ensures { λ r. ⌜ r ≡ number (verdictOf answer) ⌝ }
 {
     match answer {
