@@ -49,7 +49,9 @@ module _ (c : tie.After-put-pair Inv-loop μ-loop) where
 turn-place : (c : tie.After-put-pair Inv-loop μ-loop) → head c .loop .j + 2 * (1024 / start c .args .n) ≤ 1024
 turn-place c =
     let l = head c .loop in
-    omega (arith, next _ _ (l .inv .0 .2), place (start c .pre .1) (l .k + 2) (omega (arith, follows _ _ (start c .pre .2) (l .inv .0 .0) (omega arith))))
+    let s = start c .pre in
+    let more = follows _ _ (s .2) (l .inv .0 .0) (omega arith) in
+    omega (arith, next _ _ (l .inv .0 .2), place (s .1) (l .k + 2) (omega (arith, more)))
 
 put-pair-requires : tie.Need-put-pair-requires Inv-loop μ-loop
 put-pair-requires c κs =
