@@ -11,7 +11,6 @@
 --     front, beyond   by place, where b is 0
 --     written-one     a run of one element
 --     written-more    one element more behind the run
---     written-first   the first element, after those behind it
 --     written-same    the same elements by another name
 -- And of two stores by place:
 --     two-put         what they put
@@ -178,24 +177,6 @@ module _ {A : Type 0} {d : A} {m : ℕ} {f : ℕ → A} {before after : List A} 
 
   pub beyond : (k : ℕ) → m ≤ k → getD after k d ≡ getD before k d
   beyond k h = w .high k (omega arith)
-
--- the first element, after those behind it
-pub written-first : {A : Type 0} {d : A} {m n : ℕ} {f : ℕ → A} {before after : List A} {x : A} →
-    WrittenOf d 1 m (λ i. f (1 + i)) before after
-    → (n ≡ 1 + m) × (0 < length before) → x ≡ f 0 → WrittenOf d 0 n f before (set after 0 x)
-written-first {A} {d} {m} {n} {f} {before} {after} {x} w h e = record {
-  new = λ k l. ⊎-elim (λ o. behind k l o)
-      (λ o. let zeroth : k ≡ 0 = omega arith in rw zeroth (getD-set-same after 0 x d (omega (arith, w .len)) ∙ e)) (le-or-lt 1 k);
-  low = λ k l. absurd (omega arith);
-  high = λ k l. getD-set-other after 0 k x d (λ e. omega arith) ∙ w .high k (omega arith);
-  len = length-set after 0 x ∙ w .len;
-}
-  where
-    behind : (k : ℕ) → k < n → 1 ≤ k → getD (set after 0 x) (0 + k) d ≡ f k
-    behind k l o =
-        let place : 1 + (k - 1) ≡ k = omega arith in
-        getD-set-other after 0 (0 + k) x d (λ e. omega arith)
-        ∙ ap (λ j. getD after j d) {x = 0 + k} {y = 1 + (k - 1)} (omega arith) ∙ w .new (k - 1) (omega arith) ∙ ap f place
 
 -- past its end a list has no element
 pub past : {A : Type 0} (d : A) (w : List A) (k : ℕ) → length w ≤ k → getD w k d ≡ d
