@@ -13,7 +13,7 @@ use Rattle.whole.proofs.Size.{near, _within_, size-within, within-int, within-l
 use Rattle.whole.proofs.Floor.{Floor, floor, floor-only}
 use Rattle.whole.proofs.Sums.{sum-cong}
 use Rattle.whole.proofs.Rounding.{by-quotient, nearest-exact}
-use Rattle.ffct.proofs.ElevenLengths.{twice-half, length-le}
+use Rattle.ffct.proofs.ElevenLengths.{length-le}
 use Rattle.inverse.specs.declared.sum.Sum.{Sum}
 use Rattle.inverse.specs.Inverse.{T°, inverseSum, inverseDct}
 use Rattle.inverse.specs.Steps.{held, ValueReady, valueOf}
@@ -57,15 +57,15 @@ module _ {sum : Sum} {c : ℤ} {n : ℕ} (r : ValueReady sum c n) where
   pub quotient-small : quotient sum c within 2 ^ 43
   quotient-small = within-le (within-add less-small (low-small (sum .low) (size-within (sum .low) (r .size .low-ok)))) (lit≤ tt)
 
-  pub sum-small : quotient sum c +ℤ int (n / 2) within 2 ^ 44
-  sum-small = within-le (within-add quotient-small (within-int (n / 2))) (omega (arith, length-le n (r .length-ok)))
+  module _ (h : ℕ) (even : 2 * h ≡ n) where
+    pub sum-small : quotient sum c +ℤ int h within 2 ^ 44
+    sum-small = within-le (within-add quotient-small (within-int h)) (omega (arith, length-le n (r .length-ok)))
 
-  pub value-is : shrZ (quotient sum c +ℤ int (n / 2)) n ≡ valueOf (held sum) c n
-  value-is =
-      let even = twice-half n (r .length-ok) (r .two) in
-      ap (λ q. shrZ (q +ℤ int (n / 2)) n) (sym (quotient-is sum c))
-      ∙ ap (shrZ (shrZ (pos 2 *ℤ held sum -ℤ c *ℤ pos (2 ^ 30)) (2 ^ 30) +ℤ int (n / 2))) (sym even)
-      ∙ by-quotient _ (n / 2) (2 ^ 30) (n * 2 ^ 30) (ap (λ m. m * 2 ^ 30) (sym even)) (omega (arith, even, r .two)) (lit< tt)
+    pub value-is : shrZ (quotient sum c +ℤ int h) n ≡ valueOf (held sum) c n
+    value-is =
+        ap (λ q. shrZ (q +ℤ int h) n) (sym (quotient-is sum c))
+        ∙ ap (shrZ (shrZ (pos 2 *ℤ held sum -ℤ c *ℤ pos (2 ^ 30)) (2 ^ 30) +ℤ int h)) (sym even)
+        ∙ by-quotient _ h (2 ^ 30) (n * 2 ^ 30) (ap (λ m. m * 2 ^ 30) (sym even)) (omega (arith, even, r .two)) (lit< tt)
 
 -- ---- the value of one coefficient is that coefficient
 pub value-one : (c : ℕ → ℤ) → inverseDct 1 c 0 ≡ c 0

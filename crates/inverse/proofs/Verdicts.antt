@@ -41,10 +41,10 @@ module _ (cs vs : List ℤ) (N : ℕ) (ok : Bool) (is : ok ≡ isLength N) where
       unfolding inverseVerdict
       too-short h = turned-down refl (omega arith) (rw (← is, good, le-ltb _ _ enough, lt-ltb _ _ h))
 
-      module _ (room : N ≤ length vs) (k : ℕ) (o : k ≡ firstBeyond (N * 1000000 + N) (word cs) 0 N) where
-        past : inverseVerdict cs N vs ≡ firstBeyondOr 10 (largestCoefficient N) (word cs) 0 N accepted
+      module _ (room : N ≤ length vs) (k limit : ℕ) (o : k ≡ firstBeyond limit (word cs) 0 N) (l : limit ≡ largestCoefficient N) where
+        past : inverseVerdict cs N vs ≡ firstBeyondOr 10 limit (word cs) 0 N accepted
         unfolding inverseVerdict
-        past = rw (← is, good, le-ltb _ _ enough, le-ltb _ _ room)
+        past = rw (l, ← is, good, le-ltb _ _ enough, le-ltb _ _ room)
 
         pub beyond-limit : k < N → InversePromise cs N vs vs (BeyondLimit k)
         beyond-limit h = turned-down refl (omega arith) (past ∙ first-beyond 10 _ (word cs) 0 N accepted o (omega arith))
@@ -54,7 +54,7 @@ module _ (cs vs : List ℤ) (N : ℕ) (ok : Bool) (is : ok ≡ isLength N) where
             let within = first-end _ (word cs) 0 N o (omega arith) in
             let length-ok = sym is ∙ not-false ok good in
             let range : (n : ℕ) → n < N → natAbs (word cs n) ≤ largestCoefficient N
-            = λ n l. passed _ (word cs) 0 N within n (omega arith) (omega arith) in
+            = λ n h. omega (arith, passed _ (word cs) 0 N within n (omega arith) (omega arith), l) in
             record {
               stored = record { length-ok = length-ok; enough = enough; range = range };
               room = room;

@@ -1,6 +1,6 @@
 -- `inverse::value::value` meets its contract: each word of it holds its number, which fits (proofs/Values). Assumes nothing.
 use mathlib.Core.Path.{_≡_, sym, ap, subst, _∙_}
-use Prim.Native.Nat.{ℕ, _/_, _^_, _≤_}
+use Prim.Native.Nat.{ℕ, _*_, _/_, _^_, _≤_}
 use native.Mathlib.Omega.{arith}
 use lib.Count.{trailingZeros}
 use lib.Dec.{lit<}
@@ -13,7 +13,7 @@ use Rattle.whole.proofs.Difference.{int}
 use Rattle.whole.proofs.Size.{within-fits}
 use Rattle.whole.proofs.Words.{Word, word, asked, made, shifted, narrows, narrowed}
 use Rattle.whole.proofs.Operations.{natural}
-use Rattle.ffct.proofs.ElevenLengths.{is-power, level-le, trailing, length-le}
+use Rattle.ffct.proofs.ElevenLengths.{is-power, level-le, trailing, length-le, twice-half}
 use Rattle.inverse.specs.Steps.{held, valueOf}
 use Rattle.inverse.proofs.Adding.{high-word, low-word}
 use Rattle.inverse.proofs.Values.{quotient, twice-small, less-small, quotient-small, sum-small, value-is}
@@ -23,6 +23,10 @@ use Rattle.inverse.proofs.value.value.Tie as tie
 -- the bits that an operation makes
 abbrev done : (ℤ → ℤ → ℤ) → ℕ → ℕ → ℕ
 done op p q = ofZ w64 (op (toZ w64 p) (toZ w64 q))
+
+-- n over 2, as the code has it
+abbrev halves : ℕ
+halves = 2
 
 module _ (a : tie.Start) where
   -- n is 2 to the power of the number of its trailing zeros
@@ -49,12 +53,15 @@ module _ (a : tie.Start) where
   low-bits = ofZ w64 (shrZ (toZ w64 (ofZ w64 (a .args .sum .low))) (2 ^ 29))
 
   abbrev sum-bits : ℕ
-  sum-bits = done _+ℤ_ (done _+ℤ_ less-bits low-bits) (a .args .n / 2)
+  sum-bits = done _+ℤ_ (done _+ℤ_ less-bits low-bits) (a .args .n / halves)
+
+  even : 2 * (a .args .n / halves) ≡ a .args .n
+  even = omega (arith, twice-half _ (a .pre .length-ok) (a .pre .two))
 
   two : Word w64 2 (int 2)
   two = natural (lit< tt)
 
-  half : Word w64 (a .args .n / 2) (int (a .args .n / 2))
+  half : Word w64 (a .args .n / halves) (int (a .args .n / halves))
   half = natural (omega (arith, length-le _ (a .pre .length-ok)))
 
   low : Word w64 low-bits (shrZ (a .args .sum .low) (2 ^ 29))
@@ -69,13 +76,13 @@ module _ (a : tie.Start) where
   all : Word w64 (done _+ℤ_ less-bits low-bits) (quotient (a .args .sum) (a .args .c))
   all = made _+ℤ_ less low (within-fits (quotient-small (a .pre)) (lit< tt))
 
-  sum : Word w64 sum-bits (quotient (a .args .sum) (a .args .c) +ℤ int (a .args .n / 2))
-  sum = made _+ℤ_ all half (within-fits (sum-small (a .pre)) (lit< tt))
+  sum : Word w64 sum-bits (quotient (a .args .sum) (a .args .c) +ℤ int (a .args .n / halves))
+  sum = made _+ℤ_ all half (within-fits (sum-small (a .pre) _ even) (lit< tt))
 
   result : Word w64 (ofZ w64 (shrZ (toZ w64 sum-bits) (2 ^ zeros)))
       (valueOf (held (a .args .sum)) (a .args .c) (a .args .n))
   result = subst (λ v. Word w64 (ofZ w64 (shrZ (toZ w64 sum-bits) (2 ^ zeros))) v)
-      (ap (shrZ (quotient (a .args .sum) (a .args .c) +ℤ int (a .args .n / 2))) power ∙ value-is (a .pre))
+      (ap (shrZ (quotient (a .args .sum) (a .args .c) +ℤ int (a .args .n / halves))) power ∙ value-is (a .pre) (a .args .n / halves) even)
       (shifted (2 ^ zeros) sum)
 
 abbrev start : tie.After-struct-told2 → tie.Start
@@ -91,7 +98,7 @@ value-spec =
     asked _-ℤ_ (twice a) (word (a .fits .c)) (within-fits (less-small (a .pre)) (lit< tt)))  -- sub-quotient
     (λ c. asked _+ℤ_ (less (start c)) (low (start c)) (within-fits (quotient-small (start c .pre)) (lit< tt)))  -- add-quotient
     (λ c. search needs)  -- cast-result
-    (λ c. asked _+ℤ_ (all (start c)) (half (start c)) (within-fits (sum-small (start c .pre)) (lit< tt)))  -- add-result
+    (λ c. asked _+ℤ_ (all (start c)) (half (start c)) (within-fits (sum-small (start c .pre) _ (even (start c))) (lit< tt)))  -- add-result
     (λ c. few-fits (start c))  -- cast-result-2
     (λ c. omega (arith, few (start c)))  -- shr-result
     (λ c. narrows (result (start c)) (start c .pre .fits))  -- cast-result-3
