@@ -51,7 +51,7 @@ fn classes() -> Vec<Class> {
         class("stored", back::stored_item, (stored::worked().len() + back::SHAPES * 11) as u64, 11),
         class("flawed-stored", back::flawed_item, back::SETS, 16),
         class("extreme-stored", back::extreme_item, 1000, 20),
-        class("trips", back::trip_item, (blocks::PATTERNS * 11) as u64, 22),
+        class("trips", back::trip_item, (blocks::PATTERNS * 11) as u64, 11),
         class("trip-climb", back::trip_climb_item, 11, 1),
     ]
 }
