@@ -1,27 +1,17 @@
--- A small word of 64 bits, cast to 32, and a sample of 32 bits, cast to 64: what the cast asks, and what it gives.
+-- A small word of 64 bits, cast to 32: what the cast asks, and what it gives.
 -- Assumes nothing.
 use mathlib.Core.Path.{_≡_}
-use Prim.Native.Nat.{ℕ, _+_, _^_, _≤_, _<_}
+use Prim.Native.Nat.{_+_, _≤_}
 use native.Mathlib.Omega.{arith}
 use lib.Dec.{lit<}
 use lib.IntN.{ℤ, natAbs, _+ℤ_, _-ℤ_}
-use lib.Signed.{mag}
-use borrow.Author.Needs.{sfits-of}
 use mir.Syntax.{w32, w64}
 use mir.Val.{SFits, toZ, ofZ}
-use mir.Facts.{toZ-ofZ, sfits-widen}
+use mir.Facts.{sfits-widen}
 use Rattle.whole.proofs.Size.{size-within, within-add, within-sub, within-fits}
 use Rattle.whole.proofs.Words as Words
-use Rattle.whole.proofs.Words.{Word, asked, made, widens, widened}
+use Rattle.whole.proofs.Words.{Word, asked, made, narrows, narrowed}
 use Rattle.ffct.specs.Block.{largestSum}
-
--- bits that hold a number that fits 32
-module _ {p : ℕ} {z : ℤ} (a : Word w64 p z) (f : SFits w32 z) where
-  pub narrows : SFits w32 (toZ w64 p)
-  narrows = rw (a .is) f
-
-  pub narrowed : toZ w32 (ofZ w32 (toZ w64 p)) ≡ z
-  narrowed = rw (a .is) (toZ-ofZ f)
 
 -- a word that is read
 module _ (z : ℤ) (h : natAbs z ≤ largestSum + 257) where
@@ -56,14 +46,3 @@ module _ {x y : ℤ} (h : natAbs x ≤ largestSum + 128) (l : natAbs y ≤ large
 
   pub difference-narrowed : Narrowed _-ℤ_ x y
   difference-narrowed = narrowed-by _-ℤ_ (within-fits (within-sub (size-within x h) (size-within y l)) (lit< tt))
-
--- a sample that is read
-module _ (z : ℤ) (h : mag z < 2 ^ 31) where
-  held : Word w32 (ofZ w32 z) z
-  held = Words.word (sfits-of h)
-
-  pub sample-widens : SFits w64 (toZ w32 (ofZ w32 z))
-  sample-widens = widens tt held
-
-  pub sample-widened : toZ w64 (ofZ w64 (toZ w32 (ofZ w32 z))) ≡ z
-  sample-widened = widened tt held .is

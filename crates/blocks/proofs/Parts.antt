@@ -3,7 +3,7 @@
 --     part-first, part-half, part-front, part-back    coefficient by coefficient
 --     part-turn                                       a turn of the loop
 --     part-ends                                       after the loop and the stores where the sine-DFT is zero
---     two-put, put-turned                             two stores
+--     put-turned                                      two stores, the second of them named first
 -- Assumes nothing.
 use mathlib.Core.Path.{_≡_, refl, sym, ap, _∙_}
 use mathlib.Core.List.{List}
@@ -11,16 +11,14 @@ use mathlib.Core.Logic.{⊎-elim}
 use Prim.Native.Nat.{ℕ, _+_, _-_, _*_, _/_, _≤_, _<_}
 use native.Mathlib.Omega.{arith}
 use lib.IntN.{ℤ, pos, negℤ, _+ℤ_, _-ℤ_, +ℤ-idr}
-use lib.ListN.{length, set, length-set}
-use lib.Seq.{getD-set-same, getD-set-other}
-use Rattle.whole.proofs.Cases.{le-or-lt, same-or-not}
+use Rattle.whole.proofs.Cases.{same-or-not}
 use Rattle.whole.proofs.Difference.{parts, diff}
 use Rattle.whole.proofs.Size.{near}
-use Rattle.words.specs.Words.{word, Written}
-use Rattle.words.proofs.Writing.{Ends, ends-both}
+use Rattle.words.specs.Words.{Written, TwoPut}
+use Rattle.words.proofs.Writing.{Ends, ends-both, ends-two}
 use Rattle.ffct.specs.Transforms.{cosineBeyond, sineBeyond}
 use Rattle.ffct.proofs.Steps.{cosine-low, cosine-high, sine-low, sine-high}
-use Rattle.blocks.specs.Buffers.{TwoPut, Joinable}
+use Rattle.blocks.specs.Buffers.{Joinable}
 
 -- an operation and the other one
 pub record Opposite (op rev : ℤ → ℤ → ℤ) : Type 0 where
@@ -66,41 +64,7 @@ module _ {op rev : ℤ → ℤ → ℤ} (o : Opposite op rev) {n : ℕ} {C S : �
   pub part-ends : {a : ℕ} {before between after : List ℤ} → (1 ≤ n) × (a ≡ n - n / 2 - 1) → ((n ≡ 1 → ⊥) → 2 * (n / 2) ≡ n)
       → Ends (pos 0) 1 a a (n - 1) (λ i. part (1 + i)) before between → TwoPut 0 (n / 2) (C 0) (C (n / 2)) between after
       → Written 0 n part before after
-  part-ends {a} {before} {between} {after} h whole run e = record {
-    new = λ k l. at k l;
-    low = λ k l. absurd (omega arith);
-    high = λ k l. e .others k (omega arith) (omega arith) ∙ run .high k (omega arith);
-    len = e .len ∙ run .len;
-  }
-    where
-      other : (k : ℕ) → k < n → (k ≡ 0 → ⊥) → (k ≡ n / 2 → ⊥) → word after k ≡ part k
-      other k l z m =
-          let even = whole (omega arith) in
-          let place : 1 + (k - 1) ≡ k = omega arith in
-          e .others k z m
-          ∙ rw place at (⊎-elim {C = word between (1 + (k - 1)) ≡ part (1 + (k - 1))} (λ g. run .back (k - 1) (omega arith) (omega arith))
-          (run .front (k - 1)) (le-or-lt a (k - 1)))
-
-      at : (k : ℕ) → k < n → word after (0 + k) ≡ part k
-      at k l =
-          let here : 0 + k ≡ k = omega arith in
-          rw here (⊎-elim
-          (λ zeroth. rw zeroth (e .first ∙ part-first))
-          (λ z. ⊎-elim (λ middle. rw middle (e .second ∙ part-half)) (other k l z) (same-or-not k (n / 2)))
-          (same-or-not k 0))
-
--- ---- two stores to a buffer
-pub two-put : {i j : ℕ} {u v u′ v′ : ℤ} {out : List ℤ} → (i < length out) × (j < length out) → (i ≡ j → u ≡ v) → u′ ≡ u → v′ ≡ v
-    → TwoPut i j u v out (set (set out i u′) j v′)
-two-put {i} {j} {u} {v} {u′} {v′} {out} h same e d = record {
-  first = ⊎-elim
-      (λ one. rw one (getD-set-same (set out j u′) j v′ (pos 0) (simp length-set (h .1))) ∙ d ∙ sym (same one))
-      (λ two. getD-set-other (set out i u′) j i v′ (pos 0) two ∙ getD-set-same out i u′ (pos 0) (h .0) ∙ e)
-      (same-or-not i j);
-  second = getD-set-same (set out i u′) j v′ (pos 0) (simp length-set (h .1)) ∙ d;
-  others = λ k p q. getD-set-other (set out i u′) j k v′ (pos 0) q ∙ getD-set-other out i k u′ (pos 0) p;
-  len = simp length-set;
-}
+  part-ends h whole run put = ends-two h whole run put part-first part-half
 
 pub put-turned : {i j : ℕ} {u v : ℤ} {before after : List ℤ} → TwoPut i j u v before after → TwoPut j i v u before after
 put-turned p = record { first = p .second; second = p .first; others = λ k a b. p .others k b a; len = p .len }

@@ -6,7 +6,7 @@ use Prim.Native.Nat.{ℕ, _+_, _-_, _*_, _/_, _%_, _≤_, _<_}
 use lib.Dec.{eqb}
 use lib.IntN.{ℤ, pos, natAbs, _+ℤ_, _-ℤ_}
 use lib.ListN.{length}
-use Rattle.words.specs.Words.{Samples, word, Written}
+use Rattle.words.specs.Words.{Samples, word, Written, TwoPut}
 use Rattle.ffct.specs.Block.{largestSum}
 use Rattle.ffct.specs.Transforms.{cosineBeyond, sineBeyond}
 use Rattle.counts.specs.declared.tally.Tally.{Tally}
@@ -20,13 +20,6 @@ wordsFrom w at k = word w (at + k)
 -- transforms reads, with the stride 1)
 unfoldable pub inPairs : ℕ → Samples → Samples
 inPairs n x p = cond (eqb (p % 2) 0) (x (p / 2)) (x (n - 1 - p / 2))
-
--- u put at place i of a buffer, and v at place j
-pub record TwoPut (i j : ℕ) (u v : ℤ) (before after : List ℤ) : Type 0 where
-  pub first : word after i ≡ u
-  pub second : word after j ≡ v
-  pub others : (k : ℕ) → (k ≡ i → ⊥) → (k ≡ j → ⊥) → word after k ≡ word before k
-  pub len : length after ≡ length before
 
 -- words c and s of w: their sum put at place i of a buffer, and their difference at place j
 pub record SumReady (w : List ℤ) (c s i j : ℕ) (out : List ℤ) (spent : Tally) : Type 0 where

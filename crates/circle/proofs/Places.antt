@@ -15,11 +15,11 @@ use Rattle.circle.specs.Circle.{firstQuarter, onHalf, onCircle, K}
 -- ---- a wave that is given on the first quarter, and 0 at its end
 module _ (q : ℕ → ℤ) where
   -- the half circle, 0 .. 2,048
-  half-low : (j : ℕ) → j ≤ 1024 → onHalf q j ≡ q j
+  pub half-low : (j : ℕ) → j ≤ 1024 → onHalf q j ≡ q j
   unfolding onHalf
   half-low j h = rw (le-leb j 1024 h)
 
-  half-high : (j : ℕ) → 1024 < j → onHalf q j ≡ negℤ (q (2048 - j))
+  pub half-high : (j : ℕ) → 1024 < j → onHalf q j ≡ negℤ (q (2048 - j))
   unfolding onHalf
   half-high j h = rw (lt-leb j 1024 h)
 
@@ -69,6 +69,10 @@ module _ (q : ℕ → ℤ) where
   pub on-opposite : q 1024 ≡ pos 0 → (i j m : ℕ) → i + j ≡ 4096 * m + 2048 → onCircle q i ≡ negℤ (onCircle q j)
   on-opposite e i j m h = on-fold i ∙ half-opposite q e (fold i) (fold j) (fold-opposite i j m h) ∙ ap negℤ (sym (on-fold j))
 
+  -- (4095 j is the place opposite j)
+  pub on-turns : (i j m : ℕ) → i ≡ j + 4096 * m → onCircle q i ≡ onCircle q j
+  on-turns i j m h = on-mirror i (4095 * j) (j + m) (omega arith) ∙ on-mirror (4095 * j) j j (omega arith)
+
   -- on the quarter it is the wave that is given
   pub on-quarter : (j : ℕ) → j ≤ 1024 → onCircle q j ≡ q j
   unfolding fold
@@ -87,9 +91,10 @@ pub opposite : (i j m : ℕ) → i + j ≡ 4096 * m + 2048 → K i ≡ negℤ (K
 unfolding K
 opposite i j m h = on-opposite firstQuarter quarter-end i j m h
 
--- ---- the same for places whose difference is known (4095 p is the place opposite p)
+-- ---- the same for places whose difference is known
 pub turns-on : (i j m : ℕ) → i ≡ j + 4096 * m → K i ≡ K j
-turns-on i j m h = mirror i (4095 * j) (j + m) (omega arith) ∙ mirror (4095 * j) j j (omega arith)
+unfolding K
+turns-on i j m h = on-turns firstQuarter i j m h
 
 pub half-turn-on : (i j m : ℕ) → i ≡ j + (4096 * m + 2048) → K i ≡ negℤ (K j)
 half-turn-on i j m h = opposite i (4095 * j) (j + m) (omega arith) ∙ ap negℤ (mirror (4095 * j) j j (omega arith))

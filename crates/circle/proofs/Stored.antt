@@ -1,6 +1,6 @@
 -- The stored quarter wave: as a list, its strict fall, its nearness to K, and the entries that document 01 gives in digits.
 -- Assumes nothing.
-use mathlib.Core.Path.{_≡_, refl, sym, ap, _∙_, subst₂}
+use mathlib.Core.Path.{_≡_, refl, sym, ap, _∙_, subst, subst₂}
 use mathlib.Core.List.{List, [], _∷_}
 use Prim.Native.Nat.{ℕ, zero, suc, _^_, _≤_}
 use native.Mathlib.Omega.{arith}
@@ -8,14 +8,14 @@ use lib.Dec as D
 use lib.Dec.{lit<}
 use lib.ListN.{length}
 use lib.IntN.{ℤ, pos, _+ℤ_}
-use lib.Signed.{shrZ, _<ℤ_}
+use lib.Signed.{shrZ, _<ℤ_, nonNeg}
 use Rattle.whole.proofs.Difference.{int}
 use Rattle.whole.proofs.Size.{within-size}
 use Rattle.whole.proofs.Rounding.{by-half, half-near}
 use Rattle.whole.proofs.Cases.{both}
 use Rattle.circle.specs.Circle.{step, K, T, IsQuarterWave}
 use Rattle.circle.specs.Laws.{AtEntry}
-use Rattle.circle.proofs.Tests.{entry, same, same-at, falls, falling}
+use Rattle.circle.proofs.Tests.{entry, same, same-at, falls, falling, noneBelow, none-below}
 use Rattle.circle.proofs.Wave.{cosines, wave, K-wave}
 
 -- the table's rule from K
@@ -48,6 +48,14 @@ same-wave digits t j h = same-at digits stored t j ∙ stored-at j h
 stored-falls : D.T (falls stored)
 unfolding falls both stored ruled wave cosines step
 stored-falls = tt
+
+stored-none-below : D.T (noneBelow stored)
+unfolding noneBelow both stored ruled wave cosines step
+stored-none-below = tt
+
+-- no entry is negative
+pub entry-not-below : (j : ℕ) → j ≤ 1024 → D.T (nonNeg (T j))
+entry-not-below j h = subst (λ z. D.T (nonNeg z)) (stored-at j h) (none-below stored stored-none-below j)
 
 stored-length : length stored ≡ 1025
 unfolding stored ruled wave cosines

@@ -8,7 +8,7 @@ use native.Mathlib.Omega.{arith}
 use lib.Dec.{T, leb, leb→le, eqb, eqb→eq}
 use lib.ListN.{length, getD}
 use lib.IntN.{ℤ, pos, negsuc, natAbs}
-use lib.Signed.{ltZ, _<ℤ_, ltZ-yes}
+use lib.Signed.{ltZ, _<ℤ_, ltZ-yes, nonNeg}
 use Rattle.whole.proofs.Cases.{both, both-left, both-right}
 use Rattle.whole.proofs.Size.{_within_, size-within}
 
@@ -74,3 +74,14 @@ falling [] t j h = absurd (omega arith)
 falling (x ∷ []) t j h = absurd (omega arith)
 falling (x ∷ y ∷ xs) t zero h = ltZ-yes (both-left _ _ t)
 falling (x ∷ y ∷ xs) t (suc j) h = falling (y ∷ xs) (both-right _ _ t) j (omega arith)
+
+-- no entry is negative
+unfoldable pub noneBelow : List ℤ → Bool
+noneBelow [] = true
+noneBelow (x ∷ xs) = both (nonNeg x) (noneBelow xs)
+
+pub none-below : (xs : List ℤ) → T (noneBelow xs) → (j : ℕ) → T (nonNeg (entry xs j))
+unfolding noneBelow entry
+none-below [] t j = tt
+none-below (x ∷ xs) t zero = both-left _ _ t
+none-below (x ∷ xs) t (suc j) = none-below xs (both-right _ _ t) j

@@ -1038,10 +1038,10 @@ pub fn quarter_wave() -> [i32; 1025]
     QUARTER_WAVE
 }
 
-// T(j), from a quarter wave that is lent.
+// T(j), from a quarter wave that is lent. (No entry is negative; widened as an unsigned number it is read quicker.)
 pub fn wave_at(wave: &[i32; 1025], j: usize) -> i64
     requires { ⌜ IsQuarterWave (now wave) × (j ≤ 1024) ⌝ }
     ensures { λ r. ⌜ r ≡ T j ⌝ }
 {
-    wave[j] as i64
+    wave[j] as u32 as i64
 }

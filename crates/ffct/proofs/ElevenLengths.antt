@@ -13,7 +13,7 @@ use lib.Pow.{pow-pos, pow-mono}
 use borrow.Author.Tests.{eqb-true, le-ltb}
 use Rattle.whole.proofs.Cases.{both, both-left, both-right, below, below-at, le-or-lt}
 use Rattle.ffct.specs.Block.{lengths, topLevel, oneOf, isLength, level}
-use Rattle.ffct.proofs.Lengths.{len, pow-len, len-pos}
+use Rattle.ffct.proofs.Lengths.{len, pow-len, len-pos, per, len-per, quotient}
 
 -- ---- a test of every number of a list, and what it says of one of them
 every : (ℕ → Bool) → List ℕ → Bool
@@ -61,6 +61,12 @@ as-len N h = is-power N h ∙ pow-len (level N)
 pub length-pos : (N : ℕ) → isLength N ≡ true → 1 ≤ N
 length-pos N h = omega (arith, as-len N h, len-pos (level N))
 
+-- ---- a length divides 1,024
+pub divides : (N : ℕ) → isLength N ≡ true → N * (1024 / N) ≡ 1024
+divides N h =
+    let e : N * per (level N) ≡ 1024 = rw (sym (as-len N h)) at (len-per (level N) (level-le N h)) in
+    rw (quotient N _ _ 1024 e (sym e)) e
+
 -- ---- half of a length is a length, of the level below, and from 4 on a quarter too
 pub record Half (N : ℕ) : Type 0 where
   pub ok : isLength (N / 2) ≡ true
@@ -83,6 +89,9 @@ half N h l =
     let t = halvable-at N h l in
     let e = eqb→eq _ _ (both-right _ _ t) in
     record { ok = is-true _ (both-left _ _ t); level-is = e; twice = as-len N h ∙ ap len e }
+
+pub twice-half : (N : ℕ) → isLength N ≡ true → 2 ≤ N → 2 * (N / 2) ≡ N
+twice-half N h l = omega (arith, half N h l .twice)
 
 pub record Quarter (N : ℕ) : Type 0 where
   pub half-ok : isLength (N / 2) ≡ true

@@ -5,6 +5,7 @@ pub mod ElevenLengths
 pub mod Steps
 pub mod Sums
 pub mod Splits
+pub mod Orthogonality
 pub mod Rotation
 pub mod Near
 pub mod Counts

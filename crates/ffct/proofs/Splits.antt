@@ -11,7 +11,7 @@ use Rattle.whole.proofs.Cases.{le-or-lt}
 use Rattle.whole.proofs.Difference.{int, parts, diff}
 use Rattle.whole.proofs.Ring.{expand, *ℤ-negℤ, negℤ-*ℤ}
 use Rattle.whole.proofs.Size.{near, _within_, size-within, within-eq, within-mul}
-use Rattle.whole.proofs.Sums.{sum-cong, sum-add, sum-sub, sum-scale, sum-split, sum-reverse, sum-even-odd, sum-within}
+use Rattle.whole.proofs.Sums.{sum-cong, sum-add, sum-sub, sum-scale, sum-halves, sum-reverse, sum-even-odd, sum-within}
 use Rattle.circle.specs.Circle.{B, K, sineAt}
 use Rattle.circle.specs.Laws.{additionError}
 use Rattle.circle.proofs.Places.{mirror, opposite}
@@ -24,8 +24,7 @@ use Rattle.ffct.proofs.Sums.{cosSum, sinSum, dctSum}
 -- a sum of 2 m terms, its far half folded back onto its near half
 sum-folded : (m : ℕ) (f : ℕ → ℤ) → sum (2 * m) f ≡ sum m (λ i. f i +ℤ f (2 * m - 1 - i))
 sum-folded m f =
-    ap (λ n. sum n f) {x = 2 * m} {y = m + m} (omega arith)
-    ∙ sum-split m m f
+    sum-halves m f
     ∙ ap (λ z. sum m f +ℤ z) (sum-reverse m (λ i. f (m + i)) ∙ sum-cong m _ (λ i. f (2 * m - 1 - i)) (λ i h. ap f (omega arith)))
     ∙ sym (sum-add m f (λ i. f (2 * m - 1 - i)))
 
@@ -142,7 +141,10 @@ module _ (w m : ℕ) (x : Samples) (k : ℕ) (q : 2 * m * w ≡ 1024) where
           ≡ rearranged (2 * m) x (2 * m - 1 - i) *ℤ K (4 * w * (2 * m - 1 - i) * k + k * w)
       far-half i h = ap₂ _*ℤ_ (sym (rearranged-far m x i h)) (mirror _ _ k (places i (2 * m - 1 - i) (omega arith)))
 
--- ---- (18): the sum turned by k w, from the cosine sum and the sine sum
+-- ---- (18): the sum turned by k w, from the cosine sum and the sine sum, by the addition law
+pub near-sum : (p q : ℕ) → K p *ℤ K q -ℤ sineAt p *ℤ sineAt q -ℤ int B *ℤ K (p + q) within additionError * B
+near-sum p q = unfold int in size-within _ (addition p q .cosine)
+
 module _ (w n : ℕ) (y : Samples) (k : ℕ) {X : ℕ} (b : (i : ℕ) → i < n → y i within X) where
   pub turned : K (k * w) *ℤ cosSum w n y k -ℤ sineAt (k * w) *ℤ sinSum w n y k -ℤ int B *ℤ sum n (λ i. y i *ℤ K (4 * w * i * k + k * w))
       within n * (X * (additionError * B))
@@ -152,13 +154,10 @@ module _ (w n : ℕ) (y : Samples) (k : ℕ) {X : ℕ} (b : (i : ℕ) → i < n 
       (sum-cong n _ _ (λ i h. spread (int B) (K (k * w)) (sineAt (k * w)) (y i) (K (p i)) (sineAt (p i)) (K (p i + k * w)))
       ∙ sum-sub n _ _
       ∙ ap₂ _-ℤ_ (sum-sub n _ _ ∙ ap₂ _-ℤ_ (sum-scale n (K (k * w)) _) (sum-scale n (sineAt (k * w)) _)) (sum-scale n (int B) _))
-      (sum-within n _ (λ i h. within-mul (b i h) (near-sum (p i))))
+      (sum-within n _ (λ i h. within-mul (b i h) (near-sum (p i) (k * w))))
     where
       p : ℕ → ℕ
       p = λ i. 4 * w * i * k
-
-      near-sum : (p : ℕ) → K p *ℤ K (k * w) -ℤ sineAt p *ℤ sineAt (k * w) -ℤ int B *ℤ K (p + k * w) within additionError * B
-      near-sum p = unfold int in size-within _ (addition p (k * w) .cosine)
 
       spread : (b c s y u v t : ℤ) → y *ℤ (u *ℤ c -ℤ v *ℤ s -ℤ b *ℤ t) ≡ c *ℤ (y *ℤ u) -ℤ s *ℤ (y *ℤ v) -ℤ b *ℤ (y *ℤ t)
       spread b c s y u v t = simp expand

@@ -27,6 +27,9 @@ unfoldable pub dctSum : ℕ → ℕ → Samples → ℕ → ℤ
 dctSum w n x k = sum n (λ i. x i *ℤ K ((2 * i + 1) * k * w))
 
 -- ---- they are the exact sums of document 01
+pub dct-place : (w n j : ℕ) → n * w ≡ 1024 → j * 1024 / n ≡ j * w
+dct-place w n j q = quotient n w (j * w) (j * 1024) q (omega (arith, ap (λ t. t * j) q))
+
 module _ (w n : ℕ) (x : Samples) (k : ℕ) (q : n * w ≡ 1024) where
   place : (i : ℕ) → i * k * 4096 / n ≡ 4 * w * i * k
   place i = quotient n w (4 * w * i * k) (i * k * 4096) q (omega (arith, ap (λ t. 4 * t * (i * k)) q))
@@ -41,10 +44,7 @@ module _ (w n : ℕ) (x : Samples) (k : ℕ) (q : n * w ≡ 1024) where
 
   pub dct-exact : exactDct n x k ≡ dctSum w n x k
   unfolding exactDct dctSum
-  dct-exact =
-      sum-cong n _ _ (λ i h.
-      let j = (2 * i + 1) * k in
-      ap (λ p. x i *ℤ K p) (quotient n w (j * w) (j * 1024) q (omega (arith, ap (λ t. t * j) q))))
+  dct-exact = sum-cong n _ _ (λ i h. ap (λ p. x i *ℤ K p) (dct-place w n ((2 * i + 1) * k) q))
 
 -- Pair's exact sums, from those of its recordings
 module _ (w n : ℕ) (a b : Samples) (k : ℕ) (q : n * w ≡ 1024) where
@@ -71,6 +71,11 @@ module _ (w n : ℕ) (x : Samples) (k : ℕ) {X : ℕ} (b : (i : ℕ) → i < n 
   dct-size = sum-within n _ (λ i h. within-mul (b i h) (K-within _))
 
 -- ---- out of range: (9), (10), (8), (6), and where a sine-DFT is zero
+pub self-negated : (z : ℤ) → z ≡ negℤ z → z ≡ int 0
+self-negated z e =
+    let e′ = ⊖-same _ _ _ _ (simp diff at (subst (λ t. t ≡ negℤ t) (parts z) e)) in
+    rw (parts z) (simp diff (omega near))
+
 module _ (w n : ℕ) (x : Samples) (q : n * w ≡ 1024) where
   negated : (k l : ℕ) (place : ℕ → ℕ → ℕ) → ((i : ℕ) → K (place i k) ≡ negℤ (K (place i l))) →
       sum n (λ i. x i *ℤ K (place i k)) ≡ negℤ (sum n (λ i. x i *ℤ K (place i l)))
@@ -94,11 +99,6 @@ module _ (w n : ℕ) (x : Samples) (q : n * w ≡ 1024) where
   dct-mirror k l h =
       negated k l (λ i k. (2 * i + 1) * k * w)
       (λ i. opposite _ _ i (omega (arith, ap (λ t. (2 * i + 1) * w * t) h, ap (λ t. 2 * t * (2 * i + 1)) q)))
-
-  self-negated : (z : ℤ) → z ≡ negℤ z → z ≡ int 0
-  self-negated z e =
-      let e′ = ⊖-same _ _ _ _ (simp diff at (subst (λ t. t ≡ negℤ t) (parts z) e)) in
-      rw (parts z) (simp diff (omega near))
 
   pub sin-middle : (k : ℕ) → 2 * k ≡ n → sinSum w n x k ≡ int 0
   sin-middle k h = self-negated _ (sin-mirror k k (omega arith))

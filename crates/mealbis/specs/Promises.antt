@@ -1,6 +1,6 @@
 -- What the exported functions promise, for every input: the record of the call that they make, and what the words hold through which C is
--- told its answer. `number` is the number returned: document 01's number of the refusal, and 0 where the call is accepted. A word marked ′
--- is one after the call.
+-- told its answer. `number` is the number returned: the refusal's in document 01 or 02, and 0 where the call is accepted. A word marked ′ is
+-- one after the call.
 use mathlib.Core.List.{List}
 use mathlib.Core.Path.{_≡_}
 use Prim.Native.Nat.{ℕ}
@@ -10,6 +10,9 @@ use Rattle.spectra.specs.declared.Answer.{Answer}
 use Rattle.spectra.specs.declared.CountsAnswer.{CountsAnswer}
 use Rattle.spectra.specs.Answers.{verdictOf, spent, place as placeOf, verdictOfCounts, countsOf}
 use Rattle.spectra.specs.Promises.{SpectrumPromise, CosinePromise, PairPromise, CountsPromise}
+use Rattle.inverse.specs.declared.InverseAnswer.{InverseAnswer}
+use Rattle.inverse.specs.Answers as inverse
+use Rattle.inverse.specs.Promises.{InversePromise}
 use Rattle.pairfile.specs.declared.FileAnswer.{FileAnswer}
 use Rattle.pairfile.specs.Answers as file
 use Rattle.pairfile.specs.Promises.{ReadPromise}
@@ -55,6 +58,16 @@ pub record CountsTold (N dctP′ dctS′ spectrumP′ spectrumS′ pairP′ pair
   pub dct-is : (dctP′ ≡ countsOf answer .dct .products) × (dctS′ ≡ countsOf answer .dct .sums)
   pub spectrum-is : (spectrumP′ ≡ countsOf answer .spectrum .products) × (spectrumS′ ≡ countsOf answer .spectrum .sums)
   pub pair-is : (pairP′ ≡ countsOf answer .pair .products) × (pairS′ ≡ countsOf answer .pair .sums)
+
+-- ---- strain back from a stored cosine block
+
+-- There is an answer of which the promise of the inverse DCT holds, with this buffer before and after, and it is the answer told. The place
+-- is 0 in every answer but refusal 10.
+pub record InverseTold (coefficients : List ℤ) (N : ℕ) (values values′ : List ℤ) (place′ number : ℕ) : Type 0 where
+  pub answer : InverseAnswer
+  pub promise : InversePromise coefficients N values values′ answer
+  pub number-is : number ≡ numberOf (inverse.verdictOf answer)
+  pub place-is : place′ ≡ inverse.placeOf answer
 
 -- ---- reading a file
 

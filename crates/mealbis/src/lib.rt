@@ -1,13 +1,13 @@
-// The calls for programs in C and in Rust: plain numbers, slices as pointer and length, and the answer as document 01's number, 0 where
-// the call is accepted. Counts, sizes and place come back through lent words, which are written in every answer. No function asks anything
-// of its input, and each promises the record of the call that it makes (specs/Promises.antt). include/mealbis.h is written for who calls
-// them.
+// The calls for programs in C and in Rust: plain numbers, slices as pointer and length, and the answer as the number of document 01 or 02,
+// 0 where the call is accepted. Counts, sizes and place come back through lent words, which are written in every answer. No function asks
+// anything of its input, and each promises the record of the call that it makes (specs/Promises.antt). include/mealbis.h is written for
+// who calls them.
 pub mod version;
 
 use pairfile::FileAnswer;
 use spectra::Answer;
 use spectra::CountsAnswer;
-ghost use Rattle.mealbis.specs.Promises.{Told, SpectrumTold, CosineTold, PairTold, CountsTold, FileTold, ReadTold};
+ghost use Rattle.mealbis.specs.Promises.{Told, SpectrumTold, CosineTold, PairTold, CountsTold, InverseTold, FileTold, ReadTold};
 
 // ---- answers
 
@@ -19,7 +19,7 @@ fn tell(answer: Answer, products: &mut u64, sums: &mut u64, place: &mut usize) -
     *products = spent.products;
     *sums = spent.sums;
     *place = spectra::place_of(answer);
-    spectra::number_of(answer) as u32
+    spectra::number_of(answer)
 }
 
 // The same of the reader's answer.
@@ -30,7 +30,7 @@ fn tell_file(answer: FileAnswer, samples: &mut usize, length: &mut usize, place:
     *samples = sizes.samples;
     *length = sizes.length;
     *place = pairfile::place_of(answer);
-    pairfile::number_of(answer) as u32
+    pairfile::number_of(answer)
 }
 
 // ---- the exported functions
@@ -137,6 +137,21 @@ pub extern "C" fn mealbis_counts(
             1
         }
     }
+}
+
+// Strain back from a stored cosine block.
+#[no_mangle]
+pub extern "C" fn mealbis_inverse_dct(
+    coefficients: &[i32],
+    length: usize,
+    values: &mut [i32],
+    place: &mut usize,
+) -> u32
+    ensures { λ r. ⌜ InverseTold (now (coefficients .entry)) length (now (values .entry)) (now (values .exit)) (now (place .exit)) r ⌝ }
+{
+    let answer = inverse::inverse_dct(coefficients, length, values);
+    *place = inverse::place_of(answer);
+    inverse::number_of(answer)
 }
 
 // A pair file, to two recordings.

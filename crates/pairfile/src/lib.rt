@@ -103,7 +103,7 @@ pub fn read(file: &[u8], a: &mut [i32], b: &mut [i32]) -> FileAnswer
 }
 
 // Document 01's number of an answer; 0 where the file was read.
-pub fn number_of(answer: FileAnswer) -> u64
+pub fn number_of(answer: FileAnswer) -> u32
     ensures { λ r. ⌜ r ≡ number (verdictOf answer) ⌝ }
 {
     match answer {

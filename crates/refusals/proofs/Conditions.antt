@@ -1,6 +1,6 @@
 -- The conditions of a refusal as tests, and as facts: lengths that reach a number, samples that are in range.
 -- Assumes nothing.
-use mathlib.Core.Path.{_≡_, refl, sym, ap}
+use mathlib.Core.Path.{_≡_, refl, sym, ap, _∙_}
 use mathlib.Core.Logic.{_⊎_, inl, inr, ⊎-elim}
 use mathlib.Core.Bool.{Bool, true, false, false≢true, _||_}
 use mathlib.Core.List.{List, [], _∷_}
@@ -10,7 +10,7 @@ use lib.Dec.{ltb}
 use borrow.Author.Tests.{lt-ltb, le-ltb, ltb-false}
 use Rattle.whole.proofs.Cases.{le-or-lt}
 use Rattle.words.specs.Words.{Samples}
-use Rattle.refusals.specs.Refusals.{someBelow, firstOut, firstOutIn, refusedAt, accepted}
+use Rattle.refusals.specs.Refusals.{someBelow, firstBeyond, firstOut, firstBeyondOr, firstOutIn, Verdict, refusedAt, accepted}
 
 -- ---- lengths: all reach n, or some are below it
 abbrev pub AllReach : ℕ → List ℕ → Type 0
@@ -59,6 +59,14 @@ two-below a b {m} e n = ⊎-elim
     (λ h. rw (lt-ltb a n h, lt-ltb m n (omega arith)))
     (le-or-lt n a)
 
+-- ---- numbers with a limit: all are within it, or the first that is not stands at a place
+module _ (number limit : ℕ) (x : Samples) (s N : ℕ) (rest : Verdict) where
+  pub none-beyond : firstBeyond limit x s N ≡ s + N → firstBeyondOr number limit x s N rest ≡ rest
+  none-beyond e = rw (le-ltb (firstBeyond limit x s N) (s + N) (omega (arith, e)))
+
+  pub first-beyond : {place : ℕ} → place ≡ firstBeyond limit x s N → place < s + N → firstBeyondOr number limit x s N rest ≡ refusedAt number place
+  first-beyond e l = rw (lt-ltb (firstBeyond limit x s N) (s + N) (omega (arith, e, l))) (ap (refusedAt number) (sym e))
+
 -- ---- samples: all are in range, or the first that is not stands at a place
 abbrev pub AllIn : List Samples → ℕ → ℕ → Type 0
 AllIn [] s N = Unit {0}
@@ -70,9 +78,9 @@ OutAt (x ∷ xs) s N place = ((place ≡ firstOut x s N) × (place < s + N)) ⊎
 
 pub in-verdict : (xs : List Samples) (s N : ℕ) → AllIn xs s N → firstOutIn xs s N ≡ accepted
 in-verdict [] s N h = refl
-in-verdict (x ∷ xs) s N (e, h) = rw (le-ltb (firstOut x s N) (s + N) (omega (arith, e))) (in-verdict xs s N h)
+in-verdict (x ∷ xs) s N (e, h) = none-beyond 6 _ x s N _ e ∙ in-verdict xs s N h
 
 pub out-verdict : (xs : List Samples) (s N place : ℕ) → OutAt xs s N place → firstOutIn xs s N ≡ refusedAt 6 place
 out-verdict [] s N place h = absurd h
-out-verdict (x ∷ xs) s N place (inl (e, l)) = rw (lt-ltb (firstOut x s N) (s + N) (omega (arith, e, l))) (ap (refusedAt 6) (sym e))
-out-verdict (x ∷ xs) s N place (inr (e, h)) = rw (le-ltb (firstOut x s N) (s + N) (omega (arith, e))) (out-verdict xs s N place h)
+out-verdict (x ∷ xs) s N place (inl (e, l)) = first-beyond 6 _ x s N _ e l
+out-verdict (x ∷ xs) s N place (inr (e, h)) = none-beyond 6 _ x s N _ e ∙ out-verdict xs s N place h

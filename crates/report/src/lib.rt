@@ -101,7 +101,7 @@ pub fn put_output(
     let answer = read(file, a, b);
     let number = number_of(answer);
     if 0 < number {
-        return put_refusal(number, page, 0);
+        return put_refusal(number as u64, page, 0);
     }
     let sizes = sizes_of(answer);
     put_spectra(

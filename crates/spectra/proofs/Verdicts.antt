@@ -10,10 +10,11 @@ use native.Mathlib.Omega.{arith}
 use lib.Dec.{ltb}
 use lib.IntN.{ℤ}
 use lib.ListN.{length}
-use borrow.Author.Tests.{le-ltb}
+use borrow.Author.Tests.{le-ltb, not-false}
 use Rattle.words.specs.Words.{Samples}
 use Rattle.ffct.specs.Block.{isLength}
 use Rattle.refusals.specs.Refusals.{someBelow, scratchWords, Verdict, number, firstOutIn, refusedAt, accepted}
+use Rattle.refusals.proofs.Promises.{past-test}
 use Rattle.refusals.proofs.Conditions.{AllReach, all-reach, reach-all, AllIn, OutAt, in-verdict, out-verdict}
 use Rattle.spectra.specs.declared.Answer.{Answer}
 use Rattle.spectra.specs.declared.Answer.the-variants.{OutOfRange}
@@ -46,6 +47,19 @@ module _ {call : Call} where
 
   pub is-accepted : Passed6 call → verdict call ≡ accepted
   is-accepted p = past-5 (p .past) ∙ in-verdict (samplesOf (call .recordings)) (call .start) (call .N) (p .range)
+
+-- ---- and back: of a call that is accepted, its length and its result buffers
+pub record Sound (call : Call) : Type 0 where
+  pub length-ok : isLength (call .N) ≡ true
+  pub results : AllReach (call .yields) (lengthsOf (call .results))
+
+pub sound : (call : Call) → verdict call ≡ accepted → Sound call
+unfolding verdict
+sound call e =
+    let one = past-test (not (isLength (call .N))) e (omega arith) in
+    let two = past-test (someBelow (call .start + call .N) (lengthsOf (call .recordings))) (one .1) (omega arith) in
+    let three = past-test (someBelow (call .yields) (lengthsOf (call .results))) (two .1) (omega arith) in
+    record { length-ok = not-false _ (one .0); results = reach-all _ (lengthsOf (call .results)) (three .0) }
 
 -- ---- what the tests tell of a call on a recording and on others
 pub record Told (call : Call) (others : List Samples) (t : Tested) : Type 0 where

@@ -222,7 +222,7 @@ pub fn count_query(length: usize) -> CountsAnswer
 // ---- the answer of a call on recordings as plain numbers
 
 // Document 01's number of an answer; 0 where the call was accepted.
-pub fn number_of(answer: Answer) -> u64
+pub fn number_of(answer: Answer) -> u32
     ensures { λ r. ⌜ r ≡ number (verdictOf answer) ⌝ }
 {
     match answer {

@@ -2,19 +2,21 @@
 --     cosine-ready       the cosine-DFT may be taken of the samples as they stand, which are the rearranged block in pairs
 --     sine-ready         then the sine-DFT
 --     rotation-ready     then both may be rotated
+--     fourths            two pairs at a time
 --     dct-ends           what the rotation leaves is the transform
 -- Assumes nothing.
 use mathlib.Core.Path.{_≡_, sym, ap, _∙_, subst}
+use mathlib.Core.Bool.{true}
 use mathlib.Core.List.{List}
 use Prim.Native.Nat.{ℕ, _+_, _-_, _*_, _/_, _≤_, _<_}
 use native.Mathlib.Omega.{arith}
 use lib.IntN.{ℤ}
 use Rattle.whole.proofs.Size.{within-size}
 use Rattle.words.specs.Words.{Samples, word}
-use Rattle.ffct.specs.Block.{level}
+use Rattle.ffct.specs.Block.{isLength, level}
 use Rattle.ffct.specs.Transforms.{Transform, rearranged, rotated, cosineDft, sineDft, dct}
 use Rattle.ffct.proofs.Lengths.{len, per, len-per}
-use Rattle.ffct.proofs.ElevenLengths.{as-len, level-le, Half, half}
+use Rattle.ffct.proofs.ElevenLengths.{as-len, level-le, Half, half, quarter}
 use Rattle.ffct.proofs.Sizes.{dft-size}
 use Rattle.ffct.proofs.Blocks.{Same, dft-same, rotated-same}
 use Rattle.ffct.proofs.Steps.{dct-step, dct-products, dct-sums}
@@ -145,3 +147,7 @@ module _ {n : ℕ} {w₀ : List ℤ} {spent : Tally} (start : DctReady n w₀ sp
           rotated-is k h = rw even at (rotated-same (n / 2) (per (level n)) _ _ _ _ per-is
               (λ j o. cosine-word j o ∙ ap (λ t. t .at j) cosine-is) (λ j o. sine-word j o ∙ ap (λ t. t .at j) sine-is) k
               (omega (arith, even)))
+
+-- two pairs are rotated at a time, where a block is not short
+pub fourths : {n : ℕ} → isLength n ≡ true → 16 < n → 4 * (n / 4) ≡ n
+fourths {n} ok h = omega (arith, quarter n ok (omega arith) .four)

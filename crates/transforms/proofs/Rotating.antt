@@ -1,28 +1,22 @@
--- The rotation (18), (19) of n samples: what a turn of its loop hands to the rotation of a pair, and what it makes.
+-- The rotation (18), (19) of n samples: what a pair more asks and makes, and that the coefficients are all made.
 -- Assumes nothing.
-use mathlib.Core.Path.{_≡_, refl, sym}
+use mathlib.Core.Path.{_≡_, refl, sym, _∙_}
 use mathlib.Core.List.{List}
-use Prim.Native.Nat.{ℕ, _+_, _-_, _*_, _/_, _^_, _≤_, _<_}
+use Prim.Native.Nat.{ℕ, _+_, _-_, _*_, _/_, _≤_, _<_}
 use native.Mathlib.Nat.{mul-comm, mul-le-mul-left}
 use native.Mathlib.Omega.{arith}
-use lib.IntN.{ℤ, pos, natAbs, _+ℤ_, _-ℤ_, _*ℤ_}
-use lib.Signed.{mag}
-use mir.Syntax.{w64}
-use mir.Val.{toZ, ofZ}
+use lib.IntN.{ℤ, pos, _+ℤ_, _-ℤ_, _*ℤ_}
 use Rattle.whole.specs.Round.{round}
-use Rattle.whole.proofs.Size.{within-size}
-use Rattle.whole.proofs.Words.{held}
-use Rattle.words.specs.Words.{word}
-use Rattle.words.proofs.Writing.{Ends}
+use Rattle.words.specs.Words.{word, Written}
+use Rattle.words.proofs.Writing.{Ends, ends-both, ends-two}
 use Rattle.circle.specs.Circle.{T}
-use Rattle.ffct.specs.Block.{largestSum}
 use Rattle.ffct.specs.Transforms.{rotated}
 use Rattle.ffct.proofs.Lengths.{len-per, per, quotient}
 use Rattle.ffct.proofs.ElevenLengths.{as-len, level-le, half}
-use Rattle.ffct.proofs.Sizes.{entry-within}
 use Rattle.ffct.proofs.Steps.{rotated-zero, rotated-low, rotated-middle, rotated-high}
 use Rattle.counts.specs.declared.tally.Tally.{Tally}
-use Rattle.transforms.specs.Steps.{cosineAt, sineAt, RotationReady}
+use Rattle.counts.specs.Tally.{HasRoom}
+use Rattle.transforms.specs.Steps.{cosineAt, sineAt, PairReady, PairPut, SingleReady, SinglePut, RotationReady}
 
 module _ {n : ℕ} {before : List ℤ} {spent : Tally} (r : RotationReady n before spent) where
   abbrev h : ℕ
@@ -65,26 +59,46 @@ module _ {n : ℕ} {before : List ℤ} {spent : Tally} (r : RotationReady n befo
       let back : n - (n - k) ≡ k = omega arith in
       sym (rw (even, back, mul-comm k (1024 / n)) at (rotated-high h (1024 / n) C S w (n - k) (omega arith)))
 
-  -- a turn: what it reads, C(k), S(k) and the table's entries c and s, and that the rotation of a pair may take them
-  pub record Turn (k : ℕ) (after : List ℤ) (c s : ℤ) : Type 0 where
-    pub cosine : toZ w64 (ofZ w64 (cosineAt n after k)) ≡ C k
-    pub sine : toZ w64 (ofZ w64 (sineAt n after k)) ≡ S k
-    pub entry : toZ w64 (ofZ w64 c) ≡ T (1024 / n * k)
-    pub mirror : toZ w64 (ofZ w64 s) ≡ T (1024 - 1024 / n * k)
-    pub coefficients : (natAbs (C k) ≤ largestSum + 128) × (natAbs (S k) ≤ largestSum + 128)
-    pub entries : (natAbs (T (1024 / n * k)) ≤ 2 ^ 30) × (natAbs (T (1024 - 1024 / n * k)) ≤ 2 ^ 30)
+  -- after a pairs: the words from 1 up to a, and the last a of the n
+  abbrev pub Run : ℕ → List ℤ → Type 0
+  Run a after = Ends (pos 0) 1 a a (n - 1) (λ i. rotated n C S (1 + i)) before after
 
-  module _ {a b m : ℕ} {f : ℕ → ℤ} {after : List ℤ} (run : Ends (pos 0) 1 a b m f before after) (l : 1 + m ≤ n) where
-    pub read : (j : ℕ) → mag (word after (n + j)) < 2 ^ 63 → toZ w64 (ofZ w64 (word after (n + j))) ≡ word before (n + j)
-    read j u = held u (run .high (n + j) (omega arith)) .is
+  module _ {a : ℕ} {after : List ℤ} (run : Run a after) where
+    cosine-is : (k : ℕ) → cosineAt n after k ≡ C k
+    cosine-is k = run .high (n + k) (omega (arith, r .some))
 
-    pub turn : (k : ℕ) → k < h → {c s : ℤ} → mag (cosineAt n after k) < 2 ^ 63 → mag (sineAt n after k) < 2 ^ 63 →
-        mag c < 2 ^ 63 → c ≡ T (1024 / n * k) → mag s < 2 ^ 63 → s ≡ T (1024 - 1024 / n * k) → Turn k after c s
-    turn k o u v c-fits c-is s-fits s-is = record {
-      cosine = read k u;
-      sine = held v (run .high (n + n / 2 + 1 + k) (omega arith)) .is;
-      entry = held c-fits c-is .is;
-      mirror = held s-fits s-is .is;
-      coefficients = (r .cosine-small k (omega arith), r .sine-small k (omega arith));
-      entries = (within-size (entry-within _ (place k (omega arith))), within-size (entry-within _ (omega arith)));
+    sine-is : (k : ℕ) → sineAt n after k ≡ S k
+    sine-is k = run .high (n + n / 2 + 1 + k) (omega (arith, r .some))
+
+    -- one pair more: what it asks, and what it makes
+    pub pair-ready : {t : Tally} {k : ℕ} → (1 ≤ k) × (k < h) → HasRoom 3 3 t → PairReady n k after t
+    pair-ready {k = k} o room = record {
+      some = o .0;
+      below = o .1;
+      fits = omega (arith, r .fits, run .len);
+      cosine-small = rw (cosine-is k) (r .cosine-small k (omega arith));
+      sine-small = rw (sine-is k) (r .sine-small k (omega arith));
+      room = room;
     }
+
+    pub pair-more : {a′ j k : ℕ} {after′ : List ℤ} {t t′ : Tally} → (a + 1 ≡ k) × (a′ ≡ k) × (k < h) → j ≡ 1024 / n * k →
+        PairPut j n k after after′ t t′ → Run a′ after′
+    pair-more {k = k} o e put =
+        let up : 1 + a ≡ k = omega arith in
+        let down : 1 + (n - k - 1) ≡ n - k = omega arith in
+        let two = put .both in
+        ends-both run (n - k - 1) (omega (arith, even)) (two .len) (two .others)
+        (two .first ∙ rw (e, cosine-is k, sine-is k, up) (low k (omega arith) (o .2)))
+        (two .second ∙ rw (e, cosine-is k, sine-is k, down) (high k (omega arith) (o .2)))
+
+    -- the coefficients that belong to no pair: what they ask, and that all are made with them
+    pub single-ready : {t : Tally} → HasRoom 1 0 t → SingleReady n after t
+    single-ready room = record {
+      some = r .some;
+      fits = omega (arith, r .fits, run .len);
+      cosine-small = rw (cosine-is h) (r .cosine-small h (omega arith));
+      room = room;
+    }
+
+    pub all-made : {after′ : List ℤ} {t t′ : Tally} → a + 1 ≡ h → SinglePut n after after′ t t′ → Written 0 n (rotated n C S) before after′
+    all-made o put = ends-two (omega (arith, r .some, even)) (λ e. even) run (put .both) (cosine-is 0 ∙ first) (rw (cosine-is h) middle)

@@ -4,9 +4,11 @@ use mathlib.Core.Bool.{true}
 use mathlib.Core.List.{List}
 use mathlib.Core.Path.{_≡_}
 use Prim.Native.Nat.{ℕ, _+_, _-_, _*_, _/_, _≤_, _<_, min}
-use lib.IntN.{ℤ, natAbs, _+ℤ_, _-ℤ_}
+use lib.IntN.{ℤ, natAbs, _+ℤ_, _-ℤ_, _*ℤ_}
 use lib.ListN.{length}
-use Rattle.words.specs.Words.{Samples, word, Written}
+use Rattle.whole.specs.Round.{round}
+use Rattle.words.specs.Words.{Samples, word, Written, TwoPut}
+use Rattle.circle.specs.Circle.{T}
 use Rattle.ffct.specs.Block.{isLength, level, largestSum}
 use Rattle.ffct.specs.Transforms.{Transform, dct, cosineBeyond, sineBeyond, dctBeyond, apart, rotated}
 use Rattle.counts.specs.declared.tally.Tally.{Tally}
@@ -125,6 +127,36 @@ cosineAt n words k = word words (n + k)
 abbrev pub sineAt : ℕ → List ℤ → ℕ → ℤ
 sineAt n words k = word words (n + n / 2 + 1 + k)
 
+-- one pair, k and n − k, by (20); j is the place of its c in the table
+pub record PairReady (n k : ℕ) (words : List ℤ) (spent : Tally) : Type 0 where
+  pub some : 1 ≤ k
+  pub below : k < n / 2
+  pub fits : n + (n / 2 + 1) + (n / 2 + 1) ≤ length words
+  pub cosine-small : natAbs (cosineAt n words k) ≤ largestSum + 128
+  pub sine-small : natAbs (sineAt n words k) ≤ largestSum + 128
+  pub room : HasRoom 3 3 spent
+
+pub record PairPut (j n k : ℕ) (before after : List ℤ) (spent total : Tally) : Type 0 where
+  pub both :
+      let c = T j in
+      let s = T (1024 - j) in
+      let C = cosineAt n before k in
+      let S = sineAt n before k in
+      TwoPut k (n - k) (round (c *ℤ C -ℤ s *ℤ S)) (round (s *ℤ C +ℤ c *ℤ S)) before after
+  pub tallied : Tallied 3 3 spent total
+
+-- the coefficients 0 and n/2, which belong to no pair
+pub record SingleReady (n : ℕ) (words : List ℤ) (spent : Tally) : Type 0 where
+  pub some : 2 ≤ n
+  pub fits : n + (n / 2 + 1) + (n / 2 + 1) ≤ length words
+  pub cosine-small : natAbs (cosineAt n words (n / 2)) ≤ largestSum + 128
+  pub room : HasRoom 1 0 spent
+
+pub record SinglePut (n : ℕ) (before after : List ℤ) (spent total : Tally) : Type 0 where
+  pub both : TwoPut 0 (n / 2) (cosineAt n before 0) (round (T 512 *ℤ cosineAt n before (n / 2))) before after
+  pub tallied : Tallied 1 0 spent total
+
+-- all of them
 pub record RotationReady (n : ℕ) (words : List ℤ) (spent : Tally) : Type 0 where
   pub length-ok : isLength n ≡ true
   pub some : 2 ≤ n

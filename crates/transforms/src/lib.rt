@@ -11,7 +11,7 @@ use fold::put_folded_differences;
 use fold::put_folded_sums;
 use join::join_cosine;
 use join::join_sine;
-use rotate::rotate;
+use rotate::rotate_by_twos;
 use short::cosine_short;
 use short::dct_short;
 use short::sine_short;
@@ -73,5 +73,5 @@ pub fn dct(wave: &[i32; 1025], w: &mut [i64], n: usize, spent: Tally) -> Tally
     }
     let cosine = cosine_dft(wave, w, n, 1, n, spent);
     let sine = sine_dft(wave, w, n, 1, n + n / 2 + 1, cosine);
-    rotate(wave, w, n, sine)
+    rotate_by_twos(wave, w, n, sine)
 }

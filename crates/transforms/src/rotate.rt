@@ -3,12 +3,13 @@
 use circle::wave_at;
 use counts::tally::Tally;
 use whole::round;
-ghost use Prim.Native.Nat.{_+_, _^_, _≤_};
+ghost use Prim.Native.Nat.{_+_, _*_, _/_, _^_, _≤_};
+ghost use mathlib.Core.Path.{_≡_};
 ghost use lib.IntN.{natAbs};
 ghost use Rattle.circle.specs.Circle.{IsQuarterWave};
 ghost use Rattle.ffct.specs.Block.{largestSum};
 ghost use Rattle.transforms.specs.Rotation.{PairRotated, MiddleRotated};
-ghost use Rattle.transforms.specs.Steps.{RotationReady, Rotated};
+ghost use Rattle.transforms.specs.Steps.{PairReady, PairPut, SingleReady, SinglePut, RotationReady, Rotated};
 
 // DCT(k) and DCT(n - k), with the products and sums that they take.
 pub struct Rotation {
@@ -68,6 +69,51 @@ pub fn rotate_middle(wave: &[i32; 1025], cosine: i64) -> Middle
     }
 }
 
+// DCT(k) and DCT(n - k) in their places, from the cosine-DFT at n and the sine-DFT at n + n / 2 + 1; j is the place of c in the table.
+pub fn put_pair(
+    wave: &[i32; 1025],
+    w: &mut [i64],
+    n: usize,
+    j: usize,
+    k: usize,
+    spent: Tally,
+) -> Tally
+    requires { ⌜ IsQuarterWave (now wave) × (j ≤ 1024) × PairReady n k (now w) spent ⌝ }
+    ensures { λ r. ⌜ PairPut j n k (now (w .entry)) (now (w .exit)) spent r ⌝ }
+{
+    let c = wave_at(wave, j);
+    let s = wave_at(wave, 1024 - j);
+    let x = w[n + k];
+    let y = w[n + n / 2 + 1 + k];
+    let r = rotate_pair(c, s, x, y);
+    let low = r.low;
+    let high = r.high;
+    w[k] = low;
+    w[n - k] = high;
+    Tally {
+        products: spent.products + r.products,
+        sums: spent.sums + r.sums,
+    }
+}
+
+// DCT(0) and DCT(n / 2) in their places, which belong to no pair.
+pub fn put_single(wave: &[i32; 1025], w: &mut [i64], n: usize, spent: Tally) -> Tally
+    requires { ⌜ IsQuarterWave (now wave) × SingleReady n (now w) spent ⌝ }
+    ensures { λ r. ⌜ SinglePut n (now (w .entry)) (now (w .exit)) spent r ⌝ }
+{
+    let h = n / 2;
+    let first = w[n];
+    let cosine = w[n + h];
+    let middle = rotate_middle(wave, cosine);
+    let value = middle.value;
+    w[0] = first;
+    w[h] = value;
+    Tally {
+        products: spent.products + middle.products,
+        sums: spent.sums,
+    }
+}
+
 // The DCT of n samples at the front, from the cosine-DFT at n and the sine-DFT at n + n / 2 + 1.
 pub fn rotate(wave: &[i32; 1025], w: &mut [i64], n: usize, spent: Tally) -> Tally
     requires { ⌜ IsQuarterWave (now wave) × RotationReady n (now w) spent ⌝ }
@@ -75,31 +121,32 @@ pub fn rotate(wave: &[i32; 1025], w: &mut [i64], n: usize, spent: Tally) -> Tall
 {
     let h = n / 2;
     let step = 1024 / n;
-    let mut products = spent.products;
-    let mut sums = spent.sums;
+    let mut tally = spent;
     let mut k = 1;
     while k < h {
-        let c = wave_at(wave, step * k);
-        let s = wave_at(wave, 1024 - step * k);
-        let x = w[n + k];
-        let y = w[n + h + 1 + k];
-        let r = rotate_pair(c, s, x, y);
-        let low = r.low;
-        let high = r.high;
-        w[k] = low;
-        w[n - k] = high;
-        products += r.products;
-        sums += r.sums;
+        tally = put_pair(wave, w, n, step * k, k, tally);
         k += 1;
     }
-    let first = w[n];
-    let cosine = w[n + h];
-    let middle = rotate_middle(wave, cosine);
-    let value = middle.value;
-    w[h] = value;
-    w[0] = first;
-    Tally {
-        products: products + middle.products,
-        sums: sums,
+    put_single(wave, w, n, tally)
+}
+
+// The same two pairs at a time, which is quicker where the compiler does not unroll the loop. n is a multiple of 4, so that one pair is
+// left for the end.
+pub fn rotate_by_twos(wave: &[i32; 1025], w: &mut [i64], n: usize, spent: Tally) -> Tally
+    requires { ⌜ IsQuarterWave (now wave) × RotationReady n (now w) spent × (4 * (n / 4) ≡ n) ⌝ }
+    ensures { λ r. ⌜ Rotated n (now (w .entry)) (now (w .exit)) spent r ⌝ }
+{
+    let h = n / 2;
+    let step = 1024 / n;
+    let mut tally = spent;
+    let mut j = step;
+    let mut k = 1;
+    while k + 1 < h {
+        let one = put_pair(wave, w, n, j, k, tally);
+        tally = put_pair(wave, w, n, j + step, k + 1, one);
+        j += 2 * step;
+        k += 2;
     }
+    let pairs = put_pair(wave, w, n, j, k, tally);
+    put_single(wave, w, n, pairs)
 }

@@ -26,14 +26,20 @@ floor (negsuc a) m h =
     let l = mod-lt a h in
     record { rest = m - 1 - a % m; below = omega arith; split = below-zero a m (a / m) (m - 1 - a % m) (omega (arith, div-add-mod' a m)) }
 
-pub floor-one : (v : ℤ) → shrZ v 1 ≡ v
-floor-one v = go (shrZ v 1) (floor v 1 (omega arith))
+-- that fixes q
+pub floor-only : (v : ℤ) (m : ℕ) {q : ℤ} → Floor v m q → 0 < m → shrZ v m ≡ q
+floor-only v m {q} f l = go (shrZ v m) (floor v m l)
   where
-    go : (q : ℤ) → Floor v 1 q → q ≡ v
-    go q f =
-        let e = ⊖-same _ _ _ _ (simp diff at (rw (parts v, parts q) at (f .split))) in
-        let b = f .below in
-        rw (parts v, parts q) (omega near)
+    go : (p : ℤ) → Floor v m p → p ≡ q
+    go p g =
+        let a = ⊖-same _ _ _ _ (simp diff at (rw (parts v, parts q) at (f .split))) in
+        let b = ⊖-same _ _ _ _ (simp diff at (rw (parts v, parts p) at (g .split))) in
+        let s = f .below in
+        let t = g .below in
+        within-same p q (within-less m l (rw (parts p, parts q) (simp diff (omega near))))
+
+pub floor-one : (v : ℤ) → shrZ v 1 ≡ v
+floor-one v = floor-only v 1 (record { rest = 0; below = omega arith; split = rw (parts v) (simp diff (omega near)) }) (omega arith)
 
 -- ---- q m is the multiple of m nearest to v, a tie going to the larger (`Nearest` of specs/Round, with `int`)
 pub record NearestMultiple (m : ℕ) (v q : ℤ) : Type 0 where

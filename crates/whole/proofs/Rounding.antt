@@ -1,15 +1,17 @@
--- The laws of rounding. `nearest-near` and `round-near` are the only ones that error limits cite; `round-nearest` is what the tie rule says.
+-- The laws of rounding. Error limits cite `nearest-near` and what follows from it, `half-near` and `round-near`; sizes cite `nearest-size`;
+-- `round-nearest` is what the tie rule says.
 -- Assumes nothing.
 use mathlib.Core.Path.{_≡_, refl, sym, _∙_, ap}
-use Prim.Native.Nat.{ℕ, _*_, _^_, _<_, _≤_}
+use Prim.Native.Nat.{ℕ, _+_, _*_, _^_, _<_, _≤_}
 use native.Mathlib.Nat.{mul-le-mul}
 use native.Mathlib.Omega.{arith}
 use lib.Dec.{lit<}
 use lib.IntN.{ℤ, pos, natAbs, _+ℤ_, _-ℤ_, _*ℤ_}
 use lib.Signed.{shrZ}
 use Rattle.whole.specs.Round.{nearest, round, RoundsToNearest, KnownRounds}
-use Rattle.whole.proofs.Difference.{int}
-use Rattle.whole.proofs.Size.{_within_, within-size, within-cancel, size-mul, size-int}
+use Rattle.whole.proofs.Difference.{int, parts, diff}
+use Rattle.whole.proofs.Size.{near, _within_, size-within, within-size, within-int, within-eq, within-le}
+use Rattle.whole.proofs.Size.{within-add, within-mul, within-cancel, size-mul, size-int}
 use Rattle.whole.proofs.Floor.{floor-one, NearestMultiple, nearest-floor, nearest-only, nearest-within, nearest-quotient}
 
 -- ---- the ties nearest to zero, computed
@@ -37,12 +39,32 @@ pub by-half : (v : ℤ) (h m : ℕ) → m ≡ 2 * h → 0 < h → shrZ (v +ℤ i
 by-half v h m e l =
     ap (λ z. shrZ (z +ℤ int h) m) (sym (floor-one v)) ∙ ap (shrZ (shrZ v 1 +ℤ int h)) e ∙ by-quotient v h 1 m (omega (arith, e)) l (lit< tt)
 
+-- ---- a multiple of m is not changed
+pub nearest-exact : (q : ℤ) (m : ℕ) → 0 < m → nearest (q *ℤ int m) m ≡ q
+nearest-exact q m l = sym (nearest-only m (q *ℤ int m) q _ exact (multiple (q *ℤ int m) m l))
+  where
+    exact : NearestMultiple m (q *ℤ int m) q
+    exact = record { low = rw (parts q) (simp diff (omega near)); high = rw (parts q) (simp diff (omega near)) }
+
 -- ---- 2 |q m - v| ≤ m, for q = v / m rounded
 pub nearest-near : (v : ℤ) (m : ℕ) → 0 < m → int 2 *ℤ (nearest v m *ℤ int m -ℤ v) within m
 nearest-near v m l = nearest-within m v (nearest v m) (multiple v m l)
 
 pub half-near : (v : ℤ) (h : ℕ) → 0 < h → nearest v (2 * h) *ℤ int (2 * h) -ℤ v within h
 half-near v h l = within-cancel 2 (lit< tt) (nearest-near v (2 * h) (omega arith))
+
+-- v / m is at most M in size, and so is the whole number nearest to it
+pub nearest-size : (v : ℤ) (m : ℕ) {M : ℕ} → 0 < m → v within M * m → nearest v m within M
+nearest-size v m {M} l h =
+    halved (nearest v m)
+    (within-cancel m l
+    (within-le (within-eq (joined (nearest v m) (int m) v) (within-add (nearest-near v m l) (within-mul (within-int 2) h))) (omega arith)))
+  where
+    joined : (q m v : ℤ) → int 2 *ℤ (q *ℤ m -ℤ v) +ℤ int 2 *ℤ v ≡ m *ℤ (int 2 *ℤ q)
+    joined q m v = rw (parts q, parts m, parts v) (simp diff (omega near))
+
+    halved : (q : ℤ) → int 2 *ℤ q within 2 * M + 1 → q within M
+    halved q g = size-within q (omega (arith, rw (size-mul, size-int) at (within-size g)))
 
 -- 2 |round v 2^30 - v| ≤ 2^30
 pub round-near : (v : ℤ) → 2 * natAbs (round v *ℤ pos (2 ^ 30) -ℤ v) ≤ 2 ^ 30

@@ -1,12 +1,14 @@
 -- The laws of finite sums.
 -- Assumes nothing.
-use mathlib.Core.Path.{_≡_, refl, sym, _∙_, ap, ap₂}
+use mathlib.Core.Path.{_≡_, refl, sym, _∙_, ap, ap₂, subst}
+use mathlib.Core.Logic.{⊎-elim}
 use Prim.Native.Nat.{ℕ, zero, suc, _+_, _*_, _-_, _<_, zero-le}
 use native.Mathlib.Omega.{arith}
-use lib.IntN.{ℤ, pos, negℤ, _+ℤ_, _-ℤ_, _*ℤ_, +ℤ-comm, *ℤ-zero, +ℤ-idl, +ℤ-idr}
+use lib.IntN.{ℤ, pos, negℤ, _+ℤ_, _-ℤ_, _*ℤ_, +ℤ-comm, +ℤ-assoc, *ℤ-comm, *ℤ-zero, +ℤ-idl, +ℤ-idr}
 use Rattle.whole.specs.Sum.{sum}
-use Rattle.whole.proofs.Difference.{parts, diff}
-use Rattle.whole.proofs.Size.{near, _within_, size-within, within-add, within-le}
+use Rattle.whole.proofs.Cases.{le-or-lt}
+use Rattle.whole.proofs.Difference.{int, parts, diff}
+use Rattle.whole.proofs.Size.{near, _within_, size-within, within-add, within-eq, within-le}
 
 -- congruence: terms that are equal below N
 pub sum-cong : (N : ℕ) (f g : ℕ → ℤ) → ((n : ℕ) → n < N → f n ≡ g n) → sum N f ≡ sum N g
@@ -29,6 +31,15 @@ unfolding sum
 sum-scale zero c f = sym (*ℤ-zero c)
 sum-scale (suc N) c f = rw (sum-scale N c f, parts c, parts (sum N f), parts (f N)) (simp diff (omega near))
 
+pub sum-scaled : (N : ℕ) (f : ℕ → ℤ) (c : ℤ) → sum N (λ n. f n *ℤ c) ≡ sum N f *ℤ c
+sum-scaled N f c = sum-cong N _ _ (λ n l. *ℤ-comm (f n) c) ∙ sum-scale N c f ∙ *ℤ-comm c (sum N f)
+
+-- N times the same term
+pub sum-same : (N : ℕ) (c : ℤ) → sum N (λ n. c) ≡ c *ℤ int N
+unfolding sum
+sum-same zero c = unfold int in sym (*ℤ-zero c)
+sum-same (suc N) c = rw (sum-same N c, parts c) (simp diff (omega near))
+
 pub sum-neg : (N : ℕ) (f : ℕ → ℤ) → sum N (λ n. negℤ (f n)) ≡ negℤ (sum N f)
 unfolding sum
 sum-neg zero f = refl
@@ -46,17 +57,26 @@ sum-split N (suc M) f =
     ∙ ap (λ z. z +ℤ f (N + M)) (sum-split N M f)
     ∙ rw (parts (sum N f), parts (sum M (λ n. f (N + n))), parts (f (N + M))) (simp diff (omega near))
 
+-- the first half, and the second
+pub sum-halves : (N : ℕ) (f : ℕ → ℤ) → sum (2 * N) f ≡ sum N f +ℤ sum N (λ n. f (N + n))
+sum-halves N f = ap (λ k. sum k f) {x = 2 * N} {y = N + N} (omega arith) ∙ sum-split N N f
+
+-- the first term, and the others
+pub sum-first : (N : ℕ) (f : ℕ → ℤ) → sum (suc N) f ≡ f 0 +ℤ sum N (λ n. f (n + 1))
+unfolding sum
+sum-first N f =
+    ap (λ k. sum k f) {x = suc N} {y = 1 + N} (omega arith) ∙ sum-split 1 N f
+    ∙ ap₂ _+ℤ_ (+ℤ-idl (f 0)) (sum-cong N (λ n. f (1 + n)) (λ n. f (n + 1)) (λ n l. ap f (omega arith)))
+
 -- the last term first
 pub sum-reverse : (N : ℕ) (f : ℕ → ℤ) → sum N f ≡ sum N (λ n. f (N - 1 - n))
 unfolding sum
 sum-reverse zero f = refl
 sum-reverse (suc N) f =
     sym
-    (ap (λ k. sum k (λ n. f (suc N - 1 - n))) {x = suc N} {y = 1 + N} (omega arith)
-    ∙ sum-split 1 N (λ n. f (suc N - 1 - n))
-    ∙ ap₂ (λ a b. pos 0 +ℤ a +ℤ b) (ap f {x = suc N - 1 - 0} {y = N} (omega arith))
-    (sum-cong N (λ n. f (suc N - 1 - (1 + n))) (λ n. f (N - 1 - n)) (λ n l. ap f (omega arith)) ∙ sym (sum-reverse N f))
-    ∙ ap (λ z. z +ℤ sum N f) (+ℤ-idl (f N))
+    (sum-first N (λ n. f (suc N - 1 - n))
+    ∙ ap₂ _+ℤ_ (ap f {x = suc N - 1 - 0} {y = N} (omega arith))
+    (sum-cong N (λ n. f (suc N - 1 - (n + 1))) (λ n. f (N - 1 - n)) (λ n l. ap f (omega arith)) ∙ sym (sum-reverse N f))
     ∙ +ℤ-comm (f N) (sum N f))
 
 -- the even places, and the odd
@@ -69,8 +89,32 @@ sum-even-odd (suc N) f =
     ∙ rw (parts (sum N (λ n. f (2 * n))), parts (sum N (λ n. f (2 * n + 1))), parts (f (2 * N)), parts (f (2 * N + 1)))
     (simp diff (omega near))
 
+-- a sum of sums, the other way round
+pub sum-swap : (N M : ℕ) (f : ℕ → ℕ → ℤ) → sum N (λ n. sum M (λ m. f n m)) ≡ sum M (λ m. sum N (λ n. f n m))
+unfolding sum
+sum-swap N zero f = sum-zero N
+sum-swap N (suc M) f = sum-add N (λ n. sum M (λ m. f n m)) (λ n. f n M) ∙ ap (λ z. z +ℤ sum N (λ n. f n M)) (sum-swap N M f)
+
 -- N terms of size at most M
 pub sum-within : (N : ℕ) (f : ℕ → ℤ) {M : ℕ} → ((n : ℕ) → n < N → f n within M) → sum N f within N * M
 unfolding sum
 sum-within zero f h = size-within (pos 0) zero-le
 sum-within (suc N) f h = within-le (within-add (sum-within N f (λ n l. h n (omega arith))) (h N (omega arith))) (omega arith)
+
+-- one term within M of t, and the others within M of 0
+pub sum-one : (N m : ℕ) (f : ℕ → ℤ) (t : ℤ) {M : ℕ} → m < N → f m -ℤ t within M → ((n : ℕ) → n < N → (n ≡ m → ⊥) → f n within M) →
+    sum N f -ℤ t within N * M
+unfolding sum
+sum-one zero m f t l h o = absurd (omega arith)
+sum-one (suc N) m f t {M} l h o = ⊎-elim
+    (λ g.
+    let last = subst (λ n. f n -ℤ t within M) {x = m} {y = N} (omega arith) h in
+    let others = sum-within N f (λ n k. o n (omega arith) (λ e. omega arith)) in
+    within-le (within-eq (sym (+ℤ-assoc (sum N f) (f N) (negℤ t))) (within-add others last)) (omega arith))
+    (λ g.
+    let others = sum-one N m f t g h (λ n k. o n (omega arith)) in
+    within-le (within-eq (moved (sum N f) (f N) t) (within-add others (o N (omega arith) (λ e. omega arith)))) (omega arith))
+    (le-or-lt N m)
+  where
+    moved : (a b t : ℤ) → a -ℤ t +ℤ b ≡ a +ℤ b -ℤ t
+    moved a b t = rw (parts a, parts b, parts t) (simp diff (omega near))

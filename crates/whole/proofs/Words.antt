@@ -6,9 +6,9 @@ use mathlib.Core.Bool.{false, true≢false}
 use Prim.Native.Nat.{ℕ, _^_, _<_}
 use native.Mathlib.Nat.{lt-of-le-of-lt}
 use lib.Dec.{T, leb}
-use lib.IntN.{ℤ, pos, negsuc}
+use lib.IntN.{ℤ, pos, negsuc, negℤ, _-ℤ_, +ℤ-idl}
 use lib.Signed.{shrZ, ltZ, nonNeg, mag, mag-shr}
-use mir.Syntax.{Width, w64}
+use mir.Syntax.{Width, w32, w64}
 use mir.Val.{SFits, hbits, toZ, ofZ}
 use mir.Facts.{toZ-ofZ, sfits-widen}
 use borrow.Author.Needs.{sfits-of}
@@ -34,6 +34,14 @@ module _ {w : Width} (op : ℤ → ℤ → ℤ) {p q : ℕ} {x y : ℤ} (a : Wor
   pub made : Word w (ofZ w (op (toZ w p) (toZ w q))) (op x y)
   made = rw (a .is, b .is) (word f)
 
+-- a negation
+module _ {w : Width} {p : ℕ} {x : ℤ} (a : Word w p x) (f : SFits w (negℤ x)) where
+  pub negates : SFits w (pos 0 -ℤ toZ w p)
+  negates = rw (a .is, +ℤ-idl) f
+
+  pub negated : Word w (ofZ w (pos 0 -ℤ toZ w p)) (negℤ x)
+  negated = rw (a .is, +ℤ-idl) (word f)
+
 -- a shift to the right is the floor division, and always fits
 pub shifted : {w : Width} {p : ℕ} {x : ℤ} (m : ℕ) → Word w p x → Word w (ofZ w (shrZ (toZ w p) m)) (shrZ x m)
 shifted {x = x} m a = rw (a .is) (word (record { sfits = lt-of-le-of-lt (mag-shr x m) (a .fits .sfits) }))
@@ -45,6 +53,25 @@ module _ {w w′ : Width} (t : T (leb (hbits w) (hbits w′))) {p : ℕ} {x : �
 
   pub widened : Word w′ (ofZ w′ (toZ w p)) x
   widened = rw (a .is) (word (sfits-widen t (a .fits)))
+
+-- a cast of 64 bits that hold a number which fits 32
+module _ {p : ℕ} {x : ℤ} (a : Word w64 p x) (f : SFits w32 x) where
+  pub narrows : SFits w32 (toZ w64 p)
+  narrows = rw (a .is) f
+
+  pub narrowed : toZ w32 (ofZ w32 (toZ w64 p)) ≡ x
+  narrowed = rw (a .is) (toZ-ofZ f)
+
+-- a cast of 32 bits that were read to 64
+module _ (x : ℤ) (l : mag x < 2 ^ 31) where
+  half-word : Word w32 (ofZ w32 x) x
+  half-word = word (sfits-of l)
+
+  pub read-widens : SFits w64 (toZ w32 (ofZ w32 x))
+  read-widens = widens tt half-word
+
+  pub read-widened : Word w64 (ofZ w64 (toZ w32 (ofZ w32 x))) x
+  read-widened = widened tt half-word
 
 -- a test of the sign, as a cast to an unsigned word asks it (`fits-natAbs` of the library has the rest)
 pub not-negative : (x : ℤ) → ltZ x (pos 0) ≡ false → T (nonNeg x)

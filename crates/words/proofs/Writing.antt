@@ -11,19 +11,22 @@
 --     front, beyond   by place, where b is 0
 --     written-one     a run of one element
 --     written-more    one element more behind the run
---     written-first   the first element, after those behind it
 --     written-same    the same elements by another name
+-- And of two stores by place:
+--     two-put         what they put
+--     ends-two        when they put the elements 0 and n / 2, and all others are stored
 -- Assumes nothing.
 use mathlib.Core.Path.{_≡_, refl, sym, _∙_, ap}
 use mathlib.Core.List.{List, [], _∷_}
 use mathlib.Core.Logic.{⊎-elim}
-use Prim.Native.Nat.{ℕ, suc, _+_, _-_, _≤_, _<_}
+use Prim.Native.Nat.{ℕ, suc, _+_, _-_, _*_, _/_, _≤_, _<_}
 use native.Mathlib.Omega.{arith}
+use lib.IntN.{ℤ, pos}
 use lib.ListN.{length, getD, set, length-set}
 use lib.Seq.{getD-set-same, getD-set-other}
 use borrow.Author.Count.{below-none, below-more}
-use Rattle.whole.proofs.Cases.{le-or-lt}
-use Rattle.words.specs.Words.{WrittenOf}
+use Rattle.whole.proofs.Cases.{le-or-lt, same-or-not}
+use Rattle.words.specs.Words.{word, WrittenOf, Written, TwoPut}
 
 -- of the m elements from b on, the first a and the last c now hold f; those between and all others are as before, and the length stays
 pub record Ends {A : Type 0} (d : A) (b a c m : ℕ) (f : ℕ → A) (before after : List A) : Type 0 where
@@ -175,25 +178,47 @@ module _ {A : Type 0} {d : A} {m : ℕ} {f : ℕ → A} {before after : List A} 
   pub beyond : (k : ℕ) → m ≤ k → getD after k d ≡ getD before k d
   beyond k h = w .high k (omega arith)
 
--- the first element, after those behind it
-pub written-first : {A : Type 0} {d : A} {m n : ℕ} {f : ℕ → A} {before after : List A} {x : A} →
-    WrittenOf d 1 m (λ i. f (1 + i)) before after
-    → (n ≡ 1 + m) × (0 < length before) → x ≡ f 0 → WrittenOf d 0 n f before (set after 0 x)
-written-first {A} {d} {m} {n} {f} {before} {after} {x} w h e = record {
-  new = λ k l. ⊎-elim (λ o. behind k l o)
-      (λ o. let zeroth : k ≡ 0 = omega arith in rw zeroth (getD-set-same after 0 x d (omega (arith, w .len)) ∙ e)) (le-or-lt 1 k);
-  low = λ k l. absurd (omega arith);
-  high = λ k l. getD-set-other after 0 k x d (λ e. omega arith) ∙ w .high k (omega arith);
-  len = length-set after 0 x ∙ w .len;
-}
-  where
-    behind : (k : ℕ) → k < n → 1 ≤ k → getD (set after 0 x) (0 + k) d ≡ f k
-    behind k l o =
-        let place : 1 + (k - 1) ≡ k = omega arith in
-        getD-set-other after 0 (0 + k) x d (λ e. omega arith)
-        ∙ ap (λ j. getD after j d) {x = 0 + k} {y = 1 + (k - 1)} (omega arith) ∙ w .new (k - 1) (omega arith) ∙ ap f place
-
 -- past its end a list has no element
 pub past : {A : Type 0} (d : A) (w : List A) (k : ℕ) → length w ≤ k → getD w k d ≡ d
 past d [] k h = refl
 past d (x ∷ w) (suc k) h = past d w k (omega (arith, h))
+
+-- two stores
+pub two-put : {i j : ℕ} {u v u′ v′ : ℤ} {out : List ℤ} → (i < length out) × (j < length out) → (i ≡ j → u ≡ v) → u′ ≡ u → v′ ≡ v
+    → TwoPut i j u v out (set (set out i u′) j v′)
+two-put {i} {j} {u} {v} {u′} {v′} {out} h same e d = record {
+  first = ⊎-elim
+      (λ one. rw one (getD-set-same (set out j u′) j v′ (pos 0) (simp length-set (h .1))) ∙ d ∙ sym (same one))
+      (λ two. getD-set-other (set out i u′) j i v′ (pos 0) two ∙ getD-set-same out i u′ (pos 0) (h .0) ∙ e)
+      (same-or-not i j);
+  second = getD-set-same (set out i u′) j v′ (pos 0) (simp length-set (h .1)) ∙ d;
+  others = λ k p q. getD-set-other (set out i u′) j k v′ (pos 0) q ∙ getD-set-other out i k u′ (pos 0) p;
+  len = simp length-set;
+}
+
+-- a loop from both ends has come to the middle, and two stores put what it has left, the elements 0 and n / 2
+pub ends-two : {n a : ℕ} {f : ℕ → ℤ} {u v : ℤ} {before between after : List ℤ} → (1 ≤ n) × (a ≡ n - n / 2 - 1)
+    → ((n ≡ 1 → ⊥) → 2 * (n / 2) ≡ n) → Ends (pos 0) 1 a a (n - 1) (λ i. f (1 + i)) before between → TwoPut 0 (n / 2) u v between after
+    → u ≡ f 0 → v ≡ f (n / 2) → Written 0 n f before after
+ends-two {n} {a} {f} {u} {v} {before} {between} {after} h whole run e first half = record {
+  new = λ k l. at k l;
+  low = λ k l. absurd (omega arith);
+  high = λ k l. e .others k (omega arith) (omega arith) ∙ run .high k (omega arith);
+  len = e .len ∙ run .len;
+}
+  where
+    other : (k : ℕ) → k < n → (k ≡ 0 → ⊥) → (k ≡ n / 2 → ⊥) → word after k ≡ f k
+    other k l z m =
+        let even = whole (omega arith) in
+        let place : 1 + (k - 1) ≡ k = omega arith in
+        e .others k z m
+        ∙ rw place at (⊎-elim {C = word between (1 + (k - 1)) ≡ f (1 + (k - 1))} (λ g. run .back (k - 1) (omega arith) (omega arith))
+        (run .front (k - 1)) (le-or-lt a (k - 1)))
+
+    at : (k : ℕ) → k < n → word after (0 + k) ≡ f k
+    at k l =
+        let here : 0 + k ≡ k = omega arith in
+        rw here (⊎-elim
+        (λ zeroth. rw zeroth (e .first ∙ first))
+        (λ z. ⊎-elim (λ middle. rw middle (e .second ∙ half)) (other k l z) (same-or-not k (n / 2)))
+        (same-or-not k 0))

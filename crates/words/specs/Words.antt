@@ -24,3 +24,10 @@ pub record WrittenOf {A : Type 0} (d : A) (b m : ℕ) (f : ℕ → A) (before af
 -- the same of words
 abbrev pub Written : ℕ → ℕ → (ℕ → ℤ) → List ℤ → List ℤ → Type 0
 Written b m f before after = WrittenOf (pos 0) b m f before after
+
+-- u put at place i, and v at place j
+pub record TwoPut (i j : ℕ) (u v : ℤ) (before after : List ℤ) : Type 0 where
+  pub first : word after i ≡ u
+  pub second : word after j ≡ v
+  pub others : (k : ℕ) → (k ≡ i → ⊥) → (k ≡ j → ⊥) → word after k ≡ word before k
+  pub len : length after ≡ length before

@@ -5,7 +5,7 @@ use native.Mathlib.Omega.{arith}
 use borrow.Author.Needs.{needs}
 use Rattle.transforms.proofs.DftRuns.{cosine-kind, sine-kind, even-ready, stride-below, fold-ready, eighths}
 use Rattle.transforms.proofs.DftRuns.{tail-starts, odd-ready, lent-join-ready, lent-sine-ready, lent-ends}
-use Rattle.transforms.proofs.DctRuns.{cosine-ready, sine-ready, rotation-ready, dct-ends}
+use Rattle.transforms.proofs.DctRuns.{cosine-ready, sine-ready, rotation-ready, fourths, dct-ends}
 use borrow.Fn.Kinds.{In}
 use borrow.Fn.PlainCycle.{Measures, is, falls, and}
 use Rattle.transforms.proofs.cosine_dft.Reads as cosine-dft
@@ -21,7 +21,7 @@ use Rattle.transforms.proofs.fold.put_folded_differences.Reads as put-f
 use Rattle.transforms.proofs.fold.put_folded_sums.Reads as put-folded-sums-reads
 use Rattle.transforms.proofs.join.join_cosine.Reads as join-cosine-reads
 use Rattle.transforms.proofs.join.join_sine.Reads as join-sine-reads
-use Rattle.transforms.proofs.rotate.rotate.Reads as rotate-reads
+use Rattle.transforms.proofs.rotate.rotate_by_twos.Reads as rotate-by-twos-reads
 use Rattle.transforms.proofs.short.cosine_short.Reads as cosine-short-reads
 use Rattle.transforms.proofs.short.dct_short.Reads as dct-short-reads
 use Rattle.transforms.proofs.short.sine_short.Reads as sine-short-reads
@@ -94,8 +94,8 @@ dct-calls t = (
   cosine-dft.Post,
   sine-dft-below t,
   sine-dft.Post,
-  rotate-reads.Asked,
-  rotate-reads.Learnt,
+  rotate-by-twos-reads.Asked,
+  rotate-by-twos-reads.Learnt,
 )
 
 -- a block that is not short has four samples, and two
@@ -167,7 +167,7 @@ pub +cosine-dft+dct+sine-dft-spec : {M : Type 1} → statement M
     (λ c. search needs)  -- dct-add-sine-dft
     (λ c. search needs)  -- dct-add-sine-dft-2
     (λ c κs. search (needs, two, sine-ready))  -- dct-sine-dft-requires
-    (λ c κs. search (needs, two, rotation-ready))  -- dct-rotate-requires
+    (λ c κs. search (needs, two, rotation-ready, fourths))  -- dct-rotate-by-twos-requires
     (λ c. search needs)  -- dct-same-length-2
     (λ c. search (needs, two, dct-ends)))  -- dct-returns-2
     λ t. sine-dft-lts.spec (sine-dft-calls t)

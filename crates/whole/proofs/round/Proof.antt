@@ -1,17 +1,17 @@
 -- `whole::round` meets its contract: v and the half fit a word together, and the shift is the floor division (`by-half`). Assumes nothing.
-use mathlib.Core.Path.{refl, _∙_}
+use mathlib.Core.Path.{_∙_}
 use Prim.Native.Nat.{ℕ, _^_}
 use native.Mathlib.Omega.{arith}
 use lib.Dec.{lit<}
 use lib.IntN.{_+ℤ_}
 use mir.Syntax.{w64}
 use mir.Val.{SFits}
-use mir.Facts.{sfits-lit}
 use Rattle.whole.specs.Round.{round}
 use Rattle.whole.proofs.Difference.{int}
 use Rattle.whole.proofs.Size.{size-within, within-add, within-int, within-fits}
 use Rattle.whole.proofs.Rounding.{by-half}
 use Rattle.whole.proofs.Words.{Word, word, asked, made, shifted}
+use Rattle.whole.proofs.Operations.{natural}
 use Rattle.whole.proofs.round.Statement.{statement}
 use Rattle.whole.proofs.round.Tie as tie
 
@@ -20,8 +20,7 @@ abbrev added : ℕ
 added = 536870912
 
 half : Word w64 added (int added)
-unfolding int
-half = record { is = refl; fits = sfits-lit tt }
+half = natural (lit< tt)
 
 sum-fits : (c : tie.Start) → SFits w64 (c .args .v +ℤ int added)
 sum-fits c = within-fits (within-add (size-within (c .args .v) (c .pre)) (within-int added)) (lit< tt)

@@ -6,7 +6,7 @@ use lib.ListN.{length}
 use borrow.Author.Needs.{needs}
 use Rattle.words.specs.Words.{word}
 use Rattle.words.proofs.Writing.{Ends, ends-none, ends-front, ends-all}
-use Rattle.blocks.proofs.Casting.{sample-widens, sample-widened}
+use Rattle.whole.proofs.Words.{read-widens, read-widened}
 use Rattle.blocks.proofs.buffers.load.Statement.{statement}
 use Rattle.blocks.proofs.buffers.load.Tie as tie
 
@@ -25,11 +25,11 @@ load-spec =
     (λ c. search (needs, ends-none))  -- loop-holds
     (λ c. search needs)  -- mul-x
     (λ c. search needs)  -- shared-slice-copy-out-x
-    (λ c. search (needs, sample-widens))  -- cast-x
+    (λ c. search (needs, read-widens))  -- cast-x
     (λ c. search needs)  -- mul-x-2
     (λ c. search needs)  -- slice-set-from-x
     (λ c. search needs)  -- add-i
     (λ c. search needs)  -- loop-less
-    (λ c. (search needs, ends-front (c .before .before .loop .inv .1) (omega arith) (sample-widened _ (c .x .given))))  -- loop-again
+    (λ c. (search needs, ends-front (c .before .before .loop .inv .1) (omega arith) (read-widened _ (c .x .given) .is)))  -- loop-again
     (λ c. search needs)  -- same-length
     (λ c. ends-all (c .before .loop .inv .1) (omega arith)))  -- returns

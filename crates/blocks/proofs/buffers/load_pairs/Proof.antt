@@ -9,7 +9,7 @@ use Rattle.words.specs.Words.{word}
 use Rattle.words.proofs.Writing.{Ends, ends-none, ends-front, ends-all, written-one}
 use Rattle.ffct.proofs.ElevenLengths.{length-pos, half}
 use Rattle.blocks.specs.Buffers.{inPairs}
-use Rattle.blocks.proofs.Casting.{sample-widens, sample-widened}
+use Rattle.whole.proofs.Words.{read-widens, read-widened}
 use Rattle.blocks.proofs.Pairing.{pairs-even, pairs-odd}
 use Rattle.blocks.proofs.buffers.load_pairs.Statement.{statement}
 use Rattle.blocks.proofs.buffers.load_pairs.Tie as tie
@@ -23,7 +23,7 @@ abbrev μ-loop : tie.MeasureT-loop
 returns : tie.Need-returns Inv-loop μ-loop
 returns c =
     let x = word (c .before .before .args .block .now) in
-    rw (c .before .if1 .taken) (written-one (omega arith) (sample-widened _ (c .x .given) ∙ sym (pairs-even 1 x 0)))
+    rw (c .before .if1 .taken) (written-one (omega arith) (read-widened _ (c .x .given) .is ∙ sym (pairs-even 1 x 0)))
 
 loop-again : tie.Need-loop-again Inv-loop μ-loop
 loop-again c =
@@ -34,8 +34,8 @@ loop-again c =
     let two : 2 * i + 1 + 1 ≡ 2 * (i + 1) = omega arith in (
       omega arith,
       rw (sym two) (ends-front
-          (ends-front (l .loop .inv .1) (omega arith) (sample-widened _ (c .before .x2 .given) ∙ sym (pairs-even n x i)))
-          (omega arith) (sample-widened _ (c .y .given) ∙ sym (pairs-odd n x i))),
+          (ends-front (l .loop .inv .1) (omega arith) (read-widened _ (c .before .x2 .given) .is ∙ sym (pairs-even n x i)))
+          (omega arith) (read-widened _ (c .y .given) .is ∙ sym (pairs-odd n x i))),
     )
 
 returns-2 : tie.Need-returns-2 Inv-loop μ-loop
@@ -52,14 +52,14 @@ load-pairs-spec =
     Inv-loop
     μ-loop
     (λ c. search needs)  -- shared-slice-copy-out-x
-    (λ c. search (needs, sample-widens))  -- cast-x
+    (λ c. search (needs, read-widens))  -- cast-x
     (λ c. search needs)  -- slice-set-from-x
     (λ c. search needs)  -- same-length
     returns
     (λ c. search (needs, ends-none))  -- loop-holds
     (λ c. search needs)  -- mul-x
     (λ c. search needs)  -- shared-slice-copy-out-x-2
-    (λ c. search (needs, sample-widens))  -- cast-x-2
+    (λ c. search (needs, read-widens))  -- cast-x-2
     (λ c. search needs)  -- mul-x-2
     (λ c. search needs)  -- mul-x-3
     (λ c. search needs)  -- slice-set-from-x-2
@@ -67,7 +67,7 @@ load-pairs-spec =
     (λ c. search needs)  -- sub-y-2
     (λ c. search needs)  -- mul-y
     (λ c. search needs)  -- shared-slice-copy-out-y
-    (λ c. search (needs, sample-widens))  -- cast-y
+    (λ c. search (needs, read-widens))  -- cast-y
     (λ c. search needs)  -- mul-y-2
     (λ c. search needs)  -- add-y
     (λ c. search needs)  -- mul-y-3

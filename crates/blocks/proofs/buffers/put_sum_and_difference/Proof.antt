@@ -4,8 +4,8 @@ use lib.IntN.{_+ℤ_, _-ℤ_}
 use lib.ListN.{length-set}
 use borrow.Author.Needs.{needs}
 use Rattle.words.specs.Words.{word}
+use Rattle.words.proofs.Writing.{two-put}
 use Rattle.blocks.proofs.Casting.{Narrowed, sum-narrowed, difference-narrowed}
-use Rattle.blocks.proofs.Parts.{two-put}
 use Rattle.blocks.proofs.buffers.put_sum_and_difference.Statement.{statement}
 use Rattle.blocks.proofs.buffers.put_sum_and_difference.Tie as tie
 

@@ -7,10 +7,10 @@ use lib.IntN.{natAbs}
 use lib.ListN.{length-set}
 use borrow.Author.Needs.{needs}
 use Rattle.words.specs.Words.{word}
+use Rattle.words.proofs.Writing.{two-put}
 use Rattle.ffct.specs.Block.{largestSum}
 use Rattle.blocks.specs.Buffers.{wordsFrom}
 use Rattle.blocks.proofs.Casting.{coefficient-narrows, coefficient-narrowed}
-use Rattle.blocks.proofs.Parts.{two-put}
 use Rattle.blocks.proofs.buffers.store_ends.Statement.{statement}
 use Rattle.blocks.proofs.buffers.store_ends.Tie as tie
 

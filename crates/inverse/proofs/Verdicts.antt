@@ -1,0 +1,71 @@
+-- The tests of the inverse DCT, in their order: the answer at each, and what is known behind the last.
+-- Assumes nothing.
+use mathlib.Core.Bool.{Bool, true, false, not}
+use mathlib.Core.List.{List}
+use mathlib.Core.Path.{_≡_, refl, sym, _∙_}
+use Prim.Native.Nat.{ℕ, _+_, _*_, _≤_, _<_}
+use native.Mathlib.Omega.{arith}
+use lib.IntN.{ℤ, natAbs}
+use lib.ListN.{length}
+use borrow.Author.Tests.{lt-ltb, le-ltb, not-false}
+use Rattle.words.specs.Words.{word, Written}
+use Rattle.ffct.specs.Block.{isLength}
+use Rattle.refusals.specs.Refusals.{accepted, firstBeyond, firstBeyondOr}
+use Rattle.refusals.proofs.Conditions.{first-beyond, none-beyond}
+use Rattle.refusals.proofs.Promises.{turned-down, carried-out}
+use Rattle.refusals.proofs.Ranges.{first-end, passed, none-out}
+use Rattle.inverse.specs.declared.InverseAnswer.the-variants.{BadLength, TooFewStored, ResultTooShort, BeyondLimit, Done}
+use Rattle.inverse.specs.Inverse.{inverseDct, largestCoefficient, inverseVerdict}
+use Rattle.inverse.specs.Promises.{InversePromise}
+use Rattle.inverse.specs.Steps.{Stored}
+
+-- ---- behind the last test: what is known, and what is promised once the values are written
+pub record Accepted (cs vs : List ℤ) (N : ℕ) : Type 0 where
+  pub stored : Stored N cs
+  pub room : N ≤ length vs
+  pub writes : {vs′ : List ℤ} → Written 0 N (inverseDct N (word cs)) vs vs′ → InversePromise cs N vs vs′ Done
+
+-- ---- the tests, each where those before it are passed
+module _ (cs vs : List ℤ) (N : ℕ) (ok : Bool) (is : ok ≡ isLength N) where
+  pub bad-length : not ok ≡ true → InversePromise cs N vs vs BadLength
+  unfolding inverseVerdict
+  bad-length h = turned-down refl (omega arith) (rw (← is, h))
+
+  module _ (good : not ok ≡ false) where
+    pub too-few : length cs < N → InversePromise cs N vs vs TooFewStored
+    unfolding inverseVerdict
+    too-few h = turned-down refl (omega arith) (rw (← is, good, lt-ltb _ _ h))
+
+    module _ (enough : N ≤ length cs) where
+      pub too-short : length vs < N → InversePromise cs N vs vs ResultTooShort
+      unfolding inverseVerdict
+      too-short h = turned-down refl (omega arith) (rw (← is, good, le-ltb _ _ enough, lt-ltb _ _ h))
+
+      module _ (room : N ≤ length vs) (k : ℕ) (o : k ≡ firstBeyond (N * 1000000 + N) (word cs) 0 N) where
+        past : inverseVerdict cs N vs ≡ firstBeyondOr 10 (largestCoefficient N) (word cs) 0 N accepted
+        unfolding inverseVerdict
+        past = rw (← is, good, le-ltb _ _ enough, le-ltb _ _ room)
+
+        pub beyond-limit : k < N → InversePromise cs N vs vs (BeyondLimit k)
+        beyond-limit h = turned-down refl (omega arith) (past ∙ first-beyond 10 _ (word cs) 0 N accepted o (omega arith))
+
+        pub all-within : N ≤ k → Accepted cs vs N
+        all-within h =
+            let within = first-end _ (word cs) 0 N o (omega arith) in
+            let length-ok = sym is ∙ not-false ok good in
+            let range : (n : ℕ) → n < N → natAbs (word cs n) ≤ largestCoefficient N
+            = λ n l. passed _ (word cs) 0 N within n (omega arith) (omega arith) in
+            record {
+              stored = record { length-ok = length-ok; enough = enough; range = range };
+              room = room;
+              writes = λ w. carried-out refl (past ∙ none-beyond 10 _ (word cs) 0 N accepted within)
+                  (record { words = w; length-ok = length-ok; range = range });
+            }
+
+-- ---- the whole verdict where nothing is amiss
+pub accepts : (cs vs : List ℤ) (N : ℕ) → isLength N ≡ true → N ≤ length cs → N ≤ length vs
+    → ((k : ℕ) → k < N → natAbs (word cs k) ≤ largestCoefficient N) → inverseVerdict cs N vs ≡ accepted
+unfolding inverseVerdict
+accepts cs vs N ok enough room range =
+    rw (ok, le-ltb _ _ enough, le-ltb _ _ room)
+    (none-beyond 10 _ (word cs) 0 N accepted (none-out _ (word cs) 0 N (λ j _ l. range j (omega arith))))

@@ -1,0 +1,37 @@
+-- `inverse::inverse_dct` meets its contract: a run of the tests, and the values written. Assumes nothing.
+use mathlib.Core.Path.{sym, _∙_}
+use Prim.Native.Nat.{_≤_}
+use native.Mathlib.Omega.{arith}
+use borrow.Author.Needs.{needs}
+use borrow.Author.Tests.{not-false}
+use Rattle.ffct.proofs.ElevenLengths.{length-le}
+use Rattle.inverse.proofs.Verdicts.{bad-length, too-few, too-short, beyond-limit, Accepted, all-within}
+use Rattle.inverse.proofs.inverse_dct.Statement.{statement}
+use Rattle.inverse.proofs.inverse_dct.Tie as tie
+
+-- behind the test of the length it is at most 1,024
+short : (c : tie.Else3) → c .before .before .before .before .args .length ≤ 1024
+short c =
+    let t = c .before .before in
+    length-le _ (sym (t .before .is-length .ensures) ∙ not-false _ (t .if1 .left))
+
+is-accepted : (c : tie.Else4) → let a = c .before .before .before .before .before .before .args in
+    Accepted (a .coefficients .now) (a .values .now) (a .length)
+is-accepted c = search (needs, all-within)
+
+pub inverse-dct-spec : {M : Type 1} → statement M
+inverse-dct-spec =
+    tie.close
+    (tie.spec
+    (λ c κs. search needs)  -- is-length-requires
+    (λ c. search (needs, bad-length))  -- returns
+    (λ c. search (needs, too-few))  -- returns-2
+    (λ c. search (needs, too-short))  -- returns-3
+    (λ c. record { fits = omega (arith, short c) })  -- mul-limit
+    (λ c. record { fits = omega (arith, short c) })  -- add-limit
+    (λ c. record { fits = omega (arith, short c) })  -- cast-limit
+    (λ c κs. omega (arith, short c))  -- first-beyond-requires
+    (λ c. search (needs, beyond-limit))  -- returns-4
+    (λ c κs. let a = is-accepted (c .before) in (a .stored, a .room))  -- put-values-requires
+    (λ c. search needs)  -- same-length
+    (λ c. is-accepted (c .before .before .before) .writes (c .before .put-values .ensures)))  -- returns-5

@@ -1,0 +1,5 @@
+pub mod Inverse
+pub mod Answers
+pub mod Promises
+pub mod Steps
+pub mod Laws
