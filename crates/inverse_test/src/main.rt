@@ -62,7 +62,7 @@ fn row(value: i32) -> [i32; 1040]
 fn write_call(coefficients: &[i32], length: usize, values: &mut [i32]) {
     let answer = inverse_dct(coefficients, length, values);
     io::write_all(STDOUT_FILENO, b"inverse");
-    write_count(number_of(answer));
+    write_count(number_of(answer) as u64);
     write_count(place_of(answer) as u64);
     write_words(values);
     io::write_all(STDOUT_FILENO, b"\n");

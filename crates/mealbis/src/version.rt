@@ -1,4 +1,4 @@
-// The version of the library: 10100 major + 100 minor + patch. include/mealbis.h has the same number as MEALBIS_VERSION, so that a
+// The version of the library: 10000 major + 100 minor + patch. include/mealbis.h has the same number as MEALBIS_VERSION, so that a
 // program can tell whether the header that it was compiled with and the archive that it was linked with belong together.
 ghost use mathlib.Core.Path.{_≡_};
 
