@@ -1,4 +1,4 @@
-/* Times Spectrum, Cosine and Pair beside a plain C version, kissfft, FFTW and direct sums, on the same input in one run.
+/* Times Spectrum, Cosine, Pair and the inverse DCT beside a plain C version, kissfft, FFTW and direct sums, on the same input in one run.
 
      bench                          a table for N = 8 .. 1,024, in Markdown
      bench CALL CONTENDER N REPEATS      that many blocks of one contender and nothing else, to count instructions
@@ -28,7 +28,7 @@
 #define ROUND_NS 300000.0
 
 static int32_t a[RECORDING], b[RECORDING];
-static int32_t first[LONGEST], second[LONGEST];
+static int32_t first[LONGEST], second[LONGEST], stored[LONGEST];
 static int64_t scratch[8 * LONGEST + 64];
 static volatile uint64_t sink;
 
@@ -69,6 +69,13 @@ static void our_pair(size_t n)
     sink += products;
 }
 
+static void our_inverse(size_t n)
+{
+    size_t place;
+    need(mealbis_inverse_dct(stored, LONGEST, n, first, LONGEST, &place) == 0, "refused");
+    sink += (uint64_t)first[0];
+}
+
 /* ---- plain C: the same whole call, bench/plain.c */
 
 static void plain_s(size_t n)
@@ -93,6 +100,13 @@ static void plain_p(size_t n)
     need(plain_pair(a, RECORDING, b, RECORDING, START, n, 1 << 20, first, LONGEST, second, LONGEST,
                     scratch, 8 * LONGEST + 64, counts, &place) == 0, "refused");
     sink += counts[0];
+}
+
+static void plain_i(size_t n)
+{
+    uint64_t place;
+    need(plain_inverse_dct(stored, LONGEST, n, first, LONGEST, &place) == 0, "refused");
+    sink += (uint64_t)first[0];
 }
 
 /* ---- direct sums: cosine and sine, and the DCT, over the stored quarter wave, rounded once */
@@ -152,9 +166,9 @@ static void kiss_spectrum(size_t n)
 #endif
 
 #ifdef HAVE_FFTW
-static double *fftw_in, *fftw_real;
+static double *fftw_in, *fftw_stored, *fftw_real;
 static fftw_complex *fftw_out;
-static fftw_plan fftw_r2c[LONGEST + 1], fftw_dct[LONGEST + 1];
+static fftw_plan fftw_r2c[LONGEST + 1], fftw_dct[LONGEST + 1], fftw_back[LONGEST + 1];
 
 static void fftw_spectrum(size_t n)
 {
@@ -168,6 +182,13 @@ static void fftw_cosine(size_t n)
     if (!fftw_dct[n])
         fftw_dct[n] = fftw_plan_r2r_1d((int)n, fftw_in, fftw_real, FFTW_REDFT10, FFTW_ESTIMATE);
     fftw_execute(fftw_dct[n]);
+}
+
+static void fftw_inverse(size_t n)
+{
+    if (!fftw_back[n])
+        fftw_back[n] = fftw_plan_r2r_1d((int)n, fftw_stored, fftw_real, FFTW_REDFT01, FFTW_ESTIMATE);
+    fftw_execute(fftw_back[n]);
 }
 #endif
 
@@ -196,6 +217,11 @@ static const struct contender contenders[] = {
     {"Cosine", "direct sum", direct_cosine},
     {"Pair", "ours", our_pair},
     {"Pair", "plain C", plain_p},
+    {"Inverse DCT", "ours", our_inverse},
+    {"Inverse DCT", "plain C", plain_i},
+#ifdef HAVE_FFTW
+    {"Inverse DCT", "FFTW REDFT01", fftw_inverse},
+#endif
 };
 
 #define CONTENDERS (sizeof contenders / sizeof contenders[0])
@@ -216,10 +242,22 @@ static void make_input(void)
 #endif
 #ifdef HAVE_FFTW
     fftw_in = fftw_malloc(sizeof(double) * LONGEST);
+    fftw_stored = fftw_malloc(sizeof(double) * LONGEST);
     fftw_real = fftw_malloc(sizeof(double) * LONGEST);
     fftw_out = fftw_malloc(sizeof(fftw_complex) * LONGEST);
     for (size_t i = 0; i < LONGEST; i++)
         fftw_in[i] = a[START + i];
+#endif
+}
+
+/* what the inverse DCT takes: the coefficients that Cosine gives of the block */
+static void store(size_t n)
+{
+    our_cosine(n);
+    memcpy(stored, first, sizeof stored);
+#ifdef HAVE_FFTW
+    for (size_t i = 0; i < n; i++)
+        fftw_stored[i] = stored[i];
 #endif
 }
 
@@ -241,6 +279,7 @@ static double timed(const struct contender *c, size_t n, long repeats)
 static void measure(size_t n, double *best)
 {
     long repeats[CONTENDERS];
+    store(n);
     for (size_t i = 0; i < CONTENDERS; i++) {
         best[i] = timed(&contenders[i], n, 3);
         repeats[i] = best[i] < ROUND_NS ? (long)(ROUND_NS / best[i]) + 1 : 1;
@@ -290,6 +329,7 @@ int main(int count, char **words)
         return 0;
     }
     need(count == 5, "usage: bench [CALL CONTENDER N REPEATS]");
+    store((size_t)atol(words[3]));
     for (size_t i = 0; i < CONTENDERS; i++)
         if (strcmp(contenders[i].call, words[1]) == 0 && strcmp(contenders[i].name, words[2]) == 0) {
             timed(&contenders[i], (size_t)atol(words[3]), atol(words[4]));

@@ -7,6 +7,7 @@ words beyond each buffer must be as the reference and document 01 say.
 
 import collections
 import ctypes
+import itertools
 import pathlib
 import random
 import subprocess
@@ -28,6 +29,7 @@ BEYOND = 4              # words after the end of each buffer that must stay
 REFERENCE = {"spectrum": ref.spectrum_call, "cosine": ref.cosine_call, "pair": ref.pair_call}
 RECORDINGS = {"spectrum": 1, "cosine": 1, "pair": 2}
 RESULTS = {"spectrum": 2, "cosine": 1, "pair": 2}
+FAR = (2 ** 31, 2 ** 32, 2 ** 63, 2 ** 63 + 8, 2 ** 64 - 8, 2 ** 64 - 4, 2 ** 64 - 1)
 tried = collections.Counter()
 
 
@@ -127,10 +129,9 @@ def check_refusals_together(library):
 
 def check_far_numbers(library):
     """lengths, starts and allowances at the far end of their words"""
-    far = (2 ** 31, 2 ** 32, 2 ** 63, 2 ** 63 + 8, 2 ** 64 - 8, 2 ** 64 - 4, 2 ** 64 - 1)
     for kind in REFERENCE:
         recordings, lens = [[1] * 8] * RECORDINGS[kind], [8] * RESULTS[kind]
-        for number in far:
+        for number in FAR:
             compare(library, kind, recordings, 0, number, 100, lens, 128)
             compare(library, kind, recordings, number, 8, 100, lens, 128)
             compare(library, kind, recordings, number, 1, 100, lens, 128)
@@ -164,12 +165,55 @@ def check_random(library, how_many=3000):
                 near(rng, 8 * N + 64))
 
 
+# --- The way back from stored coefficients -------------------------------------
+
+def compare_inverse(library, coefficients, N, values_len):
+    """One call: the answer, the place, the coefficients, and the values with some words beyond."""
+    lent = (ctypes.c_int32 * (len(coefficients) + 1))(*coefficients)
+    values = (ctypes.c_int32 * (values_len + BEYOND))(*[FILLER] * (values_len + BEYOND))
+    place = ctypes.c_uint64(FILLER)
+    refusal = library.plain_inverse_dct(
+        lent, ctypes.c_size_t(len(coefficients)), ctypes.c_size_t(N),
+        values, ctypes.c_size_t(values_len), ctypes.byref(place))
+    answer = ref.inverse_call(coefficients, N, values_len)
+    written = list(*answer.results)
+    expected = (answer.refusal, FILLER if answer.place is None else answer.place,
+                list(coefficients), written + [FILLER] * (values_len + BEYOND - len(written)))
+    assert (refusal, place.value, lent[:-1], values[:]) == expected, (coefficients, N, values_len)
+    tried[answer.refusal] += 1
+
+
+def check_inverse_accepted(library):
+    """the way back: random coefficients, the limit with the signs of the largest sum, ties, blocks sent through Cosine"""
+    rng = random.Random(10)
+    for stored, _, _ in ref.INVERSE_TIES:
+        compare_inverse(library, list(stored), len(stored), len(stored) + 1)
+    for N in ref.LENGTHS:
+        blocks = [ref.dct(x)[0] for x in self_test.extreme_blocks(N)]
+        for stored in [*self_test.stored_blocks(rng, N), *(blocks if N < 512 else blocks[3:5])]:
+            compare_inverse(library, stored + [2 ** 31 - 1], N, N + rng.randrange(3))
+
+
+def check_inverse_refusals(library):
+    """the way back: every set of refusals, far lengths, the limit and one beyond at every k"""
+    for numbers in [(), *self_test.subsets((1, 2, 3, 10))]:
+        call = self_test.broken_inverse(numbers)
+        compare_inverse(library, call["coefficients"], call["length"], call["values_len"])
+    for N in FAR + (0, 3, 5, 6, 7, 1023, 1025, 2048):
+        compare_inverse(library, [1] * 2048, N, 2048)
+    for N in ref.LENGTHS[:7]:
+        for k, sign, beyond in itertools.product(range(N), (1, -1), (0, 1)):
+            stored = [sign * (self_test.limit(N) + beyond) if j == k else 0 for j in range(N)]
+            compare_inverse(library, stored, N, N)
+
+
 def main():
     begun = time.perf_counter()
     assert (BENCH / "table.h").read_text() == make_table.table_text(), "run make_table.py"
     with tempfile.TemporaryDirectory() as directory:
         library = compiled(directory)
-        for check in (check_accepted, check_refusals_together, check_far_numbers, check_random):
+        for check in (check_accepted, check_refusals_together, check_far_numbers, check_random,
+                      check_inverse_accepted, check_inverse_refusals):
             since = time.perf_counter()
             check(library)
             print("passed in %6.3f s: %s" % (time.perf_counter() - since, check.__doc__))

@@ -1,4 +1,5 @@
-/* Plain C99 version of the calls of docs/01-scope.md, for benchmarks only.
+/* Plain C99 version of the calls of docs/01-scope.md and of the way back from stored
+   DCT-II coefficients, for benchmarks only.
    Numbers in round brackets, as (12), are the equations of source document 001. */
 
 #include "plain.h"
@@ -9,8 +10,9 @@
 
 #define LONGEST 1024
 #define LARGEST_SAMPLE 1000000
+#define CIRCLE 4096
 
-/* round30 shifts negative numbers to the right, which C99 leaves to the compiler. */
+/* round30 and value_at shift negative numbers to the right, which C99 leaves to the compiler. */
 typedef char right_shift_must_be_arithmetic[((int64_t)-1 >> 1) == -1 ? 1 : -1];
 
 struct tally {
@@ -185,14 +187,19 @@ static uint64_t pair_products(size_t length)
     return 2 * spectrum_products(length);
 }
 
-/* The number of samples of the block before the first one out of range. */
-static size_t samples_in_range(const int32_t *block, size_t length)
+/* How many numbers stand before the first one beyond the largest, on either side. */
+static size_t numbers_within(const int32_t *numbers, size_t length, int32_t largest)
 {
     size_t i;
     for (i = 0; i < length; i++)
-        if (block[i] < -LARGEST_SAMPLE || block[i] > LARGEST_SAMPLE)
+        if (numbers[i] < -largest || numbers[i] > largest)
             break;
     return i;
+}
+
+static size_t samples_in_range(const int32_t *block, size_t length)
+{
+    return numbers_within(block, length, LARGEST_SAMPLE);
 }
 
 /* ---- The calls ---- */
@@ -351,5 +358,54 @@ int plain_pair(const int32_t *a, size_t a_len, const int32_t *b, size_t b_len,
     spent = both(spent, sine_dft(scratch, 1, length, s_b, work));
     spent = both(spent, combine(c_a, s_a, c_b, s_b, length, re, im));
     finish(spent, counts, scratch, length);
+    return 0;
+}
+
+/* ---- The way back ---- */
+
+/* T at a place of the circle, by K's symmetries. */
+static int64_t wave_at(size_t place)
+{
+    place &= CIRCLE - 1;
+    if (place > CIRCLE / 2)
+        place = CIRCLE - place;
+    return place > CIRCLE / 4 ? -quarter_wave[CIRCLE / 2 - place] : quarter_wave[place];
+}
+
+/* The value whose coefficient k stands at place k * turn, by the definition: a sum of 128 bits, rounded once. */
+static int32_t value_at(const int32_t *c, size_t n, uint64_t power, size_t turn)
+{
+    __int128 sum = 0;
+    size_t place = 0, k;
+    for (k = 1; k < n; k++) {
+        place += turn;
+        sum += c[k] * wave_at(place);
+    }
+    sum = 2 * sum + ((int64_t)c[0] * ((int64_t)1 << 30));
+    return (int32_t)((sum + ((int64_t)n << 29)) >> (30 + power));
+}
+
+int plain_inverse_dct(const int32_t *coefficients, size_t coefficients_len, size_t length,
+                      int32_t *values, size_t values_len, uint64_t *place)
+{
+    size_t good, step, i;
+    uint64_t power;
+
+    if (!is_length(length))
+        return 1;
+    if (coefficients_len < length)
+        return 2;
+    if (values_len < length)
+        return 3;
+    good = numbers_within(coefficients, length, (int32_t)length * (LARGEST_SAMPLE + 1));
+    if (good < length) {
+        *place = good;
+        return 10;
+    }
+
+    step = LONGEST / length;
+    power = log2_of(length);
+    for (i = 0; i < length; i++)
+        values[i] = value_at(coefficients, length, power, (2 * i + 1) * step);
     return 0;
 }

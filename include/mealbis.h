@@ -40,7 +40,8 @@
  * the order given at the function:
  *
  *   1  length is not one of the eleven lengths
- *   2  start + length is more than the words of a recording; a sum beyond SIZE_MAX is more, too
+ *   2  start + length is more than the words of a recording; a sum beyond SIZE_MAX is more, too;
+ *      in mealbis_inverse_dct, fewer than length coefficients are stored
  *   3  a result buffer is too short; in mealbis_read, a recording is shorter than the file's samples
  *   4  scratch is shorter than 8 * length + 64 words
  *   5  the allowance is below the products that the call spends
@@ -48,12 +49,15 @@
  *   7  the file is shorter than 8 bytes
  *   8  the file's sample count is 0 or above 4,096
  *   9  the file's length is not 8 + 8 * samples bytes
+ *  10  a stored coefficient is beyond length * 1,000,000 + length on either side; *place is the
+ *      first such k
  *
  * After a refusal every buffer is as it was. The single words (products, sums, place, samples,
  * length, the six counts) are written in EVERY answer, so that none keeps an old value:
  *   - counts and sizes hold what the function says when it accepts, and 0 after a refusal;
- *   - *place holds the place after refusal 6, and 0 in every other answer. It counts from 0 at the
- *     first sample of the recording, not of the block.
+ *   - *place holds the place after refusals 6 and 10, and 0 in every other answer. After 6 it counts
+ *     from 0 at the first sample of the recording, not of the block; after 10 it is the coefficient's
+ *     k.
  *
  * ---- Counts and the allowance
  *
@@ -67,7 +71,8 @@
  *     longer than needed; the words beyond those listed at the function stay as they are.
  *   - What a call writes (results, scratch, the recordings of mealbis_read, the single words) must
  *     not overlap anything else that the call is given. What it only reads may overlap: a and b of
- *     mealbis_pair may be one recording. Recordings and files may lie in read-only memory.
+ *     mealbis_pair may be one recording. Recordings, stored coefficients and files may lie in
+ *     read-only memory.
  *   - While a call runs, nobody else may write its buffers, nor read those that it writes: no other
  *     thread, no interrupt handler, no DMA transfer.
  *   - Pointers are aligned as their type asks: 4 bytes for int32_t, 8 for int64_t, uint64_t and
@@ -94,8 +99,9 @@
  *     alone or runs on another stack.
  *
  * Stack: a copy of the cosine table, 4,100 bytes, and frames whose number depends on the length
- * alone. Measured at length 1,024, in bytes: mealbis_cosine 6,488, mealbis_pair 6,440,
- * mealbis_spectrum 6,296, mealbis_counts 112, mealbis_read 96; shorter blocks take no more.
+ * alone. Measured at length 1,024, in bytes: mealbis_cosine 6,504, mealbis_pair 6,360,
+ * mealbis_spectrum 6,296, mealbis_inverse_dct 4,184, mealbis_counts 112, mealbis_read 96; shorter
+ * blocks take no more.
  * The proof does not speak of the stack: allow 8 KiB. `self_check --stack` measures it.
  */
 #ifndef MEALBIS_H
@@ -109,13 +115,13 @@ extern "C" {
 #endif
 
 /* The version, 10000 major + 100 minor + patch: of this header, and of the archive that is linked. */
-#define MEALBIS_VERSION 10000u
+#define MEALBIS_VERSION 10100u
 uint32_t mealbis_version(void);
 
 /* The answers. */
 #define MEALBIS_ACCEPTED 0u
 #define MEALBIS_BAD_LENGTH 1u
-#define MEALBIS_BEYOND_RECORDING 2u
+#define MEALBIS_BEYOND_RECORDING 2u /* in mealbis_inverse_dct: too few coefficients */
 #define MEALBIS_RESULT_TOO_SHORT 3u
 #define MEALBIS_SCRATCH_TOO_SHORT 4u
 #define MEALBIS_ALLOWANCE_TOO_SMALL 5u
@@ -123,6 +129,7 @@ uint32_t mealbis_version(void);
 #define MEALBIS_FILE_BELOW_HEADER 7u
 #define MEALBIS_BAD_SAMPLE_COUNT 8u
 #define MEALBIS_BAD_FILE_LENGTH 9u
+#define MEALBIS_COEFFICIENT_BEYOND_LIMIT 10u
 
 /* Sizes. */
 #define MEALBIS_LONGEST_BLOCK 1024
@@ -131,6 +138,8 @@ uint32_t mealbis_version(void);
 #define MEALBIS_SPECTRUM_WORDS(length) ((length) / 2 + 1)
 #define MEALBIS_SCRATCH_WORDS(length) (8 * (length) + 64)
 #define MEALBIS_FILE_BYTES(samples) (8 + 8 * (samples))
+/* For one of the eleven lengths. It is signed, so that it may be compared with a coefficient. */
+#define MEALBIS_LARGEST_COEFFICIENT(length) ((int32_t)(length) * (MEALBIS_LARGEST_SAMPLE + 1))
 /* The words of an array, for the counts beside each pointer. Of an array, not of a pointer. */
 #define MEALBIS_WORDS(array) (sizeof(array) / sizeof((array)[0]))
 
@@ -167,6 +176,28 @@ uint32_t mealbis_cosine(
     int32_t *coefficients, size_t coefficients_words,
     int64_t *scratch, size_t scratch_words,
     uint64_t *products, uint64_t *sums, size_t *place);
+
+/*
+ * The inverse DCT: strain back from the stored coefficients c(0) .. c(N-1) of mealbis_cosine:
+ *   values[n] is (c(0) + 2 * the sum over k = 1 .. N-1 of c(k) * cos(pi (2n + 1) k / (2 N))) / N,
+ *   rounded once to the nearest whole number, a tie going to the larger. The sum is exact, and the
+ *   cosine is T((2n + 1) k 1024 / N) / 2^30, T being document 01's stored quarter wave, taken round
+ *   the circle by the symmetries of K.
+ * Tests 1, 2, 3, 10. It needs no scratch and no allowance, and counts nothing. Every accepted value
+ * fits an int32_t.
+ *
+ * A block sent through mealbis_cosine and back is never refused by 10, and each value is within N of
+ * its sample: |values[n] - x(n)| <= N. So a value may be beyond the range of a sample by up to N.
+ *
+ *   coefficients, coefficients_words   at least N words, c(k) in word k; only the first N are
+ *                                      examined, each at most MEALBIS_LARGEST_COEFFICIENT(N) in size
+ *   values, values_words               at least N words
+ */
+uint32_t mealbis_inverse_dct(
+    const int32_t *coefficients, size_t coefficients_words,
+    size_t length,
+    int32_t *values, size_t values_words,
+    size_t *place);
 
 /*
  * Pair: the complex DFT of two recordings, a + i b, for k = 0 .. N-1:

@@ -1,18 +1,19 @@
-"""Reference implementation of docs/01-scope.md, for tests only.
+"""Reference implementation of docs/01-scope.md and of request (i) of document 02, for tests only.
 
-This module was written from the paper alone (document 01, and source document
-001 for the equations) and shares no code with the product.  It says what every
-call answers, in whole numbers of any size, with no thought for speed.
+This module was written from the papers alone (documents 01 and 02, and source
+document 001 for the equations) and shares no code with the product.  It says
+what every call answers, in whole numbers of any size, with no thought for speed.
 
-  the cosine circle    UNIT_STEP, K(place), T
-  the rounding         round30(v)
+  the cosine circle    UNIT_STEP, K(place), T, T_on_circle(place)
+  the rounding         round30(v), nearest(v, m)
   the transforms       cosine_dft(x), sine_dft(x), dct(x), spectrum(x), pair(a, b)
+  the way back         inverse_sum(c, n), inverse_dct(c)
   the counts           closed_counts(N), tallied_counts(N)
   the exact sums       exact_cosine(x, k) .. exact_imaginary(a, b, k), all times 2^80
   the distances        within_eighth, within_quarter_more, within_quarter
-  the calls            spectrum_call, cosine_call, pair_call, count_query
+  the calls            spectrum_call, cosine_call, pair_call, inverse_call, count_query
   the pair file        read_pair_file(data, a_len, b_len), pairspec(data)
-  telling blocks       DIFFERS_FROM_DIRECT, TIES
+  telling blocks       DIFFERS_FROM_DIRECT, TIES, INVERSE_TIES
 
 N is always the length of a block, C a cosine-DFT, S a sine-DFT.  Numbers in
 round brackets, as (12), are the equations of source document 001.
@@ -46,6 +47,21 @@ TIES = (
     ((11996, 0, -13726, 0), 3, -8090),
 )
 
+# Stored coefficients of which value n is rounded from an exact tie, each with
+# its n and the value that the rounding must give.  T takes part in the last
+# four: value 0 is rounded from 1315053.5 or -1315053.5, from 1249461.5 or
+# -1249461.5.
+INVERSE_TIES = (
+    ((1, 0), 1, 1),
+    ((-1, 0), 1, 0),
+    ((3, 0), 0, 2),
+    ((-3, 0), 0, -1),
+    ((-8, 3319397, 0, -1140922), 0, 1315054),
+    ((8, -3319397, 0, 1140922), 0, -1315053),
+    ((7, 1243048, 0, 3529008), 0, 1249462),
+    ((-7, -1243048, 0, -3529008), 0, -1249461),
+)
+
 
 # --- The cosine circle ---------------------------------------------------------
 
@@ -77,24 +93,42 @@ def make_first_quarter():
 FIRST_QUARTER = make_first_quarter()
 
 
-def K(place):
-    """2^80 times the cosine at a place of the circle; any whole number is a place."""
+def on_circle(quarter, place):
+    """The wave with this first quarter, round the circle; any whole number is a place."""
     place %= 4096
     if place > 2048:
         place = 4096 - place
     if place > 1024:
-        return -FIRST_QUARTER[2048 - place]
-    return FIRST_QUARTER[place]
+        return -quarter[2048 - place]
+    return quarter[place]
+
+
+def K(place):
+    """2^80 times the cosine at a place of the circle."""
+    return on_circle(FIRST_QUARTER, place)
 
 
 T = [(K(j) + 2 ** 49) // 2 ** 50 for j in range(1025)]
 
 
+WHOLE_T = [on_circle(T, place) for place in range(4096)]
+
+
+def T_on_circle(place):
+    """T round the circle by K's symmetries."""
+    return WHOLE_T[place % 4096]
+
+
 # --- The rounding --------------------------------------------------------------
 
+def nearest(v, m):
+    """v / m to the nearest whole number, a tie going to the larger."""
+    return (2 * v + m) // (2 * m)
+
+
 def round30(v):
-    """v / 2^30 to the nearest whole number, a tie going to the larger."""
-    return (v + 2 ** 29) // 2 ** 30
+    """v / 2^30, so rounded."""
+    return nearest(v, 2 ** 30)
 
 
 # --- Tallies -------------------------------------------------------------------
@@ -280,6 +314,21 @@ def pair(a, b):
     return numbers(real), numbers(imaginary), tally.products, tally.sums
 
 
+# --- The way back from stored DCT-II coefficients ------------------------------
+
+def inverse_sum(c, n):
+    """Value n times N * 2^30, before it is rounded."""
+    N = len(c)
+    step = (2 * n + 1) * (1024 // N)
+    return c[0] * 2 ** 30 + 2 * sum(c[k] * T_on_circle(step * k) for k in range(1, N))
+
+
+def inverse_dct(c):
+    """The values for n = 0 .. N-1"""
+    N = len(c)
+    return [nearest(inverse_sum(c, n), N * 2 ** 30) for n in range(N)]
+
+
 # --- The counts ----------------------------------------------------------------
 
 class SixCounts(NamedTuple):
@@ -365,8 +414,8 @@ class Answer(NamedTuple):
     """What a call gives back.
 
     refusal is 0 for an accepted call, else the number of the table "When a call
-    is turned down"; place is given with refusal 6 only.  results and counts are
-    those of an accepted call.
+    is turned down", or 10; place is given with refusals 6 and 10 only.  results
+    and counts are those of an accepted call; the way back has no counts.
     """
     refusal: int
     place: Optional[int] = None
@@ -374,16 +423,21 @@ class Answer(NamedTuple):
     counts: tuple = ()
 
 
-def first_out_of_range(recording, start, end):
-    """The first place from start, before end, whose sample is out of range."""
+def first_out_of_range(recording, start, end, largest=LARGEST_SAMPLE):
+    """The first place from start, before end, whose number is beyond the largest on either side."""
     for place in range(start, end):
-        if not -LARGEST_SAMPLE <= recording[place] <= LARGEST_SAMPLE:
+        if not -largest <= recording[place] <= largest:
             return place
     return None
 
 
 def scratch_words(N):
     return 8 * N + 64
+
+
+def largest_coefficient(N):
+    """The largest that a stored DCT-II coefficient may be, on either side."""
+    return N * LARGEST_SAMPLE + N
 
 
 def turned_down(recordings, start, N, allowance, result_words, result_lens,
@@ -442,6 +496,19 @@ def pair_call(a, b, start, length, allowance, real_len, imaginary_len, scratch_l
     end = start + length
     real, imaginary, products, sums = pair(a[start:end], b[start:end])
     return Answer(0, None, (real, imaginary), (products, sums))
+
+
+def inverse_call(coefficients, length, values_len):
+    if length not in LENGTHS:
+        return Answer(1)
+    if len(coefficients) < length:
+        return Answer(2)
+    if values_len < length:
+        return Answer(3)
+    place = first_out_of_range(coefficients, 0, length, largest_coefficient(length))
+    if place is not None:
+        return Answer(10, place)
+    return Answer(0, None, (inverse_dct(coefficients[:length]),))
 
 
 def count_query(length):

@@ -6,11 +6,13 @@ printed with its traceback. The last line is 'N passed, M failed'.
 
 import itertools
 import math
+import operator
 import random
 import struct
 import sys
 import time
 import traceback
+from fractions import Fraction
 
 import reference as ref
 
@@ -339,6 +341,125 @@ def check_shortest_calls():
     assert ref.spectrum_call([7], 0, 1, 0, 1, 0, 72) == ref.Answer(3)
     assert ref.cosine_call([7], 0, 1, 0, 1, 71) == ref.Answer(4)
     assert ref.cosine_call([], 0, 1, 0, 1, 72) == ref.Answer(2)
+
+
+# --- The way back from stored coefficients -------------------------------------
+
+def limit(N):
+    return N * 1_000_000 + N
+
+
+def check_wave_round_the_circle():
+    """T round the circle: T itself up to place 1,024, K's symmetries, near the cosine"""
+    assert [ref.T_on_circle(j) for j in range(1025)] == ref.T
+    for j in range(-5000, 9000):
+        entry = ref.T_on_circle(j)
+        assert entry == ref.T_on_circle(j + 4096) == ref.T_on_circle(-j) == -ref.T_on_circle(2048 - j)
+        assert abs(entry - 2 ** 30 * math.cos(2 * math.pi * j / 4096)) < 0.5001
+
+
+def check_nearest():
+    """v / m to the nearest: every v around zero for some m, ties to the larger"""
+    for m in (1, 2, 4, 7, 1024):
+        for v in range(-3 * m, 3 * m + 1):
+            assert ref.nearest(v, m) == math.floor(Fraction(v, m) + Fraction(1, 2))
+
+
+def check_inverse_by_hand():
+    """values worked by hand at N = 1, 2 and 4: the sums before rounding, and P1 to P6 sent back"""
+    one, eighth, quarter, three = 2 ** 30, 992_008_094, 759_250_125, 410_903_207  # T(0), T(256), T(512), T(768)
+    assert ref.inverse_sum([7], 0) == 7 * one
+    assert [ref.inverse_sum([4, 1], n) for n in range(2)] == [4 * one + 2 * quarter, 4 * one - 2 * quarter]
+    waves = ([one // 2] * 4, [eighth, three, -three, -eighth],
+             [quarter, -quarter, -quarter, quarter], [three, -eighth, eighth, -three])
+    for k, wave in enumerate(waves):
+        for size in (1, -1, limit(4), -limit(4)):
+            stored = [size if j == k else 0 for j in range(4)]
+            assert [ref.inverse_sum(stored, n) for n in range(4)] == [2 * size * entry for entry in wave]
+    for stored, block in (([7], [7]), ([10, -3, 0, 0], [1, 2, 3, 4]), ([4, 1], [3, 1]),
+                          ([1, -1], [0, 1]), ([0, -1], [-1, 1])):
+        assert ref.dct(block)[0] == stored
+        assert ref.inverse_dct(stored) == block
+
+
+def check_inverse_ties():
+    """INVERSE_TIES, and half a step up to N = 256: exact ties before rounding, to the larger"""
+    for stored, n, value in ref.INVERSE_TIES:
+        before = Fraction(ref.inverse_sum(stored, n), len(stored) * 2 ** 30)
+        assert before.denominator == 2 and value - before == Fraction(1, 2)
+        assert ref.inverse_dct(stored)[n] == value
+    for N in ref.LENGTHS[1:-2]:
+        for sign, value in ((1, 1), (-1, 0)):
+            assert ref.inverse_dct([sign * N // 2] + [0] * (N - 1)) == [value] * N
+
+
+def stored_blocks(rng, N):
+    """Accepted coefficients: random of two sizes, and the limit with the signs that make the last value largest."""
+    for size in (1000, limit(N)):
+        yield [rng.randint(-size, size) for _ in range(N)]
+    yield [limit(N) if ref.T_on_circle((2 * N - 1) * k * 1024 // N) > 0 else -limit(N) for k in range(N)]
+
+
+def check_inverse_sums():
+    """stored blocks at all lengths: each value is its fraction's nearest, and fits 32 bits"""
+    rng = random.Random(30)
+    for N in ref.LENGTHS:
+        for c in stored_blocks(rng, N):
+            values = ref.inverse_dct(c)
+            assert len(values) == N and fits_word(values)
+            for n in some_k(rng, N - 1, 4):
+                scaled = [Fraction(2 * ref.T_on_circle(k * (2 * n + 1) * (1024 // N)), 2 ** 30) for k in range(N)]
+                exact = (sum(map(operator.mul, c, scaled)) - c[0]) / N
+                assert Fraction(-1, 2) < values[n] - exact <= Fraction(1, 2)
+    assert ref.inverse_sum(c, N - 1) > 2 ** 70      # of the last block: beyond 64 bits
+
+
+def check_round_trip():
+    """a block sent through Cosine and back: accepted, each sample within N, at all lengths"""
+    rng = random.Random(31)
+    for N in ref.LENGTHS:
+        blocks = [random_block(rng, N) for _ in range(40 if N < 64 else 2)] + list(extreme_blocks(N))[:40 if N < 256 else 1]
+        blocks += [[MOST if n == place else 0 for n in range(N)] for place in range(min(N, 2))]
+        for x in blocks:
+            answer = ref.inverse_call(ref.dct(x)[0], N, N)
+            assert answer.refusal == 0
+            assert max(abs(value - sample) for value, sample in zip(answer.results[0], x)) <= N
+
+
+STORED = [5] * 8        # the coefficients of the call that is broken below
+
+
+def broken_inverse(numbers):
+    """The call with every one of the numbered conditions made to hold."""
+    stored = list(STORED)
+    if 10 in numbers:
+        stored[2] = limit(8) + 1
+    length = 6 if 1 in numbers else 8
+    return dict(coefficients=stored[:length - 1] if 2 in numbers else stored, length=length,
+                values_len=length - 1 if 3 in numbers else length)
+
+
+def check_inverse_refusals_together():
+    """every set of refusals 1, 2, 3, 10 of the way back: the earliest wins"""
+    assert ref.inverse_call(**broken_inverse(())).refusal == 0
+    for numbers in subsets((1, 2, 3, 10)):
+        place = 2 if min(numbers) == 10 else None
+        assert ref.inverse_call(**broken_inverse(numbers)) == ref.Answer(min(numbers), place), numbers
+
+
+def check_inverse_refusal_edges():
+    """refusals of the way back at their edges: lengths, sizes, the limit on both sides at every k"""
+    for length in (0, 3, 5, 6, 7, 9, 1023, 1025, 2048, 2 ** 32, 2 ** 64 - 1):
+        assert ref.inverse_call([0] * 2048, length, 2048) == ref.Answer(1)
+    for N in ref.LENGTHS:
+        zeros = [0] * N
+        assert ref.inverse_call(zeros[1:], N, N) == ref.Answer(2)
+        assert ref.inverse_call(zeros, N, N - 1) == ref.Answer(3)
+        for k in (0, N // 2, N - 1):
+            for size in (limit(N) + 1, -limit(N) - 1, 2 ** 31 - 1, -2 ** 31):
+                assert ref.inverse_call(zeros[:k] + [size] * (N - k), N, N) == ref.Answer(10, k)
+    for stored in ([limit(8)] * 8, [-limit(8)] * 8, STORED + [limit(8) + 1]):       # the ninth is not examined
+        assert ref.inverse_call(stored, 8, 9).refusal == 0
 
 
 # --- The pair file and the program ---------------------------------------------

@@ -6,13 +6,12 @@
 The second compares, line by line, and changes nothing; its last line is 'N passed, M failed'.
 """
 
-import contextlib
-import io
-import itertools
 import sys
 from typing import NamedTuple
 
+import answers
 import reference
+from answers import digest, shown
 
 LARGEST = 2**64 - 1
 
@@ -26,17 +25,6 @@ class Case(NamedTuple):
     first: int
     second: int
     scratch: int
-
-
-def digest(words):
-    value = 0
-    for word in words:
-        value = (value * 65599 + word + 2**31) % 4294967291
-    return value
-
-
-def shown(words):
-    return words if len(words) <= 20 else [digest(words)]
 
 
 def line(name, answer, results, scratch_len, length):
@@ -157,28 +145,5 @@ def run_all():
             run_query(length)
 
 
-def compare(path):
-    """Whether the file at path has just these lines."""
-    answers = io.StringIO()
-    with contextlib.redirect_stdout(answers):
-        run_all()
-    with open(path, encoding="ascii") as file:
-        pairs = list(itertools.zip_longest(answers.getvalue().splitlines(True), file.read().splitlines(True)))
-    wrong = [(number, *pair) for number, pair in enumerate(pairs, 1) if pair[0] != pair[1]]
-    for number, answer, stored in wrong:
-        print("%s, line %d: has %r\n    expected %r" % (path, number, stored, answer))
-    print("%d passed, %d failed" % (len(pairs) - len(wrong), len(wrong)))
-    return not wrong
-
-
-def main():
-    if sys.argv[1:2] == ["--compare"] and len(sys.argv) == 3:
-        return 0 if compare(sys.argv[2]) else 1
-    if len(sys.argv) > 1:
-        sys.exit("usage: python3 tests/spectra.py [--compare FILE]")
-    run_all()
-    return 0
-
-
 if __name__ == "__main__":
-    sys.exit(main())
+    sys.exit(answers.main(run_all))

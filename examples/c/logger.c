@@ -1,5 +1,6 @@
 /*
- * A logger's turn in C: reads a pair file, takes the spectrum of one block of a, and the pair spectrum of the first block of a and b; then two refusals.
+ * A logger's turn in C: reads a pair file, takes the spectrum of one block of a, stores its cosine block and brings the strain back, and takes the pair
+ * spectrum of the first block of a and b; then three refusals.
  * Run it at the top of the repository. examples/build compiles it and examples/logger.txt is what it prints; include/mealbis.h says what each call does.
  */
 #include <inttypes.h>
@@ -16,6 +17,18 @@ static void print_rows(const char *heading, size_t from, size_t to)
     printf("%s\n", heading);
     for (size_t k = from; k < to; k++)
         printf("%zu %" PRId32 " %" PRId32 "\n", k, first[k], second[k]);
+}
+
+/* the largest distance of the values from the samples of the block */
+static int32_t furthest(const int32_t *block, const int32_t *values, size_t length)
+{
+    int32_t most = 0;
+    for (size_t n = 0; n < length; n++) {
+        int32_t apart = values[n] < block[n] ? block[n] - values[n] : values[n] - block[n];
+        if (most < apart)
+            most = apart;
+    }
+    return most;
 }
 
 int main(void)
@@ -49,6 +62,18 @@ int main(void)
         print_rows("Spectrum of a, block 1: k cosine sine", 29, 32);
         printf("spent %" PRIu64 " products and %" PRIu64 " sums\n", products, sums);
     }
+
+    /* the same block stored as its cosine coefficients, and the strain back from these */
+    answer = mealbis_cosine(a, samples, length, length, dct_products, first, MEALBIS_WORDS(first), scratch, MEALBIS_WORDS(scratch), &products, &sums, &place);
+    if (answer == MEALBIS_ACCEPTED)
+        answer = mealbis_inverse_dct(first, length, length, second, MEALBIS_WORDS(second), &place);
+    if (answer == MEALBIS_ACCEPTED) {
+        print_rows("Cosine of a, block 1, stored and brought back: i coefficient value", 0, 3);
+        printf("largest distance from a sample: %" PRId32 ", the limit is %zu\n", furthest(a + length, second, length), length);
+    }
+    first[7] = -MEALBIS_LARGEST_COEFFICIENT(length) - 1;
+    answer = mealbis_inverse_dct(first, length, length, second, MEALBIS_WORDS(second), &place);
+    printf("a coefficient beyond its limit: refused %" PRIu32 ", at place %zu\n", answer, place);
 
     /* the first block of both */
     answer = mealbis_pair(a, samples, b, samples, 0, length, pair_products, first, MEALBIS_WORDS(first), second, MEALBIS_WORDS(second),

@@ -11,7 +11,7 @@
 #define LONGEST MEALBIS_LONGEST_BLOCK
 #define STACK_PROMISED 8192
 
-static int32_t x[LONGEST + 8], y[LONGEST + 8], one[LONGEST + 8], two[LONGEST + 8], kept[LONGEST + 8];
+static int32_t x[LONGEST + 8], y[LONGEST + 8], one[LONGEST + 8], two[LONGEST + 8], kept[LONGEST + 8], stored[LONGEST + 8];
 static int64_t scratch[MEALBIS_SCRATCH_WORDS(LONGEST) + 8];
 static uint8_t file[MEALBIS_FILE_BYTES(8)];
 static uint64_t products, sums, six[6];
@@ -62,6 +62,7 @@ static void refused(uint32_t number, size_t at, const char *what)
 #define SPECTRUM(...) (mark(), answer = mealbis_spectrum(__VA_ARGS__, &products, &sums, &place))
 #define COSINE(...) (mark(), answer = mealbis_cosine(__VA_ARGS__, &products, &sums, &place))
 #define PAIR(...) (mark(), answer = mealbis_pair(__VA_ARGS__, &products, &sums, &place))
+#define INVERSE(...) (mark(), answer = mealbis_inverse_dct(__VA_ARGS__, &place))
 #define READ(...) (mark(), answer = mealbis_read(__VA_ARGS__, &samples, &length, &place))
 
 static void calls(void)
@@ -154,6 +155,67 @@ static void meaning(void)
     }
 }
 
+static void inverse_refused(uint32_t number, size_t at, const char *what)
+{
+    check(answer == number, what, answer);
+    check(place == at, what, place);
+    check(!memcmp(one, kept, sizeof one), what, number);
+}
+
+/* A stored coefficient at its limit, on either side, is accepted, and one beyond it is refused with its place. */
+static void limits(size_t n, size_t k)
+{
+    int32_t limit = MEALBIS_LARGEST_COEFFICIENT(n), side;
+    for (side = -1; side <= 1; side += 2) {
+        memset(stored, 0, sizeof stored);
+        stored[k] = side * limit;
+        INVERSE(stored, n, n, one, n), check(answer == 0 && place == 0, "inverse DCT, a coefficient at its limit", k);
+        stored[k] += side;
+        stored[n - 1] = stored[k];
+        INVERSE(stored, n, n, one, n), inverse_refused(10, k, "inverse DCT, a coefficient beyond its limit");
+    }
+}
+
+/* A block through Cosine and back: accepted, each value within n of its sample, the words beyond as they were. */
+static void round_trip(size_t n)
+{
+    size_t i;
+    int near = 1;
+    COSINE(x, LONGEST, 0, n, UINT64_MAX, stored, LONGEST, scratch, MEALBIS_WORDS(scratch));
+    stored[n] = INT32_MIN; /* not examined */
+    INVERSE(stored, n + 1, n, one, n + 1);
+    for (i = 0; i < n; i++)
+        near = near && (int64_t)one[i] - x[i] <= (int64_t)n && (int64_t)x[i] - one[i] <= (int64_t)n;
+    check(answer == 0 && place == 0 && near, "a block through Cosine and back", n);
+    check(!memcmp(one + n, kept + n, sizeof one - n * sizeof one[0]), "inverse DCT writes n words", n);
+}
+
+static void inverses(void)
+{
+    static const int32_t four[4] = {10, -3, 0, 0}, tie[2] = {-3, 0};
+    size_t n;
+    for (n = 1; n <= LONGEST; n *= 2) {
+        round_trip(n);
+        limits(n, 0);
+        limits(n, n / 2);
+        limits(n, n - 1);
+    }
+    INVERSE(four, 4, 4, one, 4);
+    check(answer == 0 && one[0] == 1 && one[1] == 2 && one[2] == 3 && one[3] == 4, "1, 2, 3, 4 back from 10, -3, 0, 0", 4);
+    INVERSE(tie, 2, 2, one, 2);
+    check(answer == 0 && one[0] == -1 && one[1] == -1, "a tie goes to the larger", 2);
+    for (n = 0; n < LONGEST; n++)
+        stored[n] = MEALBIS_LARGEST_COEFFICIENT(LONGEST);
+    INVERSE(stored, LONGEST, LONGEST, one, LONGEST);
+    check(answer == 0 && one[0] == 1303798342 && one[LONGEST - 1] == -767, "sums beyond 64 bits", LONGEST);
+    stored[0] = INT32_MAX;
+    INVERSE(stored, 7, 6, one, 5), inverse_refused(1, 0, "inverse DCT, length 6");
+    INVERSE(stored, 8, 0, one, 8), inverse_refused(1, 0, "inverse DCT, length 0");
+    INVERSE(stored, 8, SIZE_MAX, one, 8), inverse_refused(1, 0, "inverse DCT, length SIZE_MAX");
+    INVERSE(stored, 7, 8, one, 7), inverse_refused(2, 0, "inverse DCT, too few coefficients");
+    INVERSE(stored, 8, 8, one, 7), inverse_refused(3, 0, "inverse DCT, values too short");
+}
+
 static void file_refused(uint32_t number, size_t at, const char *what)
 {
     check(answer == number && samples == 0 && length == 0, what, answer);
@@ -203,6 +265,10 @@ static void empty_buffers(void)
     PAIR(x, 16, y, 16, 0, 1, 0, one, 8, NULL, 0, scratch, 128), refused(3, 0, "Pair, no im");
     PAIR(x, 16, y, 16, 0, 1, 0, one, 8, two, 8, NULL, 0), refused(4, 0, "Pair, no scratch");
     PAIR(NULL, 0, NULL, 0, 0, 1, 0, NULL, 0, NULL, 0, NULL, 0), refused(2, 0, "Pair, nothing");
+    INVERSE(NULL, 0, 8, one, 8), inverse_refused(2, 0, "inverse DCT, no coefficients");
+    INVERSE(NULL, 0, 7, one, 8), inverse_refused(1, 0, "inverse DCT, no coefficients, length 7");
+    INVERSE(stored, 8, 8, NULL, 0), inverse_refused(3, 0, "inverse DCT, no values");
+    INVERSE(NULL, 0, 1, NULL, 0), inverse_refused(2, 0, "inverse DCT, nothing");
     READ(NULL, 0, one, 8, two, 8), file_refused(7, 0, "no file");
     READ(file, sizeof file, NULL, 0, two, 8), file_refused(3, 0, "no recording a");
     READ(file, sizeof file, one, 8, NULL, 0), file_refused(3, 0, "no recording b");
@@ -222,6 +288,7 @@ static void on_stack(void)
     case 3: mealbis_pair(x, LONGEST, y, LONGEST, 0, LONGEST, UINT64_MAX, one, LONGEST, two, LONGEST, scratch, MEALBIS_WORDS(scratch), &products, &sums, &place); break;
     case 4: mealbis_counts(LONGEST, six, six + 1, six + 2, six + 3, six + 4, six + 5); break;
     case 5: mealbis_read(file, sizeof file, one, 8, two, 8, &samples, &length, &place); break;
+    case 6: mealbis_inverse_dct(x, LONGEST, LONGEST, one, LONGEST, &place); break;
     }
 }
 
@@ -243,7 +310,7 @@ static size_t stack_used(int call)
 
 int main(int argc, char **argv)
 {
-    static const char *const names[] = {"no call", "mealbis_spectrum", "mealbis_cosine", "mealbis_pair", "mealbis_counts", "mealbis_read"};
+    static const char *const names[] = {"no call", "mealbis_spectrum", "mealbis_cosine", "mealbis_pair", "mealbis_counts", "mealbis_read", "mealbis_inverse_dct"};
     size_t i, own;
     for (i = 0; i < MEALBIS_WORDS(x); i++) {
         x[i] = (int32_t)(i * 7919 % 2000001) - 1000000;
@@ -253,10 +320,11 @@ int main(int argc, char **argv)
     calls();
     counts();
     meaning();
+    inverses();
     files();
     empty_buffers();
     own = stack_used(0); /* what on_stack takes itself */
-    for (i = 1; i <= 5; i++) {
+    for (i = 1; i < MEALBIS_WORDS(names); i++) {
         size_t used = stack_used((int)i) - own;
         check(used < STACK_PROMISED, names[i], used);
         if (argc == 2 && !strcmp(argv[1], "--stack"))

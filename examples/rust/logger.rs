@@ -1,4 +1,5 @@
-// A logger's turn in Rust: reads a pair file, takes the spectrum of one block of a, and the pair spectrum of the first block of a and b; then two refusals.
+// A logger's turn in Rust: reads a pair file, takes the spectrum of one block of a, stores its cosine block and brings the strain back, and takes the pair
+// spectrum of the first block of a and b; then three refusals.
 // Run it at the top of the repository. examples/build compiles it and examples/logger.txt is what it prints; include/mealbis.h says what each call does.
 use std::process::exit;
 
@@ -8,6 +9,14 @@ extern "C" {
         recording: *const i32, recording_words: usize, start: usize, length: usize, allowance: u64,
         cosine: *mut i32, cosine_words: usize, sine: *mut i32, sine_words: usize, scratch: *mut i64, scratch_words: usize,
         products: &mut u64, sums: &mut u64, place: &mut usize,
+    ) -> u32;
+    fn mealbis_cosine(
+        recording: *const i32, recording_words: usize, start: usize, length: usize, allowance: u64,
+        coefficients: *mut i32, coefficients_words: usize, scratch: *mut i64, scratch_words: usize,
+        products: &mut u64, sums: &mut u64, place: &mut usize,
+    ) -> u32;
+    fn mealbis_inverse_dct(
+        coefficients: *const i32, coefficients_words: usize, length: usize, values: *mut i32, values_words: usize, place: &mut usize,
     ) -> u32;
     fn mealbis_pair(
         a: *const i32, a_words: usize, b: *const i32, b_words: usize, start: usize, length: usize, allowance: u64,
@@ -26,7 +35,7 @@ extern "C" {
 
 // ---- safe calls: a `&mut` slice overlaps nothing, so whatever is passed keeps the header's section "Buffers"
 
-// A refusal: its number, and the place of refusal 6.
+// A refusal: its number, and the place of refusals 6 and 10.
 struct Refused(u32, usize);
 
 // What a call spent.
@@ -44,6 +53,27 @@ fn spectrum(recording: &[i32], start: usize, length: usize, allowance: u64, cosi
         )
     } {
         0 => Ok(Spent { products, sums }),
+        number => Err(Refused(number, place)),
+    }
+}
+
+fn cosine(recording: &[i32], start: usize, length: usize, allowance: u64, coefficients: &mut [i32], scratch: &mut [i64]) -> Result<Spent, Refused> {
+    let (mut products, mut sums, mut place) = (0, 0, 0);
+    match unsafe {
+        mealbis_cosine(
+            recording.as_ptr(), recording.len(), start, length, allowance, coefficients.as_mut_ptr(), coefficients.len(),
+            scratch.as_mut_ptr(), scratch.len(), &mut products, &mut sums, &mut place,
+        )
+    } {
+        0 => Ok(Spent { products, sums }),
+        number => Err(Refused(number, place)),
+    }
+}
+
+fn inverse_dct(coefficients: &[i32], length: usize, values: &mut [i32]) -> Result<(), Refused> {
+    let mut place = 0;
+    match unsafe { mealbis_inverse_dct(coefficients.as_ptr(), coefficients.len(), length, values.as_mut_ptr(), values.len(), &mut place) } {
+        0 => Ok(()),
         number => Err(Refused(number, place)),
     }
 }
@@ -115,6 +145,17 @@ fn main() {
     if let Ok(spent) = spectrum(a, length, length, spectrum_products, &mut first, &mut second, &mut scratch) {
         print_rows("Spectrum of a, block 1: k cosine sine", &first, &second, 29..32);
         println!("spent {} products and {} sums", spent.products, spent.sums);
+    }
+
+    // the same block stored as its cosine coefficients, and the strain back from these
+    if cosine(a, length, length, dct_products, &mut first, &mut scratch).and_then(|_| inverse_dct(&first, length, &mut second)).is_ok() {
+        let furthest = a[length..2 * length].iter().zip(&second).map(|(x, value)| x.abs_diff(*value)).max().unwrap();
+        print_rows("Cosine of a, block 1, stored and brought back: i coefficient value", &first, &second, 0..3);
+        println!("largest distance from a sample: {furthest}, the limit is {length}");
+    }
+    first[7] = -1_000_001 * length as i32 - 1;
+    if let Err(Refused(number, place)) = inverse_dct(&first, length, &mut second) {
+        println!("a coefficient beyond its limit: refused {number}, at place {place}");
     }
 
     // the first block of both

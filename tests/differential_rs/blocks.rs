@@ -9,14 +9,25 @@ pub const PATTERNS: usize = 23;
 
 // One item: a block of a length and a pattern, by all three calls. Pair takes it with another block, or with itself.
 pub fn item(run: &mut Run, index: u64, random: &mut Random) {
-    let n = LENGTHS[index as usize % LENGTHS.len()];
-    let pattern = index as usize / LENGTHS.len() % PATTERNS;
-    let k = random.below(n);
-    let x = block(pattern, n, k, &run.rules.circle, random);
+    let (x, k) = of_index(index, &run.rules.circle, random);
     for kind in KINDS {
         let call = accepted(kind, &x, &run.rules, random);
         run.call(&call, k, random);
     }
+}
+
+// An accepted call on such a block.
+pub fn of_pattern(kind: Kind, index: u64, rules: &Rules, random: &mut Random) -> Call {
+    let (x, _) = of_index(index, &rules.circle, random);
+    accepted(kind, &x, rules, random)
+}
+
+// The block of an item, and the k that it excites where its pattern is a wave.
+fn of_index(index: u64, circle: &Circle, random: &mut Random) -> (Vec<i32>, usize) {
+    let n = LENGTHS[index as usize % LENGTHS.len()];
+    let pattern = index as usize / LENGTHS.len() % PATTERNS;
+    let k = random.below(n);
+    (block(pattern, n, k, circle, random), k)
 }
 
 // One item: a block changed sample by sample; a change that takes coefficient k further from its exact sum is kept.
@@ -24,11 +35,16 @@ pub fn climb_item(run: &mut Run, index: u64, random: &mut Random) {
     let n = LENGTHS[index as usize % LENGTHS.len()];
     let kind = KINDS[index as usize / LENGTHS.len() % KINDS.len()];
     let k = random.below(kind.listed(n));
-    let mut call = any_accepted(kind, n, &run.rules, random);
-    let mut furthest = run.call(&call, k, random);
+    let call = any_accepted(kind, n, &run.rules, random);
+    climb(call, random, |call, random| run.call(call, k, random));
+}
+
+// 30 changes, of which those are kept that take a call further.
+pub fn climb(mut call: Call, random: &mut Random, mut distance: impl FnMut(&Call, &mut Random) -> u128) {
+    let mut furthest = distance(&call, random);
     for _ in 0..30 {
         let changed = with_changes(&call, random);
-        let apart = run.call(&changed, k, random);
+        let apart = distance(&changed, random);
         if apart > furthest {
             (call, furthest) = (changed, apart);
         }
@@ -185,7 +201,7 @@ fn starts(random: &mut Random) -> usize {
     }
 }
 
-fn spare(random: &mut Random) -> usize {
+pub fn spare(random: &mut Random) -> usize {
     random.of(&[0, 0, 1, 2, 7, 40])
 }
 

@@ -1,4 +1,5 @@
 // The cosine circle K and the stored quarter wave T, by document 01's rules.
+use std::ops::Neg;
 
 pub const PLACES: usize = 4096;
 pub const QUARTER: usize = 1024;
@@ -12,9 +13,8 @@ pub struct Circle {
 impl Circle {
     pub fn new() -> Circle {
         let quarter = quarter_of_k();
-        let k = (0..PLACES).map(|j| around(&quarter, j)).collect();
-        let t = quarter.iter().map(|&c| ((c + (1 << 49)) >> 50) as i64).collect();
-        Circle { k, t }
+        let stored: Vec<i64> = quarter.iter().map(|&c| ((c + (1 << 49)) >> 50) as i64).collect();
+        Circle { k: whole(&quarter), t: whole(&stored) }
     }
 
     // Places are taken modulo 4,096.
@@ -22,13 +22,18 @@ impl Circle {
         self.k[place % PLACES]
     }
 
-    pub fn t(&self, j: usize) -> i64 {
-        self.t[j]
+    // The stored quarter wave, places 0 .. 1,024; beyond them round the circle as K.
+    pub fn t(&self, place: usize) -> i64 {
+        self.t[place % PLACES]
     }
 }
 
+fn whole<W: Copy + Neg<Output = W>>(quarter: &[W]) -> Vec<W> {
+    (0..PLACES).map(|j| around(quarter, j)).collect()
+}
+
 // K(2048 − j) = −K(j) and K(4096 − j) = K(j).
-fn around(quarter: &[i128], j: usize) -> i128 {
+fn around<W: Copy + Neg<Output = W>>(quarter: &[W], j: usize) -> W {
     match j {
         0..=1024 => quarter[j],
         1025..=2048 => -quarter[2048 - j],

@@ -67,11 +67,11 @@ fn spoil_start(call: &mut Call, keep_samples: bool, random: &mut Random) {
     }
 }
 
-fn shorter(words: usize, random: &mut Random) -> usize {
+pub fn shorter(words: usize, random: &mut Random) -> usize {
     random.of(&[words - 1, words - 1, words / 2, 0])
 }
 
-fn bad_length(n: usize, random: &mut Random) -> usize {
+pub fn bad_length(n: usize, random: &mut Random) -> usize {
     let wide = [n + (1 << 32), n << 32, 1 << 61, (1 << 61) - 8, 1 << 63, usize::MAX, usize::MAX - n + 1];
     let near = [0, 3, 3 * n, 2 * n + 1, 1023, 1025, 2048, 4096];
     if random.one_in(2) {
@@ -101,7 +101,7 @@ pub fn extreme_item(run: &mut Run, index: u64, random: &mut Random) {
     run.call(&call, 0, random);
 }
 
-fn extreme_length(random: &mut Random) -> usize {
+pub fn extreme_length(random: &mut Random) -> usize {
     let power = 1 << random.below(64);
     let small = random.below(1100);
     let usual = random.of(&LENGTHS);

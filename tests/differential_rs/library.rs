@@ -35,6 +35,15 @@ extern "C" {
         place: *mut usize,
     ) -> u32;
 
+    pub fn mealbis_inverse_dct(
+        coefficients: *const i32,
+        coefficients_len: usize,
+        length: usize,
+        values: *mut i32,
+        values_len: usize,
+        place: *mut usize,
+    ) -> u32;
+
     pub fn mealbis_pair(
         a: *const i32,
         a_len: usize,

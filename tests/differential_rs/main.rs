@@ -2,10 +2,11 @@
 //
 //     tests/differential [--seed S] [--seconds T | --rounds R] [--table FILE] [--item CLASS INDEX]
 //
-// Document 01 is implemented here once more, and its exact sums are evaluated term by term. The answer of every call, its counts, its results and the words that it must not
-// touch are compared with them.
+// Document 01 and request (i) of document 02 are implemented here once more, and the exact sums are evaluated term by term. The answer of every call, its counts, its results
+// and the words that it must not touch are compared with them.
 // Each class of calls is gone through once, then in rounds until the time is up or R rounds are made. --table writes docs/DISTANCES.md, --item repeats one item.
 // The last line is 'N passed, 0 failed', N the calls compared.
+mod back;
 mod blocks;
 mod calls;
 mod circle;
@@ -17,11 +18,12 @@ mod library;
 mod random;
 mod record;
 mod run;
+mod stored;
 mod ties;
 mod transforms;
 
 use random::Random;
-use record::{with_commas, FUNCTIONS, READ};
+use record::{with_commas, FUNCTIONS, INVERSE, READ};
 use run::Run;
 use std::time::{Duration, Instant};
 
@@ -46,6 +48,11 @@ fn classes() -> Vec<Class> {
         class("flawed-files", files::flawed_item, files::SETS, 32),
         class("climb", blocks::climb_item, 33, 22),
         class("blocks", blocks::item, (blocks::PATTERNS * 11) as u64, (blocks::PATTERNS * 11) as u64),
+        class("stored", back::stored_item, (stored::worked().len() + back::SHAPES * 11) as u64, 11),
+        class("flawed-stored", back::flawed_item, back::SETS, 16),
+        class("extreme-stored", back::extreme_item, 1000, 20),
+        class("trips", back::trip_item, (blocks::PATTERNS * 11) as u64, 11),
+        class("trip-climb", back::trip_climb_item, 11, 1),
     ]
 }
 
@@ -64,6 +71,7 @@ fn main() {
     println!("differential: seed {}", words.seed);
     let mut run = Run::new();
     known::self_check(&run.rules);
+    stored::self_check(&run.rules.circle);
     let rounds = match &words.item {
         Some((name, index)) => one_item(&mut run, words.seed, name, *index),
         None => whole_run(&mut run, &words),
@@ -84,7 +92,7 @@ fn whole_run(run: &mut Run, words: &Words) -> u64 {
         advance(run, words.seed, &classes, &mut next, |class| class.round);
         rounds += 1;
     }
-    require_pairs(run);
+    require_sets(run);
     rounds
 }
 
@@ -120,13 +128,18 @@ fn one_item(run: &mut Run, seed: u64, name: &str, index: u64) -> u64 {
     0
 }
 
-// Each pair of refusals that can hold together must have been met by some call.
-fn require_pairs(run: &mut Run) {
-    for function in [0, 1, 2, READ] {
-        let (order, impossible) = if function == READ { (files::ORDER, &files::IMPOSSIBLE[..]) } else { ([1, 2, 3, 4, 5, 6], &[][..]) };
-        for pair in pairs(&order).filter(|pair| !impossible.contains(pair)) {
-            if !run.record.met(function, pair) {
-                let failure = format!("no call of {} met the refusals {} and {} together", FUNCTIONS[function], pair.0, pair.1);
+// Two or three refusals that can hold together must have done so on some call.
+fn require_sets(run: &mut Run) {
+    for function in [0, 1, 2, READ, INVERSE] {
+        let (order, impossible) = match function {
+            READ => (&files::ORDER[..], &files::IMPOSSIBLE[..]),
+            INVERSE => (&stored::ORDER[..], &[][..]),
+            _ => (&[1, 2, 3, 4, 5, 6][..], &[][..]),
+        };
+        for set in twos_and_threes(order) {
+            let possible = !impossible.iter().any(|(first, second)| set.contains(first) && set.contains(second));
+            if possible && !run.record.met(function, &set) {
+                let failure = format!("no call of {} met the refusals {set:?} together", FUNCTIONS[function]);
                 println!("DIFFERENT {failure}");
                 run.failures.push(failure);
             }
@@ -134,8 +147,9 @@ fn require_pairs(run: &mut Run) {
     }
 }
 
-fn pairs(order: &[u32; 6]) -> impl Iterator<Item = (u32, u32)> + '_ {
-    (0..6).flat_map(|i| (i + 1..6).map(move |j| (i, j))).map(|(i, j)| (order[i], order[j]))
+fn twos_and_threes(order: &[u32]) -> Vec<Vec<u32>> {
+    let sets = (0..1u32 << order.len()).filter(|set| (2..=3).contains(&set.count_ones()));
+    sets.map(|set| (0..order.len()).filter(|&i| set >> i & 1 == 1).map(|i| order[i]).collect()).collect()
 }
 
 // ---- the end

@@ -1,11 +1,13 @@
 // What a run has seen: calls, answers, refusals that held together, and the largest distances.
 use crate::calls::{Kind, LENGTHS};
 use crate::exact::{Part, ONE, PARTS};
+use std::collections::BTreeSet;
 
-// The five functions of the library, in the order of FUNCTIONS.
-pub const FUNCTIONS: [&str; 5] = ["Spectrum", "Cosine", "Pair", "counts", "read"];
+// The functions of the library, in the order of FUNCTIONS.
+pub const FUNCTIONS: [&str; 6] = ["Spectrum", "Cosine", "Pair", "counts", "read", "inverse DCT"];
 pub const COUNTS: usize = 3;
 pub const READ: usize = 4;
+pub const INVERSE: usize = 5;
 
 pub fn function_of(kind: Kind) -> usize {
     match kind {
@@ -18,23 +20,30 @@ pub fn function_of(kind: Kind) -> usize {
 #[derive(Default)]
 pub struct Record {
     // calls by function and by the number answered
-    answers: [[u64; 10]; 5],
-    // calls on which the conditions of two refusals held, by function
-    together: [[[u64; 10]; 10]; 5],
+    answers: [[u64; 11]; 6],
+    // the sets of refusals whose conditions held on a call, by function
+    together: [BTreeSet<Vec<u32>>; 6],
     // accepted blocks, and coefficients compared with their exact sums, by level
     pub blocks: [u64; 11],
     pub coefficients: [u64; 11],
     largest: [[u128; 5]; 11],
+    // round trips by level: how many, and the largest distance after the last rounding and, times N · 2^30, before it
+    trips: [(u64, u32, u128); 11],
 }
 
 impl Record {
     pub fn answer(&mut self, function: usize, number: u32, holding: &[u32]) {
         self.answers[function][number as usize] += 1;
-        for &first in holding {
-            for &second in holding {
-                self.together[function][first as usize][second as usize] += 1;
-            }
+        if !self.together[function].contains(holding) {
+            self.together[function].insert(holding.to_vec());
         }
+    }
+
+    pub fn trip(&mut self, n: usize, after: u32, before: u128) {
+        let (trips, furthest, exactly) = &mut self.trips[n.trailing_zeros() as usize];
+        *trips += 1;
+        *furthest = after.max(*furthest);
+        *exactly = before.max(*exactly);
     }
 
     pub fn distance(&mut self, level: usize, part: Part, distance: u128) {
@@ -43,9 +52,9 @@ impl Record {
         *largest = distance.max(*largest);
     }
 
-    // whether some call has met both refusals together
-    pub fn met(&self, function: usize, (first, second): (u32, u32)) -> bool {
-        self.together[function][first as usize][second as usize] > 0
+    // whether some call has met all of these refusals together
+    pub fn met(&self, function: usize, refusals: &[u32]) -> bool {
+        self.together[function].iter().any(|holding| refusals.iter().all(|number| holding.contains(number)))
     }
 
     pub fn calls(&self) -> u64 {
@@ -63,9 +72,10 @@ impl Record {
         let by_length = |of: &[u64; 11]| (0..11).map(|level| format!("{}: {}", LENGTHS[level], of[level])).collect::<Vec<_>>().join(", ");
         lines.push(format!("blocks by length       {}", by_length(&self.blocks)));
         lines.push(format!("held to exact sums     {}", by_length(&self.coefficients)));
+        lines.push(format!("sent back              {}", by_length(&self.trips.map(|trips| trips.0))));
         for (function, name) in FUNCTIONS.iter().enumerate() {
             let of = &self.answers[function];
-            let numbers: Vec<String> = (0..10).filter(|&number| of[number] > 0).map(|number| format!("{}: {}", number, of[number])).collect();
+            let numbers: Vec<String> = (0..of.len()).filter(|&number| of[number] > 0).map(|number| format!("{}: {}", number, of[number])).collect();
             lines.push(format!("answers of {:<11} {}", name, numbers.join(", ")));
         }
         lines.join("\n")
@@ -77,6 +87,7 @@ impl Record {
         let rows: Vec<String> = (0..11).map(|level| self.row(level)).collect();
         DOCUMENT
             .replace("COMMAND", command)
+            .replace("TRIPS", &with_commas(self.trips.iter().map(|trips| trips.0).sum()))
             .replace("BLOCKS", &with_commas(self.all_blocks()))
             .replace("COEFFICIENTS", &with_commas(coefficients))
             .replace("ROWS", &rows.join("\n"))
@@ -84,21 +95,29 @@ impl Record {
 
     fn row(&self, level: usize) -> String {
         let n = LENGTHS[level];
-        let [c, s, dct, real, imaginary] = PARTS.map(|part| decimal(self.largest[level][part as usize]));
+        let [c, s, dct, real, imaginary] = PARTS.map(|part| decimal(self.largest[level][part as usize], ONE as u128));
         let [eighth, _, dct_limit, quarter, _] = PARTS.map(|part| limit(part.limit(n)));
         let blocks = with_commas(self.blocks[level]);
-        format!("| {n} | {blocks} | {c} | {s} | {eighth} | {dct} | {dct_limit} | {real} | {imaginary} | {quarter} |")
+        let (_, trip, before) = self.trips[level];
+        let before = decimal(before, (n as u128) << 30);
+        format!("| {n} | {blocks} | {c} | {s} | {eighth} | {dct} | {dct_limit} | {real} | {imaginary} | {quarter} | {trip} | {before} | {n} |")
     }
 }
 
 const DOCUMENT: &str = "\
 # Distances seen
 
-The limits of document 01 are proved for every accepted block. This table shows how far results were from their exact sums on BLOCKS blocks that the differential tests made: constant,
-alternating and random blocks, the ends of the range, steps, impulses, waves that excite one k, ties, and blocks changed sample by sample to take one coefficient further away. The exact sums
-of COEFFICIENTS coefficients were evaluated term by term: every k up to N = 64 and in one call of 32 on longer blocks, else some twelve k. A number is the largest distance seen, over 2^80 and to the
-nearest thousandth; beside it stands the proved limit. The proofs add up the largest error of every step; in a block these mostly cancel, so the distances seen grow more slowly than the limits.
-Up to N = 4 the cosine-DFT, the sine-DFT and Pair are made without a product and are exact.
+The limits of document 01 are proved for every accepted block. This table shows how far results were from their exact sums on BLOCKS
+blocks that the differential tests made: constant, alternating and random blocks, the ends of the range, steps, impulses, waves that
+excite one k, ties, and blocks changed sample by sample to take one coefficient further away. The exact sums of COEFFICIENTS coefficients
+were evaluated term by term: every k up to N = 64 and in one call of 32 on longer blocks, else some twelve k. A number is the largest
+distance seen, over 2^80 and to the nearest thousandth; beside it stands the proved limit. The proofs add up the largest error of every
+step; in a block these mostly cancel, so the distances seen grow more slowly than the limits. Up to N = 4 the cosine-DFT, the sine-DFT and
+Pair are made without a product and are exact.
+
+TRIPS of these blocks were sent through Cosine and back through the inverse DCT, some of them changed sample by sample to come back
+further away. The round trip is the largest distance of a value from its sample, a whole number; beside it stand the same distance before
+the value's own rounding, to the nearest thousandth, and the proved limit N.
 
 Made by
 
@@ -106,14 +125,13 @@ Made by
 
 which gives the same table again.
 
-| N | blocks | cosine-DFT | sine-DFT | limit N/8 | DCT | limit (N + 1)/4 | Pair, real | Pair, imaginary | limit N/4 |
-|--:|--:|--:|--:|--:|--:|--:|--:|--:|--:|
+| N | blocks | cosine-DFT | sine-DFT | limit N/8 | DCT | limit (N + 1)/4 | Pair, real | Pair, imaginary | limit N/4 | round trip | before its rounding | limit N |
+|--:|--:|--:|--:|--:|--:|--:|--:|--:|--:|--:|--:|--:|
 ROWS
 ";
 
-// a distance over 2^80, to the nearest thousandth
-fn decimal(distance: u128) -> String {
-    let one = ONE as u128;
+// a distance over that of one, to the nearest thousandth
+fn decimal(distance: u128, one: u128) -> String {
     let thousandths = (distance * 1000 + one / 2) / one;
     format!("{}.{:03}", thousandths / 1000, thousandths % 1000)
 }

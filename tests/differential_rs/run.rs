@@ -1,15 +1,16 @@
-// Makes a call on the library and holds everything that it leaves behind to document 01.
+// Makes a call on the library and holds everything that it leaves behind to documents 01 and 02.
 use crate::calls::{Call, Kind, Rules};
 use crate::exact::{distance, within, Part};
 use crate::files::File;
 use crate::library::*;
 use crate::random::Random;
-use crate::record::{function_of, Record, COUNTS, READ};
+use crate::record::{function_of, Record, COUNTS, INVERSE, READ};
+use crate::stored::{rounded, Stored, StoredAnswer};
 
 pub struct Run {
     pub rules: Rules,
     pub record: Record,
-    // what was not as document 01 says, in words
+    // what was not as the documents say, in words
     pub failures: Vec<String>,
 }
 
@@ -22,6 +23,15 @@ impl Run {
 
     // `wanted` is a coefficient to be held to its exact sum beside the usual ones; the larger of its distances is returned.
     pub fn call(&mut self, call: &Call, wanted: usize, random: &mut Random) -> u128 {
+        self.made(call, wanted, random).0
+    }
+
+    // the coefficients that the library gives for an accepted call of Cosine
+    pub fn coefficients(&mut self, call: &Call, random: &mut Random) -> Vec<i32> {
+        self.made(call, 0, random).1.result_words()[0][..call.length].to_vec()
+    }
+
+    fn made(&mut self, call: &Call, wanted: usize, random: &mut Random) -> (u128, LentCall) {
         let answer = self.rules.answer(call);
         let mut lent = LentCall::new(call, random);
         if let Some(outcome) = &answer.outcome {
@@ -40,7 +50,7 @@ impl Run {
         }
         self.note(call, answer.number);
         self.fail(wrong, || described(call));
-        apart
+        (apart, lent)
     }
 
     fn note(&mut self, call: &Call, number: u32) {
@@ -66,6 +76,45 @@ impl Run {
             }
         }
         (of_wanted, wrong)
+    }
+
+    // ---- the inverse DCT
+
+    // Where a block is given, the coefficients are those of its DCT, and each value must be within N of its sample. The largest distance
+    // before the last rounding is returned, times N · 2^30.
+    pub fn back(&mut self, call: &Stored, block: Option<&[i32]>, random: &mut Random) -> u128 {
+        let answer = call.answer(&self.rules.circle);
+        let mut coefficients = Lent::holding("the coefficients", &call.coefficients, random);
+        let mut values = Lent::filled("the values", call.values, random);
+        let mut place = Lent::<usize>::filled("the place", 1, random);
+        values.expect(&answer.sums.iter().map(|&sum| rounded(sum, call.length)).collect::<Vec<_>>());
+        place.expect(&[answer.place]);
+        let number = unsafe { mealbis_inverse_dct(coefficients.pointer(), coefficients.len(), call.length, values.pointer(), values.len(), place.pointer()) };
+
+        let mut wrong = differences(&[coefficients.difference(), values.difference(), place.difference()]);
+        wrong.extend(wrong_number(number, answer.number));
+        let mut apart = 0;
+        if let Some(x) = block {
+            apart = self.trip(x, &answer, values.words(), &mut wrong);
+        }
+        self.record.answer(INVERSE, answer.number, &call.holding());
+        self.fail(wrong, || call.to_string());
+        apart
+    }
+
+    fn trip(&mut self, x: &[i32], answer: &StoredAnswer, values: &[i32], wrong: &mut Vec<String>) -> u128 {
+        if answer.number != 0 {
+            wrong.push(format!("the coefficients of a block are refused by {}", answer.number));
+            return 0;
+        }
+        let one = (x.len() as i128) << 30;
+        let before = (0..x.len()).map(|n| (answer.sums[n] - x[n] as i128 * one).unsigned_abs()).max().unwrap();
+        let after = (0..x.len()).map(|n| values[n].abs_diff(x[n])).max().unwrap();
+        if after as usize > x.len() {
+            wrong.push(format!("a value is {after} from its sample"));
+        }
+        self.record.trip(x.len(), after, before);
+        before
     }
 
     // ---- the count query and the reader

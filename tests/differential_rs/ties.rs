@@ -1,6 +1,6 @@
 // Blocks on which a number to be rounded is a tie, half way between two multiples of 2^30. Random blocks do not meet one.
 use crate::calls::LARGEST;
-use crate::circle::Circle;
+use crate::circle::{Circle, QUARTER};
 use crate::random::Random;
 
 const TURN: i64 = 1 << 30;
@@ -45,21 +45,47 @@ fn tie(p: i64, q: i64, random: &mut Random) -> Option<(i32, i32)> {
         return None;
     }
     let largest = LARGEST as i64;
-    for _ in 0..TRIES {
+    (0..TRIES).find_map(|_| {
         let big_s = random.between(-largest, largest);
-        let rest = (TURN / 2 - q * big_s).rem_euclid(TURN);
-        let quotient = rest * inverse(p) % TURN;
-        let big_c = if quotient < TURN / 2 { quotient } else { quotient - TURN };
-        if big_c.abs() <= largest {
-            return Some((big_c as i32, big_s as i32));
-        }
-    }
-    None
+        let big_c = quotient((TURN / 2 - q * big_s) as i128, p as i128, TURN as i128, LARGEST)?;
+        Some((big_c, big_s as i32))
+    })
 }
 
-// the number that p, which is odd, makes 1 with modulo 2^30: each step doubles the binary digits that are right
-fn inverse(p: i64) -> i64 {
-    (0..5).fold(p, |v, _| (v * (2 - p * v % TURN)).rem_euclid(TURN))
+// The number that p, which is odd, makes v with modulo a power of two, where one is at most the largest in size.
+fn quotient(v: i128, p: i128, modulus: i128, largest: i32) -> Option<i32> {
+    let quotient = v.rem_euclid(modulus) * inverse(p, modulus) % modulus;
+    let nearest = if quotient < modulus / 2 { quotient } else { quotient - modulus };
+    (nearest.abs() <= largest as i128).then_some(nearest as i32)
+}
+
+// the number that p makes 1 with: each step doubles the binary digits that are right, the first three being so
+fn inverse(p: i128, modulus: i128) -> i128 {
+    (0..5).fold(p, |v, _| (v * (2 - p * v % modulus)).rem_euclid(modulus))
+}
+
+// ---- the way back
+
+// Coefficients of which value i is rounded from a tie, all at most the largest in size: c(0) · 2^29 and the sum of the others times T are
+// N · 2^28 modulo N · 2^29. The last coefficient that stands at an odd T is solved for, the others are random or 0; at N = 1 there is none.
+pub fn stored(i: usize, c: &[i32], circle: &Circle, largest: i32, random: &mut Random) -> Option<Vec<i32>> {
+    let n = c.len();
+    let turn = (2 * i + 1) * (QUARTER / n);
+    let wave = |k: usize| if k == 0 { 1 << 29 } else { circle.t(k * turn) as i128 };
+    let solved = (1..n).rev().find(|&k| wave(k) % 2 != 0)?;
+    let mut c = c.to_vec();
+    c[solved] = 0;
+    (0..TRIES).find_map(|_| {
+        let free = random.below(n);
+        if free != solved {
+            c[free] = random.between(-largest as i64, largest as i64) as i32;
+        }
+        let others: i128 = (0..n).map(|k| c[k] as i128 * wave(k)).sum();
+        let last = quotient(((n as i128) << 28) - others, wave(solved), (n as i128) << 29, largest)?;
+        let mut found = c.clone();
+        found[solved] = last;
+        Some(found)
+    })
 }
 
 // (16), undone
