@@ -95,10 +95,10 @@ module _ {sum : Sum} {x y : ℤ} (r : AddReady sum x y) where
   unfolding int
   adds = record {
     is = product-is (sum .high) (sum .low) (x *ℤ y) q;
-    grows = λ m s. record {
-      high-ok = within-size (within-le (within-add (size-within (sum .high) (s .high-ok)) (floor-small (x *ℤ y) product-small)) (omega arith));
-      low-ok = within-size (within-le (within-add (size-within (sum .low) (s .low-ok)) (rest-small (x *ℤ y) product-small)) (omega arith));
-    };
+    grows = λ m s.
+        let high = within-add (size-within (sum .high) (s .high-ok)) (floor-small (x *ℤ y) product-small) in
+        let low = within-add (size-within (sum .low) (s .low-ok)) (rest-small (x *ℤ y) product-small) in
+        record { high-ok = within-size (within-le high (omega arith)); low-ok = within-size (within-le low (omega arith)) };
   }
 
 -- ---- the sum of every other product

@@ -1,6 +1,6 @@
 -- What the exported functions promise, for every input: the record of the call that they make, and what the words hold through which C is
--- told its answer. `number` is the number returned: the refusal's in document 01 or 02, and 0 where the call is accepted. A word marked ′ is
--- one after the call.
+-- told its answer. `number` is the number returned: the refusal's in document 01 or 02, and 0 where the call is accepted. A word marked ′
+-- is one after the call.
 use mathlib.Core.List.{List}
 use mathlib.Core.Path.{_≡_}
 use Prim.Native.Nat.{ℕ}

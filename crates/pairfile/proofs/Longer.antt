@@ -12,8 +12,7 @@ use Rattle.whole.proofs.Cases.{le-or-lt}
 use Rattle.little_endian.specs.Numbers.{byte}
 use Rattle.pairfile.specs.File.{sampleCount, mostSamples, fileBytes, fileVerdict}
 use Rattle.pairfile.specs.Laws.{AnswersAsItsFirst, firstBytes, LongerFile}
-use Rattle.pairfile.specs.declared.FileAnswer.{FileAnswer}
-use Rattle.pairfile.proofs.Verdicts.{Passed8, TurnedDown, refused-8, refused-9, accepted-9}
+use Rattle.pairfile.proofs.Verdicts.{Passed8, refused-8, refused-9, accepted-9}
 
 module _ (n : ℕ) (enough : fileBytes mostSamples < n) (file lent : List ℕ) where
   -- a file of more than n bytes is refused with 8, by m, or else with 9; so are its first n bytes
@@ -27,19 +26,15 @@ module _ (n : ℕ) (enough : fileBytes mostSamples < n) (file lent : List ℕ) w
     same-count : sampleCount (take n file) ≡ sampleCount file
     same-count = omega (arith, same-byte 0 (omega arith), same-byte 1 (omega arith), same-byte 2 (omega arith), same-byte 3 (omega arith))
 
-    alike : {answer : FileAnswer} → TurnedDown (take n file) lent answer → TurnedDown file lent answer
-        → fileVerdict (take n file) lent ≡ fileVerdict file lent
-    alike t u = sym (t .verdict) ∙ u .verdict
-
     bad-count : (sampleCount file ≡ 0) ⊎ (mostSamples < sampleCount file) → fileVerdict (take n file) lent ≡ fileVerdict file lent
-    bad-count b = alike (refused-8 (omega (arith, cut)) (rw same-count b)) (refused-8 (omega arith) b)
+    bad-count b = refused-8 (take n file) lent (omega (arith, cut)) (rw same-count b) ∙ sym (refused-8 file lent (omega arith) b)
 
     too-long : 1 ≤ sampleCount file → sampleCount file ≤ mostSamples → fileVerdict (take n file) lent ≡ fileVerdict file lent
     too-long s m =
         let p : Passed8 (take n file) =
         record { header = omega (arith, cut); some = omega (arith, same-count); most = omega (arith, same-count) } in
         let q : Passed8 file = record { header = omega arith; some = s; most = m } in
-        alike (refused-9 p (λ e. omega (arith, cut, same-count))) (refused-9 q (λ e. omega arith))
+        refused-9 (take n file) lent p (λ e. omega (arith, cut, same-count)) ∙ sym (refused-9 file lent q (λ e. omega arith))
 
     both-refused : fileVerdict (take n file) lent ≡ fileVerdict file lent
     both-refused = ⊎-elim

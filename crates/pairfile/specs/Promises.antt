@@ -7,7 +7,7 @@ use lib.IntN.{ℤ, natAbs}
 use lib.ListN.{length}
 use Rattle.words.specs.Words.{Written}
 use Rattle.ffct.specs.Block.{isLength, largestSample}
-use Rattle.refusals.specs.Refusals.{accepted}
+use Rattle.refusals.specs.Refusals.{Promise}
 use Rattle.pairfile.specs.declared.FileAnswer.{FileAnswer}
 use Rattle.pairfile.specs.File.{sampleCount, blockLength, samplesOfA, samplesOfB, mostSamples, fileVerdict}
 use Rattle.pairfile.specs.Answers.{verdictOf, sampleCountOf, blockLengthOf}
@@ -25,7 +25,8 @@ pub record ReadDone (file : List ℕ) (a b a′ b′ : List ℤ) (m N : ℕ) : T
   pub rangeOfA : (n : ℕ) → n < m → natAbs (samplesOfA file n) ≤ largestSample
   pub rangeOfB : (n : ℕ) → n < m → natAbs (samplesOfB file n) ≤ largestSample
 
-pub record ReadPromise (file : List ℕ) (a b a′ b′ : List ℤ) (answer : FileAnswer) : Type 0 where
-  pub verdict : verdictOf answer ≡ fileVerdict file (length a ∷ length b ∷ [])
-  pub unchanged : (verdictOf answer ≡ accepted → ⊥) → (a′ ≡ a) × (b′ ≡ b)
-  pub done : verdictOf answer ≡ accepted → ReadDone file a b a′ b′ (sampleCountOf answer) (blockLengthOf answer)
+abbrev pub ReadPromise : List ℕ → (a b a′ b′ : List ℤ) → FileAnswer → Type 0
+ReadPromise file a b a′ b′ answer =
+    Promise (verdictOf answer) (fileVerdict file (length a ∷ length b ∷ []))
+    ((a′ ≡ a) × (b′ ≡ b))
+    (ReadDone file a b a′ b′ (sampleCountOf answer) (blockLengthOf answer))

@@ -64,7 +64,8 @@ module _ (number limit : ℕ) (x : Samples) (s N : ℕ) (rest : Verdict) where
   pub none-beyond : firstBeyond limit x s N ≡ s + N → firstBeyondOr number limit x s N rest ≡ rest
   none-beyond e = rw (le-ltb (firstBeyond limit x s N) (s + N) (omega (arith, e)))
 
-  pub first-beyond : {place : ℕ} → place ≡ firstBeyond limit x s N → place < s + N → firstBeyondOr number limit x s N rest ≡ refusedAt number place
+  pub first-beyond : {place : ℕ} → place ≡ firstBeyond limit x s N → place < s + N
+      → firstBeyondOr number limit x s N rest ≡ refusedAt number place
   first-beyond e l = rw (lt-ltb (firstBeyond limit x s N) (s + N) (omega (arith, e, l))) (ap (refusedAt number) (sym e))
 
 -- ---- samples: all are in range, or the first that is not stands at a place

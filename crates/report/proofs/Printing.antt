@@ -29,7 +29,7 @@ use Rattle.report.specs.Output.{linesAt, blockLines, spectra}
 use Rattle.report.specs.Puts.{Printable, PutFrom}
 
 -- ---- Pair accepts a block of recordings that are printable up to its end
-module _ (i : ℕ) {N allowance : ℕ} {a b real imaginary scratch real′ imaginary′ scratch′ : List ℤ} {answer : Answer} where
+module _ (i : ℕ) {N allowance : ℕ} {a b real imaginary scratch real′ imaginary′ scratch′ : List ℤ} (answer : Answer) where
   pub pair-done : Printable (i * N + N) N a b real imaginary scratch → ((x y : Samples) → allowance ≡ pairOf (level N) x y .products)
       → PairPromise a b (i * N) N allowance real imaginary scratch real′ imaginary′ scratch′ answer
       → PairDone N (block a (i * N)) (block b (i * N)) allowance real imaginary scratch real′ imaginary′ scratch′ (spent answer)

@@ -24,7 +24,8 @@ use Rattle.refusals.proofs.Ranges.{all-in}
 use Rattle.spectra.specs.declared.Answer.the-variants.{Done}
 use Rattle.spectra.specs.Calls.{Call}
 use Rattle.spectra.specs.Promises.{CosinePromise, cosineCall, SpectrumPromise, spectrumCall, PairPromise, pairCall}
-use Rattle.spectra.proofs.Verdicts.{Passed6, carried-out}
+use Rattle.refusals.proofs.Promises.{carried-out}
+use Rattle.spectra.proofs.Verdicts.{Passed6, is-accepted}
 
 -- ---- the block of N samples from s on, lent as a slice of the recording r
 abbrev pub lent : List ℤ → ℕ → ℕ → List ℤ
@@ -103,7 +104,7 @@ module _ {N m allowance start : ℕ} {scratch : List ℤ} (is : m ≡ scratchWor
         let (products, sums) = made .tallied in
         let forms = published (level N) in
         let near = limits (level N) x (fit-block fit-x) .dct in
-        carried-out passed refl (record {
+        carried-out refl (is-accepted passed) (record {
           block = fit-block fit-x;
           words = made .words;
           near = λ k h. rw (front (made .words) k h) ((rw (sym (is-power N (fit-x .length-ok))) at near) k h);
@@ -136,7 +137,7 @@ module _ {N m allowance start : ℕ} {scratch : List ℤ} (is : m ≡ scratchWor
         let near = limits (level N) x (fit-block fit-r) in
         let (products, sums) = made .tallied in
         let forms = published (level N) in
-        carried-out passed refl (record {
+        carried-out refl (is-accepted passed) (record {
           block = fit-block fit-r;
           cosineWords = made .cosineWords;
           sineWords = made .sineWords;
@@ -179,7 +180,7 @@ module _ {N m allowance start : ℕ} {scratch : List ℤ} (is : m ≡ scratchWor
         let near = pair-limits (level N) x y (fit-block fit-a) (fit-block fit-b) in
         let (products, sums) = made .tallied in
         let forms = published (level N) in
-        carried-out passed refl (record {
+        carried-out refl (is-accepted passed) (record {
           blockA = fit-block fit-a;
           blockB = fit-block fit-b;
           realWords = made .realWords;

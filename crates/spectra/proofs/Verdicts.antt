@@ -1,5 +1,5 @@
 -- The verdict on a call: what is known of one that passes the tests, what follows from a refusal, and the whole promise of a call that is
--- turned down, and of one that is carried out.
+-- turned down.
 -- Assumes nothing.
 use mathlib.Core.Path.{_≡_, refl, sym, ap, subst, _∙_}
 use mathlib.Core.Logic.{inr}
@@ -13,17 +13,15 @@ use lib.ListN.{length}
 use borrow.Author.Tests.{le-ltb, not-false}
 use Rattle.words.specs.Words.{Samples}
 use Rattle.ffct.specs.Block.{isLength}
-use Rattle.refusals.specs.Refusals.{someBelow, scratchWords, Verdict, number, firstOutIn, refusedAt, accepted}
-use Rattle.refusals.proofs.Promises.{past-test}
+use Rattle.refusals.specs.Refusals.{someBelow, scratchWords, Verdict, number, firstOutIn, refusedAt, accepted, Promise}
+use Rattle.refusals.proofs.Promises.{turned-down, past-test}
 use Rattle.refusals.proofs.Conditions.{AllReach, all-reach, reach-all, AllIn, OutAt, in-verdict, out-verdict}
 use Rattle.spectra.specs.declared.Answer.{Answer}
-use Rattle.spectra.specs.declared.Answer.the-variants.{OutOfRange}
 use Rattle.spectra.specs.declared.Tested.{Tested}
 use Rattle.spectra.specs.declared.Tested.the-variants.{Refused, Passed}
 use Rattle.spectra.specs.Answers.{verdictOf}
 use Rattle.spectra.specs.Calls.{lengthsOf, samplesOf, Call, verdict}
 use Rattle.spectra.specs.Tests.{tests, Tells}
-use Rattle.spectra.specs.Promises.{Promise}
 
 -- ---- a call that passes 1 to 5, and 6
 pub record Passed5 (call : Call) : Type 0 where
@@ -105,18 +103,11 @@ module _ (call : Call) {x : List ℤ} {others : List (List ℤ)} (is : call .rec
     passed = λ e i. let p = subst Tell e h in record { past = past p; range = rw is (p .range, i) };
   }
 
--- ---- the promise of a call that is turned down, and of one that is carried out
-module _ {call : Call} {answer : Answer} {Unchanged Done : Type 0} where
-  turned-down : Unchanged → 0 < number (verdictOf answer) → verdict call ≡ verdictOf answer → Promise call answer Unchanged Done
-  turned-down u some e =
-      record { verdict = sym e; unchanged = λ _. u; done = λ a. absurd (omega (arith, some, ap number a)) }
-
-  pub carried-out : Passed6 call → verdictOf answer ≡ accepted → Done → Promise call answer Unchanged Done
-  carried-out p ok d = record { verdict = ok ∙ sym (is-accepted p); unchanged = λ no. absurd (no ok); done = λ _. d }
-
+-- ---- the promise of a call that is turned down by the tests
 module _ {call : Call} {others : List Samples} {t : Tested} {Unchanged Done : Type 0} (u : Unchanged) (told : Told call others t) where
-  pub refused-by : {answer : Answer} → t ≡ Refused answer → Promise call answer Unchanged Done
+  pub refused-by : {answer : Answer} → t ≡ Refused answer → Promise (verdictOf answer) (verdict call) Unchanged Done
   refused-by e = let (some, is) = told .refused e in turned-down u some is
 
-  pub refused-at : {place : ℕ} → t ≡ Passed → OutAt others (call .start) (call .N) place → Promise call (OutOfRange place) Unchanged Done
+  pub refused-at : {place : ℕ} → t ≡ Passed → OutAt others (call .start) (call .N) place
+      → Promise (refusedAt 6 place) (verdict call) Unchanged Done
   refused-at e o = turned-down u (omega arith) (told .out e o)

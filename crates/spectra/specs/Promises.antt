@@ -12,17 +12,11 @@ use Rattle.ffct.specs.Transforms.{dct as dctOf, spectrum as spectrumOf, pair as
 use Rattle.ffct.specs.Counts.{dctProducts, dctSums, spectrumProducts, spectrumSums, pairProducts, pairSums}
 use Rattle.counts.specs.declared.tally.Tally.{Tally}
 use Rattle.counts.specs.Counts.{SixCounts, SixPublished}
-use Rattle.refusals.specs.Refusals.{scratchWords, block, refused, accepted}
+use Rattle.refusals.specs.Refusals.{scratchWords, block, refused, accepted, Promise}
 use Rattle.spectra.specs.declared.Answer.{Answer}
 use Rattle.spectra.specs.declared.CountsAnswer.{CountsAnswer}
 use Rattle.spectra.specs.Calls.{Call, verdict}
 use Rattle.spectra.specs.Answers.{verdictOf, spent, verdictOfCounts, countsOf}
-
--- a call that gives an answer: what stays where it is turned down, and what is done where it is accepted
-pub record Promise (call : Call) (answer : Answer) (Unchanged Done : Type 0) : Type 0 where
-  pub verdict : verdictOf answer ≡ verdict call
-  pub unchanged : (verdictOf answer ≡ accepted → ⊥) → Unchanged
-  pub done : verdictOf answer ≡ accepted → Done
 
 -- ---- Spectrum
 abbrev pub spectrumCall : List ℤ → ℕ → ℕ → ℕ → List ℤ → List ℤ → List ℤ → Call
@@ -54,7 +48,7 @@ pub record SpectrumDone (N : ℕ) (x : Samples) (allowance : ℕ)
 
 abbrev pub SpectrumPromise : List ℤ → ℕ → ℕ → ℕ → (cosine sine scratch cosine′ sine′ scratch′ : List ℤ) → Answer → Type 0
 SpectrumPromise recording start N allowance cosine sine scratch cosine′ sine′ scratch′ answer =
-    Promise (spectrumCall recording start N allowance cosine sine scratch) answer
+    Promise (verdictOf answer) (verdict (spectrumCall recording start N allowance cosine sine scratch))
     ((cosine′ ≡ cosine) × (sine′ ≡ sine) × (scratch′ ≡ scratch))
     (SpectrumDone N (block recording start) allowance cosine sine scratch cosine′ sine′ scratch′ (spent answer))
 
@@ -84,7 +78,7 @@ pub record CosineDone (N : ℕ) (x : Samples) (allowance : ℕ)
 
 abbrev pub CosinePromise : List ℤ → ℕ → ℕ → ℕ → (coefficients scratch coefficients′ scratch′ : List ℤ) → Answer → Type 0
 CosinePromise recording start N allowance coefficients scratch coefficients′ scratch′ answer =
-    Promise (cosineCall recording start N allowance coefficients scratch) answer
+    Promise (verdictOf answer) (verdict (cosineCall recording start N allowance coefficients scratch))
     ((coefficients′ ≡ coefficients) × (scratch′ ≡ scratch))
     (CosineDone N (block recording start) allowance coefficients scratch coefficients′ scratch′ (spent answer))
 
@@ -118,7 +112,7 @@ pub record PairDone (N : ℕ) (x y : Samples) (allowance : ℕ)
 
 abbrev pub PairPromise : List ℤ → List ℤ → ℕ → ℕ → ℕ → (real imaginary scratch real′ imaginary′ scratch′ : List ℤ) → Answer → Type 0
 PairPromise a b start N allowance real imaginary scratch real′ imaginary′ scratch′ answer =
-    Promise (pairCall a b start N allowance real imaginary scratch) answer
+    Promise (verdictOf answer) (verdict (pairCall a b start N allowance real imaginary scratch))
     ((real′ ≡ real) × (imaginary′ ≡ imaginary) × (scratch′ ≡ scratch))
     (PairDone N (block a start) (block b start) allowance real imaginary scratch real′ imaginary′ scratch′ (spent answer))
 

@@ -11,8 +11,7 @@ use Rattle.words.specs.Words.{word, Written}
 use Rattle.words.proofs.Writing.{Ends, ends-both, ends-two}
 use Rattle.circle.specs.Circle.{T}
 use Rattle.ffct.specs.Transforms.{rotated}
-use Rattle.ffct.proofs.Lengths.{len-per, per, quotient}
-use Rattle.ffct.proofs.ElevenLengths.{as-len, level-le, half}
+use Rattle.ffct.proofs.ElevenLengths.{twice-half, divides}
 use Rattle.ffct.proofs.Steps.{rotated-zero, rotated-low, rotated-middle, rotated-high}
 use Rattle.counts.specs.declared.tally.Tally.{Tally}
 use Rattle.counts.specs.Tally.{HasRoom}
@@ -29,21 +28,14 @@ module _ {n : ℕ} {before : List ℤ} {spent : Tally} (r : RotationReady n befo
   S = sineAt n before
 
   pub even : 2 * (n / 2) ≡ n
-  even = omega (arith, half n (r .length-ok) (r .some) .twice)
-
-  -- n divides 1,024
-  divides : n * (1024 / n) ≡ 1024
-  divides =
-      let L = as-len n (r .length-ok) in
-      let e : n * per _ ≡ 1024 = rw (sym L) at (len-per _ (level-le n (r .length-ok))) in
-      rw (quotient n _ _ 1024 e (sym e)) e
+  even = twice-half n (r .length-ok) (r .some)
 
   w : 2 * (n / 2) * (1024 / n) ≡ 1024
-  w = rw even divides
+  w = rw even (divides n (r .length-ok))
 
   -- the table's places
   pub place : (k : ℕ) → k ≤ n → 1024 / n * k ≤ 1024
-  place k l = omega (arith, mul-le-mul-left (1024 / n) l, divides)
+  place k l = omega (arith, mul-le-mul-left (1024 / n) l, divides n (r .length-ok))
 
   pub first : C 0 ≡ rotated n C S 0
   first = sym (rw even at (rotated-zero h (1024 / n) C S w 0 refl))

@@ -26,6 +26,10 @@ word f = record { is = toZ-ofZ f; fits = f }
 pub held : {x y : ℤ} → mag x < 2 ^ 63 → x ≡ y → Word w64 (ofZ w64 x) y
 held {x} l e = let f : SFits w64 x = sfits-of l in record { is = toZ-ofZ f ∙ e; fits = rw e at f }
 
+-- the bits that an operation on 64 bits makes
+abbrev pub done : (ℤ → ℤ → ℤ) → ℕ → ℕ → ℕ
+done op p q = ofZ w64 (op (toZ w64 p) (toZ w64 q))
+
 -- what a sum, a difference or a product asks, and what it gives
 module _ {w : Width} (op : ℤ → ℤ → ℤ) {p q : ℕ} {x y : ℤ} (a : Word w p x) (b : Word w q y) (f : SFits w (op x y)) where
   pub asked : SFits w (op (toZ w p) (toZ w q))

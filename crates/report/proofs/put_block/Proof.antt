@@ -19,7 +19,7 @@ put-lines-requires c κs =
     let p = c .before .before .before .before .before .before in
     let s = start p in
     let k = s .pre .0 in
-    let done = pair-done (s .args .block) k (allowed p .pair-products .ensures) (p .pair .ensures) in (
+    let done = pair-done (s .args .block) (p .pair .result) k (allowed p .pair-products .ensures) (p .pair .ensures) in (
       omega (arith, few-blocks (s .args .block) (s .args .n) _ (k .length-ok) (k .most)),
       length-le (s .args .n) (k .length-ok),
       omega (arith, done .realWords .len, k .realWords),
@@ -32,7 +32,7 @@ returns c =
     let l = c .before .before in
     let p = l .before .before .before .before .before .before .before in
     let s = start p in
-    let done = pair-done (s .args .block) (s .pre .0) (allowed p .pair-products .ensures) (p .pair .ensures) in
+    let done = pair-done (s .args .block) (p .pair .result) (s .pre .0) (allowed p .pair-products .ensures) (p .pair .ensures) in
     let r = l .put-lines .ensures in
     record {
       put = rw (lines-same (s .args .block) _ _ _ _ (s .args .n) (front (done .realWords)) (front (done .imaginaryWords))) at (r .0);

@@ -13,7 +13,7 @@ returns-2 c =
     let r = n .before .before .before in
     let pre = r .before .before .before .before .before .pre in
     let sizes = z .sizes-of .ensures in
-    spectra-put _ _ _ _ _ _ _ (r .read .ensures) (n .number-of .ensures) (pre .0) (pre .1) _ _ (sizes .0) (sizes .1)
+    spectra-put _ _ _ _ _ (r .read .result) _ (r .read .ensures) (n .number-of .ensures) (pre .0) (pre .1) _ _ (sizes .0) (sizes .1)
     (z .before .if1 .left)
     (p .put-spectra .ensures)
 
@@ -23,6 +23,7 @@ put-output-spec =
     (tie.spec
     (λ c κs. search needs)  -- read-requires
     (λ c κs. search needs)  -- number-of-requires
+    (λ c. search needs)  -- cast-put-refusal
     (λ c κs. search (needs, one-digit))  -- put-refusal-requires
     (λ c. search needs)  -- same-length
     (λ c. search needs)  -- same-length-2

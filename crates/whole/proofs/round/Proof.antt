@@ -30,7 +30,9 @@ add-result c = asked _+ℤ_ (word (c .fits .v)) half (sum-fits c)
 
 returns : tie.Need-returns
 unfolding round
-returns c = shifted _ (made _+ℤ_ (word (c .fits .v)) half (sum-fits c)) .is ∙ by-half (c .args .v) added (2 ^ 30) (omega arith) (omega arith)
+returns c =
+    shifted _ (made _+ℤ_ (word (c .fits .v)) half (sum-fits c)) .is
+    ∙ by-half (c .args .v) added (2 ^ 30) (omega arith) (omega arith)
 
 pub round-spec : {M : Type 1} → statement M
 round-spec = tie.close (tie.spec add-result returns)

@@ -7,7 +7,7 @@ use mir.Syntax.{w64}
 use mir.Val.{SFits, ofZ, toZ}
 use Rattle.whole.proofs.Difference.{int}
 use Rattle.whole.proofs.Size.{_within_, size-within, within-int, within-mul, within-add, within-fits}
-use Rattle.whole.proofs.Words.{Word, word, asked, made, shifted}
+use Rattle.whole.proofs.Words.{Word, word, asked, made, shifted, done}
 use Rattle.whole.proofs.Operations.{natural}
 use Rattle.inverse.proofs.Adding.{high-word, low-word, product-small, floor-small, rest-small, adds}
 use Rattle.inverse.proofs.sum.add_product.Statement.{statement}
@@ -19,10 +19,6 @@ unit = 1073741824
 
 unit-word : Word w64 unit (int unit)
 unit-word = natural (lit< tt)
-
--- the bits that an operation makes
-abbrev done : (ℤ → ℤ → ℤ) → ℕ → ℕ → ℕ
-done op p q = ofZ w64 (op (toZ w64 p) (toZ w64 q))
 
 module _ (a : tie.Start) where
   abbrev p : ℤ
@@ -69,7 +65,11 @@ module _ (a : tie.Start) where
 returns : tie.Need-returns
 returns c =
     let a = c .before .before .before .before in
-    rw (made _+ℤ_ (high-word (a .pre .sum-ok) (lit< tt)) (floor a) (high-fits a) .is, made _+ℤ_ (low-word (a .pre .sum-ok) (lit< tt)) (rest a) (low-fits a) .is) (adds (a .pre))
+    rw (
+      made _+ℤ_ (high-word (a .pre .sum-ok) (lit< tt)) (floor a) (high-fits a) .is,
+      made _+ℤ_ (low-word (a .pre .sum-ok) (lit< tt)) (rest a) (low-fits a) .is,
+    )
+    (adds (a .pre))
 
 pub add-product-spec : {M : Type 1} → statement M
 add-product-spec =

@@ -11,7 +11,7 @@ use mir.Val.{SFits, ofZ, toZ}
 use borrow.Author.Needs.{needs}
 use Rattle.whole.proofs.Difference.{int}
 use Rattle.whole.proofs.Size.{within-fits}
-use Rattle.whole.proofs.Words.{Word, word, asked, made, shifted, narrows, narrowed}
+use Rattle.whole.proofs.Words.{Word, word, asked, made, shifted, narrows, narrowed, done}
 use Rattle.whole.proofs.Operations.{natural}
 use Rattle.ffct.proofs.ElevenLengths.{is-power, level-le, trailing, length-le, twice-half}
 use Rattle.inverse.specs.Steps.{held, valueOf}
@@ -19,10 +19,6 @@ use Rattle.inverse.proofs.Adding.{high-word, low-word}
 use Rattle.inverse.proofs.Values.{quotient, twice-small, less-small, quotient-small, sum-small, value-is}
 use Rattle.inverse.proofs.value.value.Statement.{statement}
 use Rattle.inverse.proofs.value.value.Tie as tie
-
--- the bits that an operation makes
-abbrev done : (ℤ → ℤ → ℤ) → ℕ → ℕ → ℕ
-done op p q = ofZ w64 (op (toZ w64 p) (toZ w64 q))
 
 -- n over 2, as the code has it
 abbrev halves : ℕ

@@ -40,7 +40,9 @@ module _ {m : ℕ} (l : m < 2 ^ 31) where
   low-is = negated (natural l) low .is
 
 returns : tie.Need-returns
-returns c = sym (too-low (c .before .args .limit) (c .before .args .x) (rw (toZ-ofZ (c .before .fits .x), low-is (c .before .pre)) at (c .if1 .taken)))
+returns c =
+    sym (too-low (c .before .args .limit) (c .before .args .x)
+    (rw (toZ-ofZ (c .before .fits .x), low-is (c .before .pre)) at (c .if1 .taken)))
 
 returns-2 : tie.Need-returns-2
 unfolding int

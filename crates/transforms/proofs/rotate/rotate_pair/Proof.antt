@@ -9,15 +9,11 @@ use mir.Val.{toZ, ofZ}
 use borrow.Author.Needs.{needs}
 use Rattle.whole.specs.Round.{round}
 use Rattle.whole.proofs.Size.{size-within, within-size, within-add, within-sub, within-fits}
-use Rattle.whole.proofs.Words.{Word, word, made, held}
+use Rattle.whole.proofs.Words.{Word, word, made, held, done}
 use Rattle.whole.proofs.Operations.{Computes, computes}
 use Rattle.ffct.proofs.Sizes.{RotationFits, rotation-fits, first-form, second-form}
 use Rattle.transforms.proofs.rotate.rotate_pair.Statement.{statement}
 use Rattle.transforms.proofs.rotate.rotate_pair.Tie as tie
-
--- the bits that an operation makes
-abbrev done : (ℤ → ℤ → ℤ) → ℕ → ℕ → ℕ
-done op p q = ofZ w64 (op (toZ w64 p) (toZ w64 q))
 
 module _ (a : tie.Start) where
   fits : let v = a .args in RotationFits (v .cosine) (v .sine) (v .c) (v .s)
