@@ -22,7 +22,7 @@ from pathlib import Path
 
 ROOT = Path(sys.argv[1] if len(sys.argv) > 1 else Path(__file__).parent.parent)
 MAP = ROOT / "docs/MAP.md"
-NARROW = ("README.md", "docs/MAP.md", "docs/DEMANDS.md", "docs/DECISIONS.md", "docs/PROVING.md", "docs/BENCHMARKS.md", "docs/DISTANCES.md")
+NARROW = ["README.md"] + ["docs/%s.md" % name for name in "MAP DEMANDS DECISIONS CHANGES PROVING BENCHMARKS DISTANCES".split()]
 WIDTH = 140
 SENTENCE_END = re.compile(r"(?<=[^.][.?!])\s+(?=[^a-z.])")
 FILE = re.compile(r"[\w+]+(?:/[\w+.-]+)+")

@@ -3,6 +3,7 @@ use crate::blocks;
 use crate::calls::{Call, Kind, LENGTHS};
 use crate::circle::{Circle, QUARTER};
 use crate::hostile::{bad_length, extreme_length, shorter};
+use crate::known::generous;
 use crate::random::Random;
 use crate::run::Run;
 use crate::stored::{is_tie, largest, sum, worked, Stored};
@@ -10,9 +11,15 @@ use crate::ties;
 
 // ---- round trips
 
-// One item: a block of a length and a pattern through Cosine and back.
+// A block of four samples that does not come back as it was: 0 comes back as 1.
+const ONE_OFF: [i32; 4] = [94, 92, 72, 0];
+
+// One item: that block, then a block of a length and a pattern, through Cosine and back.
 pub fn trip_item(run: &mut Run, index: u64, random: &mut Random) {
-    let call = blocks::of_pattern(Kind::Cosine, index, &run.rules, random);
+    let call = match index {
+        0 => generous(Kind::Cosine, &[&ONE_OFF], 0, ONE_OFF.len(), u64::MAX),
+        _ => blocks::of_pattern(Kind::Cosine, index, &run.rules, random),
+    };
     round_trip(run, &call, random);
 }
 

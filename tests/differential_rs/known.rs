@@ -93,7 +93,7 @@ fn block(kind: Kind, recordings: &[&[i32]], results: &[&[i32]]) -> Known {
 }
 
 // a call with result buffers and scratch for every length up to 2,048
-fn generous(kind: Kind, recordings: &[&[i32]], start: usize, length: usize, allowance: u64) -> Call {
+pub fn generous(kind: Kind, recordings: &[&[i32]], start: usize, length: usize, allowance: u64) -> Call {
     Call {
         kind,
         recordings: recordings.iter().map(|samples| samples.to_vec()).collect(),

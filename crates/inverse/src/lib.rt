@@ -1,7 +1,7 @@
 // Strain back from a stored cosine block: the inverse of the DCT-II (document 02, (i)). The call asks nothing of its input: it tests its
 // refusals in their order, before anything is written, and promises its whole outcome (specs/Promises.antt).
-pub mod sum;
-pub mod value;
+mod sum;
+mod value;
 
 use refusals::length::is_length;
 use refusals::range::first_beyond;

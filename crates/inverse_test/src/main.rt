@@ -4,50 +4,11 @@ use inverse::inverse_dct;
 use inverse::number_of;
 use inverse::place_of;
 use libc::STDOUT_FILENO;
-use text::magnitude;
+use test_rows::write_count;
+use test_rows::write_words;
 ghost use mathlib.Core.Path.{_≡_};
 ghost use Prim.Native.Nat.{_*_, _≤_};
 ghost use lib.ListN.{length};
-
-// ---- what is written
-
-fn write_count(value: u64) {
-    io::write_all(STDOUT_FILENO, b" ");
-    io::print_decimal(STDOUT_FILENO, value);
-}
-
-fn write_number(value: i32) {
-    if value < 0 {
-        io::write_all(STDOUT_FILENO, b" -");
-    } else {
-        io::write_all(STDOUT_FILENO, b" ");
-    }
-    io::print_decimal(STDOUT_FILENO, magnitude(value));
-}
-
-const PRIME: u64 = 4294967291;
-
-// One more word of a digest: 2^31 more than the word, modulo the prime.
-fn digested(digest: u64, word: i32) -> u64 {
-    let size = magnitude(word) % PRIME;
-    let residue = if word < 0 { PRIME - size } else { size };
-    (digest % PRIME * 65599 + 2147483648 + residue % PRIME) % PRIME
-}
-
-// A short row word by word, a long one as a digest.
-fn write_words(words: &[i32]) {
-    let mut digest = 0;
-    for i in 0..words.len() {
-        let word = words[i];
-        digest = digested(digest, word);
-        if words.len() <= 20 {
-            write_number(word);
-        }
-    }
-    if words.len() > 20 {
-        write_count(digest);
-    }
-}
 
 // ---- a call
 

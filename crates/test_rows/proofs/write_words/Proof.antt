@@ -1,8 +1,8 @@
--- `spectra_test::write_words` meets its contract: the loop ends, and each place that it reads is in the words. Assumes nothing.
+-- `test_rows::write_words` meets its contract: the loop ends, and each place that it reads is in the words. Assumes nothing.
 use Prim.Native.Nat.{_-_}
 use borrow.Author.Needs.{needs}
-use Rattle.spectra_test.proofs.write_words.Statement.{statement}
-use Rattle.spectra_test.proofs.write_words.Tie as tie
+use Rattle.test_rows.proofs.write_words.Statement.{statement}
+use Rattle.test_rows.proofs.write_words.Tie as tie
 
 abbrev Inv-loop : tie.InvT-loop
 Inv-loop words digest₀ i₀ i-end digest i = Unit {0}

@@ -1,0 +1,41 @@
+// What the test programs write: numbers with a blank before each, and rows of words.
+use libc::STDOUT_FILENO;
+use text::magnitude;
+
+pub fn write_count(value: u64) {
+    io::write_all(STDOUT_FILENO, b" ");
+    io::print_decimal(STDOUT_FILENO, value);
+}
+
+pub fn write_number(value: i32) {
+    if value < 0 {
+        io::write_all(STDOUT_FILENO, b" -");
+    } else {
+        io::write_all(STDOUT_FILENO, b" ");
+    }
+    io::print_decimal(STDOUT_FILENO, magnitude(value));
+}
+
+const PRIME: u64 = 4294967291;
+
+// One more word of a digest: 2^31 more than the word, modulo the prime.
+pub fn digested(digest: u64, word: i32) -> u64 {
+    let size = magnitude(word) % PRIME;
+    let residue = if word < 0 { PRIME - size } else { size };
+    (digest % PRIME * 65599 + 2147483648 + residue % PRIME) % PRIME
+}
+
+// A short row word by word, a long one as a digest.
+pub fn write_words(words: &[i32]) {
+    let mut digest = 0;
+    for i in 0..words.len() {
+        let word = words[i];
+        digest = digested(digest, word);
+        if words.len() <= 20 {
+            write_number(word);
+        }
+    }
+    if words.len() > 20 {
+        write_count(digest);
+    }
+}
