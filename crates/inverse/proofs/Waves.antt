@@ -1,12 +1,12 @@
 -- T round the circle: its symmetries, its size and its nearness to K, each from T on the first quarter.
 -- Assumes nothing.
-use mathlib.Core.Path.{_≡_, sym, ap, _∙_}
+use mathlib.Core.Path.{_≡_, ap, _∙_}
 use Prim.Native.Nat.{ℕ, _+_, _*_, _^_, _≤_}
 use native.Mathlib.Omega.{arith}
 use lib.IntN.{ℤ, pos, negℤ, _-ℤ_, _*ℤ_}
 use Rattle.whole.proofs.Difference.{int, parts, diff}
 use Rattle.whole.proofs.Size.{near, _within_, size-within, within-neg, within-eq, within-⊖}
-use Rattle.circle.specs.Circle.{firstQuarter, onCircle, K, T}
+use Rattle.circle.specs.Circle.{firstQuarter, K, T}
 use Rattle.circle.proofs.Places.{on-mirror, on-opposite, on-turns, on-quarter, on-both, K-quarter}
 use Rattle.circle.proofs.Stored.{at-entry}
 use Rattle.circle.proofs.Laws.{known-places}

@@ -1,7 +1,7 @@
 -- The verdict on a call: what is known of one that passes the tests, what follows from a refusal, and the whole promise of a call that is
 -- turned down.
 -- Assumes nothing.
-use mathlib.Core.Path.{_≡_, refl, sym, ap, subst, _∙_}
+use mathlib.Core.Path.{_≡_, refl, subst, _∙_}
 use mathlib.Core.Logic.{inr}
 use mathlib.Core.Bool.{Bool, true, false, not, cond}
 use mathlib.Core.List.{List, _∷_}

@@ -7,7 +7,7 @@ use native.Mathlib.Nat.{mul-comm, mul-le-mul-left}
 use native.Mathlib.Omega.{arith}
 use lib.IntN.{ℤ, pos, _+ℤ_, _-ℤ_, _*ℤ_}
 use Rattle.whole.specs.Round.{round}
-use Rattle.words.specs.Words.{word, Written}
+use Rattle.words.specs.Words.{Written}
 use Rattle.words.proofs.Writing.{Ends, ends-both, ends-two}
 use Rattle.circle.specs.Circle.{T}
 use Rattle.ffct.specs.Transforms.{rotated}

@@ -6,7 +6,7 @@ use lib.Count.{trailingZeros}
 use lib.Dec.{lit<}
 use lib.IntN.{ℤ, pos, _+ℤ_, _-ℤ_, _*ℤ_}
 use lib.Signed.{shrZ}
-use mir.Syntax.{w32, w64}
+use mir.Syntax.{w64}
 use mir.Val.{SFits, ofZ, toZ}
 use borrow.Author.Needs.{needs}
 use Rattle.whole.proofs.Difference.{int}

@@ -1,6 +1,5 @@
 -- `transforms::rotate::put_single` meets its contract. Assumes nothing.
 use mathlib.Core.Path.{refl, _∙_, ap}
-use Prim.Native.Nat.{_+_, _/_}
 use native.Mathlib.Nat.{add-zero}
 use native.Mathlib.Omega.{arith}
 use borrow.Author.Needs.{needs}

@@ -1,6 +1,6 @@
 -- `transforms::rotate::rotate` meets its contract: when the loop comes to k, the words from 1 up to k and the last k - 1 of the n are
 -- made, at three products and three sums a turn. Assumes nothing.
-use mathlib.Core.Path.{_≡_, refl}
+use mathlib.Core.Path.{refl}
 use Prim.Native.Nat.{_+_, _-_, _*_, _≤_}
 use native.Mathlib.Omega.{arith}
 use borrow.Author.Needs.{needs}

@@ -1,5 +1,5 @@
 -- `transforms::rotate::rotate_by_twos` meets its contract: as `rotate`, where k is odd when a turn begins. Assumes nothing.
-use mathlib.Core.Path.{_≡_, refl}
+use mathlib.Core.Path.{_≡_}
 use Prim.Native.Nat.{ℕ, _+_, _-_, _*_, _/_, _%_, _≤_, _<_}
 use native.Mathlib.Omega.{arith}
 use borrow.Author.Needs.{needs}

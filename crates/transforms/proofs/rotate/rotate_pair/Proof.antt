@@ -5,7 +5,7 @@ use Prim.Native.Nat.{ℕ}
 use lib.Dec.{lit<}
 use lib.IntN.{ℤ, _+ℤ_, _-ℤ_, _*ℤ_}
 use mir.Syntax.{w64}
-use mir.Val.{toZ, ofZ}
+use mir.Val.{ofZ}
 use borrow.Author.Needs.{needs}
 use Rattle.whole.specs.Round.{round}
 use Rattle.whole.proofs.Size.{size-within, within-size, within-add, within-sub, within-fits}
