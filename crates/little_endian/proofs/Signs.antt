@@ -5,11 +5,11 @@ use mathlib.Core.Path.{_≡_, sym, ap, _∙_}
 use Prim.Native.Nat.{ℕ, suc, _-_, _^_, _≤_, _<_}
 use native.Mathlib.Decide.{decLe}
 use native.Mathlib.Omega.{arith}
-use lib.IntN.{ℤ, pos, negsuc}
+use lib.IntN.{ℤ, pos, negsuc, natAbs}
 use mir.Syntax.{w32}
 use mir.Val.{toZ}
 use borrow.Author.Tests.{lt-ltb, le-ltb}
-use Rattle.little_endian.specs.Numbers.{signed}
+use Rattle.little_endian.specs.Numbers.{signed, bits}
 
 low : (n : ℕ) → n < 2 ^ 31 → signed n ≡ pos n
 unfolding signed
@@ -27,11 +27,7 @@ word-reads n l = from (decLe (2 ^ 31) n)
     from (yes h) = rw (high n h l, le-ltb _ _ h)
     from (no h) = let h′ : n < 2 ^ 31 = omega arith in rw (low n h′, lt-ltb _ _ h′)
 
--- ---- back from a signed number to the bits that it was read from
-abbrev bits : ℤ → ℕ
-bits (pos n) = n
-bits (negsuc n) = 2 ^ 32 - suc n
-
+-- ---- back from a signed number to the bits that it was read from, and from these to the number
 bits-signed : (n : ℕ) → n < 2 ^ 32 → bits (signed n) ≡ n
 bits-signed n l = from (decLe (2 ^ 31) n)
   where
@@ -41,3 +37,11 @@ bits-signed n l = from (decLe (2 ^ 31) n)
 
 pub signed-once : {m n : ℕ} → m < 2 ^ 32 → n < 2 ^ 32 → signed m ≡ signed n → m ≡ n
 signed-once h l e = sym (bits-signed _ h) ∙ ap bits e ∙ bits-signed _ l
+
+pub bits-fit : (x : ℤ) → natAbs x < 2 ^ 31 → bits x < 2 ^ 32
+bits-fit (pos n) h = omega arith
+bits-fit (negsuc n) h = omega arith
+
+pub signed-bits : (x : ℤ) → natAbs x < 2 ^ 31 → signed (bits x) ≡ x
+signed-bits (pos n) h = low n h
+signed-bits (negsuc n) h = high (2 ^ 32 - suc n) (omega arith) (omega arith) ∙ ap negsuc (omega arith)

@@ -13,9 +13,11 @@ use Rattle.spectra.specs.Promises.{SpectrumPromise, CosinePromise, PairPromise,
 use Rattle.inverse.specs.declared.InverseAnswer.{InverseAnswer}
 use Rattle.inverse.specs.Answers as inverse
 use Rattle.inverse.specs.Promises.{InversePromise}
-use Rattle.pairfile.specs.declared.FileAnswer.{FileAnswer}
-use Rattle.pairfile.specs.Answers as file
-use Rattle.pairfile.specs.Promises.{ReadPromise}
+use Rattle.pairfile.specs.declared.reader.FileAnswer.{FileAnswer}
+use Rattle.pairfile.specs.declared.writer.WriteAnswer.{WriteAnswer}
+use Rattle.pairfile.specs.ReadAnswers as file
+use Rattle.pairfile.specs.WriteAnswers as written
+use Rattle.pairfile.specs.Promises.{ReadPromise, WritePromise}
 
 -- ---- the calls on recordings
 
@@ -83,3 +85,14 @@ pub record ReadTold (bytes : List ℕ) (a b a′ b′ : List ℤ) (m′ N′ pla
   pub answer : FileAnswer
   pub promise : ReadPromise bytes a b a′ b′ answer
   pub told : FileTold answer m′ N′ place′ number
+
+-- ---- writing a file
+
+-- There is an answer of which the promise of the writer holds, with this buffer before and after, and it is the answer told. The bytes are 0
+-- in every refusal, and the place is 0 in every answer but refusal 6.
+pub record WriteTold (a b : List ℤ) (N : ℕ) (buffer buffer′ : List ℕ) (bytes′ place′ number : ℕ) : Type 0 where
+  pub answer : WriteAnswer
+  pub promise : WritePromise a b N buffer buffer′ answer
+  pub number-is : number ≡ numberOf (written.verdictOf answer)
+  pub bytes-is : bytes′ ≡ written.bytesOf answer
+  pub place-is : place′ ≡ written.placeOf answer

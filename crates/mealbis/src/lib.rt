@@ -4,10 +4,13 @@
 // who calls them.
 pub mod version;
 
-use pairfile::FileAnswer;
+use pairfile::reader;
+use pairfile::reader::FileAnswer;
+use pairfile::writer;
 use spectra::Answer;
 use spectra::CountsAnswer;
-ghost use Rattle.mealbis.specs.Promises.{Told, SpectrumTold, CosineTold, PairTold, CountsTold, InverseTold, FileTold, ReadTold};
+ghost use Rattle.mealbis.specs.Promises.{Told, SpectrumTold, CosineTold, PairTold, CountsTold, InverseTold};
+ghost use Rattle.mealbis.specs.Promises.{FileTold, ReadTold, WriteTold};
 
 // ---- answers
 
@@ -26,11 +29,11 @@ fn tell(answer: Answer, products: &mut u64, sums: &mut u64, place: &mut usize) -
 fn tell_file(answer: FileAnswer, samples: &mut usize, length: &mut usize, place: &mut usize) -> u32
     ensures { λ r. ⌜ FileTold answer (now (samples .exit)) (now (length .exit)) (now (place .exit)) r ⌝ }
 {
-    let sizes = pairfile::sizes_of(answer);
+    let sizes = reader::sizes_of(answer);
     *samples = sizes.samples;
     *length = sizes.length;
-    *place = pairfile::place_of(answer);
-    pairfile::number_of(answer)
+    *place = reader::place_of(answer);
+    reader::number_of(answer)
 }
 
 // ---- the exported functions
@@ -167,6 +170,25 @@ pub extern "C" fn mealbis_read(
     ensures { λ r. ⌜ ReadTold (now (file .entry)) (now (a .entry)) (now (b .entry)) (now (a .exit)) (now (b .exit))
         (now (samples .exit)) (now (length .exit)) (now (place .exit)) r ⌝ }
 {
-    let answer = pairfile::read(file, a, b);
+    let answer = reader::read(file, a, b);
     tell_file(answer, samples, length, place)
+}
+
+// The pair file of two recordings, into a lent buffer.
+#[no_mangle]
+pub extern "C" fn mealbis_write(
+    a: &[i32],
+    b: &[i32],
+    length: usize,
+    file: &mut [u8],
+    bytes: &mut usize,
+    place: &mut usize,
+) -> u32
+    ensures { λ r. ⌜ WriteTold (now (a .entry)) (now (b .entry)) length (now (file .entry)) (now (file .exit))
+        (now (bytes .exit)) (now (place .exit)) r ⌝ }
+{
+    let answer = writer::write(a, b, length, file);
+    *bytes = writer::bytes_of(answer);
+    *place = writer::place_of(answer);
+    writer::number_of(answer)
 }

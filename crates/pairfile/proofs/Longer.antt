@@ -1,18 +1,19 @@
 -- A longer file answers as its first 32,777 bytes do: one byte more than the longest file that is accepted. So a program need not take in
 -- more than these.
 -- Assumes nothing.
+use mathlib.Core.Bool.{Bool, true, false}
 use mathlib.Core.List.{List}
 use mathlib.Core.Path.{_≡_, refl, sym, ap, _∙_}
-use mathlib.Core.Logic.{_⊎_, inl, inr, ⊎-elim}
-use Prim.Native.Nat.{ℕ, _≤_, _<_}
+use mathlib.Core.Logic.{⊎-elim}
+use Prim.Native.Nat.{ℕ, _<_}
 use native.Mathlib.Omega.{arith}
 use lib.ListN.{length, take}
 use lib.Seq.{take-all, length-take-le, getD-take}
 use Rattle.whole.proofs.Cases.{le-or-lt}
 use Rattle.little_endian.specs.Numbers.{byte}
-use Rattle.pairfile.specs.File.{sampleCount, mostSamples, fileBytes, fileVerdict}
+use Rattle.pairfile.specs.File.{sampleCount, mostSamples, badCount, fileBytes, fileVerdict}
 use Rattle.pairfile.specs.Laws.{AnswersAsItsFirst, firstBytes, LongerFile}
-use Rattle.pairfile.proofs.Verdicts.{Passed8, refused-8, refused-9, accepted-9}
+use Rattle.pairfile.proofs.Verdicts.{good-count, Passed8, refused-8, refused-9, accepted-9}
 
 module _ (n : ℕ) (enough : fileBytes mostSamples < n) (file lent : List ℕ) where
   -- a file of more than n bytes is refused with 8, by m, or else with 9; so are its first n bytes
@@ -26,26 +27,25 @@ module _ (n : ℕ) (enough : fileBytes mostSamples < n) (file lent : List ℕ) w
     same-count : sampleCount (take n file) ≡ sampleCount file
     same-count = omega (arith, same-byte 0 (omega arith), same-byte 1 (omega arith), same-byte 2 (omega arith), same-byte 3 (omega arith))
 
-    bad-count : (sampleCount file ≡ 0) ⊎ (mostSamples < sampleCount file) → fileVerdict (take n file) lent ≡ fileVerdict file lent
-    bad-count b = refused-8 (take n file) lent (omega (arith, cut)) (rw same-count b) ∙ sym (refused-8 file lent (omega arith) b)
-
-    too-long : 1 ≤ sampleCount file → sampleCount file ≤ mostSamples → fileVerdict (take n file) lent ≡ fileVerdict file lent
-    too-long s m =
-        let p : Passed8 (take n file) =
-        record { header = omega (arith, cut); some = omega (arith, same-count); most = omega (arith, same-count) } in
-        let q : Passed8 file = record { header = omega arith; some = s; most = m } in
+    same-verdict : (bad : Bool) → badCount (sampleCount file) ≡ bad → fileVerdict (take n file) lent ≡ fileVerdict file lent
+    same-verdict true e =
+        refused-8 (take n file) lent (omega (arith, cut)) (rw same-count e) ∙ sym (refused-8 file lent (omega arith) e)
+    same-verdict false e =
+        let (_, few) = good-count (sampleCount file) e in
+        let p : Passed8 (take n file) = record { header = omega (arith, cut); count = rw same-count e } in
+        let q : Passed8 file = record { header = omega arith; count = e } in
         refused-9 (take n file) lent p (λ e. omega (arith, cut, same-count)) ∙ sym (refused-9 file lent q (λ e. omega arith))
 
     both-refused : fileVerdict (take n file) lent ≡ fileVerdict file lent
-    both-refused = ⊎-elim
-        (λ s. ⊎-elim (too-long s) (λ l. bad-count (inr l)) (le-or-lt (sampleCount file) mostSamples))
-        (λ l. bad-count (inl (omega arith)))
-        (le-or-lt 1 (sampleCount file))
+    both-refused = same-verdict (badCount (sampleCount file)) refl
 
   answers-as-its-first : AnswersAsItsFirst n file lent
   answers-as-its-first = record {
     verdict = ⊎-elim (λ l. ap (λ f. fileVerdict f lent) (take-all n file l)) both-refused (le-or-lt (length file) n);
-    whole = λ ok. let p = accepted-9 file lent ok in take-all n file (omega arith);
+    whole = λ ok.
+        let p = accepted-9 file lent ok in
+        let (_, few) = good-count (sampleCount file) (p .past .count) in
+        take-all n file (omega arith);
   }
 
 -- ---- the law, with the number

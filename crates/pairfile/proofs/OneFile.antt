@@ -12,13 +12,13 @@ use Rattle.whole.proofs.Cases.{le-or-lt}
 use Rattle.little_endian.specs.Numbers.{byte, AreBytes, unsigned, signed}
 use Rattle.little_endian.proofs.Bytes.{unsigned-fits, unsigned-once}
 use Rattle.little_endian.proofs.Signs.{signed-once}
-use Rattle.pairfile.specs.File.{sampleCount}
-use Rattle.pairfile.specs.Laws.{SameReading, OneFile}
+use Rattle.pairfile.specs.File.{sampleCount, blockLength, samplesOfA, samplesOfB}
+use Rattle.pairfile.specs.Laws.{Reads, OneFile}
 use Rattle.pairfile.proofs.Verdicts.{Passed9, accepted-9}
 
-module _ (f g : List ℕ) (hf : AreBytes f) (hg : AreBytes g) (p : Passed9 f) (q : Passed9 g) (same : SameReading f g) where
+module _ (f g : List ℕ) (hf : AreBytes f) (hg : AreBytes g) (p : Passed9 f) (q : Passed9 g) (same : Reads f (sampleCount g) (blockLength g) (samplesOfA g) (samplesOfB g)) where
   as-long : length f ≡ length g
-  as-long = omega (arith, p .bytes, q .bytes, same .same-count)
+  as-long = omega (arith, p .bytes, q .bytes, same .count)
 
   -- equal samples, at the place of number w
   sample-once : (w i j : ℕ) → w < 2 + 2 * sampleCount f → i ≡ 4 * w → j ≡ 4 * w
@@ -31,11 +31,11 @@ module _ (f g : List ℕ) (hf : AreBytes f) (hg : AreBytes g) (p : Passed9 f) (q
 
   -- number w of the file: m, N, a sample of a or a sample of b
   number : (w : ℕ) → w < 2 + 2 * sampleCount f → unsigned f (4 * w) ≡ unsigned g (4 * w)
-  number zero h = same .same-count
-  number (suc zero) h = same .same-length
+  number zero h = same .count
+  number (suc zero) h = same .blocks
   number (suc (suc n)) h = ⊎-elim
-      (λ l. sample-once (suc (suc n)) _ _ h (omega arith) (omega (arith, same .same-count)) (same .ofB (n - sampleCount f) (omega arith)))
-      (λ l. sample-once (suc (suc n)) _ _ h (omega arith) (omega arith) (same .ofA n l))
+      (λ l. sample-once (suc (suc n)) _ _ h (omega arith) (omega (arith, same .count)) (same .ofB (n - sampleCount f) (omega (arith, same .count))))
+      (λ l. sample-once (suc (suc n)) _ _ h (omega arith) (omega arith) (same .ofA n (omega (arith, l, same .count))))
       (le-or-lt (sampleCount f) n)
 
   byte-same : (k : ℕ) → k < length f → byte f k ≡ byte g k

@@ -1,42 +1,43 @@
 -- The verdict on a file, condition by condition: what 7, 8 and 9 follow from, and that an accepted file has passed them; then a run of the
 -- reader, which at each test promises a refusal that leaves the recordings as they are, and at the end what was written.
 -- Assumes nothing.
-use mathlib.Core.Path.{_≡_, refl, sym, ap, _∙_}
-use mathlib.Core.Logic.{_⊎_, inl, inr, ⊎-elim}
-use mathlib.Core.Bool.{Bool, true, false, not, cond, _||_}
+use mathlib.Core.Path.{_≡_, refl, sym, _∙_}
+use mathlib.Core.Logic.{inl, inr}
+use mathlib.Core.Bool.{Bool, true, false, not, cond}
 use mathlib.Core.List.{List, [], _∷_}
 use Prim.Native.Nat.{ℕ, _+_, _≤_, _<_}
-use native.Mathlib.Decide.{ℕ-discrete}
 use native.Mathlib.Omega.{arith}
 use lib.Dec.{eqb, ltb}
-use lib.IntN.{ℤ}
+use lib.IntN.{ℤ, natAbs}
 use lib.ListN.{length}
-use borrow.Author.Tests.{lt-ltb, le-ltb, eq-eqb, ne-eqb, not-false}
-use Rattle.whole.proofs.Cases.{le-or-lt}
+use borrow.Author.Tests.{lt-ltb, le-ltb, ltb-false, eq-eqb, ne-eqb, eqb-true, eqb-false, not-false}
 use Rattle.words.specs.Words.{Samples, Written}
-use Rattle.ffct.specs.Block.{isLength}
-use Rattle.refusals.specs.Refusals.{someBelow, firstOut, firstOutIn, refused, accepted, number}
-use Rattle.refusals.proofs.Ranges.{first-end, passed}
-use Rattle.refusals.proofs.Promises.{turned-down, carried-out}
-use Rattle.refusals.proofs.Conditions.{all-reach, some-below, in-verdict, out-verdict}
-use Rattle.pairfile.specs.declared.FileAnswer.the-variants.{BelowHeader, BadCount, BadFileLength, BadLength}
-use Rattle.pairfile.specs.declared.FileAnswer.the-variants.{RecordingTooShort, OutOfRange, Read}
-use Rattle.pairfile.specs.File.{sampleCount, blockLength, samplesAt, startOfA, startOfB}
-use Rattle.pairfile.specs.File.{headerBytes, mostSamples, fileBytes, fileVerdict}
+use Rattle.ffct.specs.Block.{isLength, largestSample}
+use Rattle.refusals.specs.Refusals.{someBelow, firstOut, firstOutIn, refused, accepted}
+use Rattle.refusals.proofs.Ranges.{first-end, passed, none-out}
+use Rattle.refusals.proofs.Promises.{turned-down, carried-out, past-test}
+use Rattle.refusals.proofs.Conditions.{all-reach, some-below, none-of, in-verdict, out-verdict}
+use Rattle.pairfile.specs.declared.reader.FileAnswer.the-variants.{BelowHeader, BadCount, BadFileLength, BadLength}
+use Rattle.pairfile.specs.declared.reader.FileAnswer.the-variants.{RecordingTooShort, OutOfRange, Read}
+use Rattle.pairfile.specs.File.{sampleCount, blockLength, samplesAt, startOfA, startOfB, samplesOfA, samplesOfB}
+use Rattle.pairfile.specs.File.{headerBytes, mostSamples, badCount, fileBytes, fileVerdict}
 use Rattle.pairfile.specs.Promises.{ReadPromise}
+
+-- ---- 8: m is 0 or above 4,096, or neither
+pub good-count : (m : ℕ) → badCount m ≡ false → (1 ≤ m) × (m ≤ mostSamples)
+good-count m e = let (n, l) = none-of (eqb m 0) (ltb mostSamples m) e in (omega (arith, eqb-false m 0 n), ltb-false mostSamples m l)
+
+pub count-good : (m : ℕ) → 1 ≤ m → m ≤ mostSamples → badCount m ≡ false
+count-good m h l = rw (ne-eqb m 0 (λ e. omega arith), le-ltb _ _ l)
 
 -- ---- a file that the conditions 7 and 8, and then 9, do not turn down
 pub record Passed8 (file : List ℕ) : Type 0 where
   pub header : headerBytes ≤ length file
-  pub some : 1 ≤ sampleCount file
-  pub most : sampleCount file ≤ mostSamples
+  pub count : badCount (sampleCount file) ≡ false
 
 pub record Passed9 (file : List ℕ) : Type 0 where
   pub past : Passed8 file
   pub bytes : length file ≡ fileBytes (sampleCount file)
-
-count-good : {file : List ℕ} → Passed8 file → (eqb (sampleCount file) 0 || ltb mostSamples (sampleCount file)) ≡ false
-count-good {file} p = rw (ne-eqb (sampleCount file) 0 (λ e. omega arith), le-ltb _ _ (p .most))
 
 -- ---- a file that is turned down by 7, 8 or 9
 module _ (file lent : List ℕ) where
@@ -44,41 +45,54 @@ module _ (file lent : List ℕ) where
   unfolding fileVerdict
   refused-7 h = rw (lt-ltb _ _ h)
 
-  pub refused-8 : headerBytes ≤ length file → (sampleCount file ≡ 0) ⊎ (mostSamples < sampleCount file) → fileVerdict file lent ≡ refused 8
+  pub refused-8 : headerBytes ≤ length file → badCount (sampleCount file) ≡ true → fileVerdict file lent ≡ refused 8
   unfolding fileVerdict
-  refused-8 h (inl e) = rw (le-ltb _ _ h, eq-eqb _ _ e)
-  refused-8 h (inr l) = rw (le-ltb _ _ h, ne-eqb (sampleCount file) 0 (λ e. omega arith), lt-ltb _ _ l)
+  refused-8 h bad = rw (le-ltb _ _ h, bad)
 
   pub refused-9 : Passed8 file → (length file ≡ fileBytes (sampleCount file) → ⊥) → fileVerdict file lent ≡ refused 9
   unfolding fileVerdict
-  refused-9 p n = rw (le-ltb _ _ (p .header), count-good p, ne-eqb _ _ n)
+  refused-9 p n = rw (le-ltb _ _ (p .header), p .count, ne-eqb _ _ n)
 
--- ---- what an accepted file has passed, as far as its length
-module _ (file lent : List ℕ) (ok : fileVerdict file lent ≡ accepted) where
-  not-refused : {n : ℕ} → fileVerdict file lent ≡ refused n → 0 < n → ⊥
-  not-refused e l = absurd (omega (arith, l, ap number (sym ok ∙ e)))
+-- ---- what an accepted file has passed before its samples are looked at; and that it is accepted where these are in range
+pub record Passed3 (file lent : List ℕ) : Type 0 where
+  pub past : Passed9 file
+  pub length-ok : isLength (blockLength file) ≡ true
+  pub reach : someBelow (sampleCount file) lent ≡ false
 
-  accepted-7 : headerBytes ≤ length file
-  accepted-7 = ⊎-elim (λ h. h) (λ h. absurd (not-refused (refused-7 file lent h) (omega arith))) (le-or-lt headerBytes (length file))
+module _ (file lent : List ℕ) where
+  pub accepted-3 : fileVerdict file lent ≡ accepted → Passed3 file lent
+  unfolding fileVerdict
+  accepted-3 ok =
+      let (header, ok₈) = past-test (ltb (length file) headerBytes) ok (omega arith) in
+      let (count, ok₉) = past-test (badCount (sampleCount file)) ok₈ (omega arith) in
+      let (bytes, ok₁) = past-test (not (eqb (length file) (fileBytes (sampleCount file)))) ok₉ (omega arith) in
+      let (blocks, ok₃) = past-test (not (isLength (blockLength file))) ok₁ (omega arith) in
+      let (reach, _) = past-test (someBelow (sampleCount file) lent) ok₃ (omega arith) in
+      record {
+        past = record {
+          past = record { header = ltb-false _ _ header; count = count };
+          bytes = eqb-true _ _ (not-false _ bytes);
+        };
+        length-ok = not-false _ blocks;
+        reach = reach;
+      }
 
-  accepted-8 : Passed8 file
-  accepted-8 = record {
-    header = accepted-7;
-    some = ⊎-elim (λ h. h) (λ h. absurd (not-refused (refused-8 file lent accepted-7 (inl (omega arith))) (omega arith)))
-        (le-or-lt 1 (sampleCount file));
-    most = ⊎-elim (λ h. h) (λ h. absurd (not-refused (refused-8 file lent accepted-7 (inr h)) (omega arith)))
-        (le-or-lt (sampleCount file) mostSamples);
-  }
+  pub accepted-9 : fileVerdict file lent ≡ accepted → Passed9 file
+  accepted-9 ok = accepted-3 ok .past
 
-  pub accepted-9 : Passed9 file
-  accepted-9 = record { past = accepted-8; bytes = from (ℕ-discrete (length file) (fileBytes (sampleCount file))) }
-    where
-      from : Dec (length file ≡ fileBytes (sampleCount file)) → length file ≡ fileBytes (sampleCount file)
-      from (yes e) = e
-      from (no n) = absurd (not-refused (refused-9 file lent accepted-8 n) (omega arith))
+  pub file-accepted : Passed3 file lent → ((n : ℕ) → n < sampleCount file → natAbs (samplesOfA file n) ≤ largestSample)
+      → ((n : ℕ) → n < sampleCount file → natAbs (samplesOfB file n) ≤ largestSample) → fileVerdict file lent ≡ accepted
+  unfolding fileVerdict
+  file-accepted p range-a range-b =
+      let q = p .past in
+      rw (le-ltb _ _ (q .past .header), q .past .count, eq-eqb _ _ (q .bytes), p .length-ok, p .reach)
+      (in-verdict (samplesOfA file ∷ samplesOfB file ∷ []) 0 (sampleCount file) (
+        none-out _ (samplesOfA file) 0 (sampleCount file) (λ n _ h. range-a n (omega arith)),
+        (none-out _ (samplesOfB file) 0 (sampleCount file) (λ n _ h. range-b n (omega arith)), tt),
+      ))
 
 -- ---- a file of m samples that was accepted, with blocks of N: what is promised once the samples are written
-pub record Accepted (file : List ℕ) (a b : List ℤ) (m N : ℕ) : Type 0 where
+pub record Readable (file : List ℕ) (a b : List ℤ) (m N : ℕ) : Type 0 where
   pub reads : {a′ b′ : List ℤ} → Written 0 m (samplesAt file startOfA) a a′ → Written 0 m (samplesAt file (startOfB m)) b b′
       → ReadPromise file a b a′ b′ (Read (record { samples = m; length = N }))
 
@@ -90,16 +104,16 @@ module _ (file : List ℕ) (a b : List ℤ) where
   pub below-header : length file < headerBytes → ReadPromise file a b a b BelowHeader
   below-header h = turned-down (refl, refl) (omega arith) (refused-7 file lent h)
 
-  module _ (m : ℕ) (count : m ≡ sampleCount file) (header : headerBytes ≤ length file) where
-    pub no-samples : m < 1 → ReadPromise file a b a b BadCount
-    no-samples h = turned-down (refl, refl) (omega arith) (refused-8 file lent header (inl (omega arith)))
+  module _ (m : ℕ) (count : m ≡ sampleCount file) (header : headerBytes ≤ length file) (bad : Bool) (is-bad : bad ≡ badCount m) where
+    same-test : badCount (sampleCount file) ≡ bad
+    same-test = rw (is-bad, count)
 
-    pub many-samples : mostSamples < m → ReadPromise file a b a b BadCount
-    many-samples h = turned-down (refl, refl) (omega arith) (refused-8 file lent header (inr (omega arith)))
+    pub count-bad : bad ≡ true → ReadPromise file a b a b BadCount
+    count-bad h = turned-down (refl, refl) (omega arith) (refused-8 file lent header (same-test ∙ h))
 
-    module _ (some : 1 ≤ m) (most : m ≤ mostSamples) where
+    module _ (few : bad ≡ false) where
       passed-8 : Passed8 file
-      passed-8 = record { header = header; some = omega arith; most = omega arith }
+      passed-8 = record { header = header; count = same-test ∙ few }
 
       pub bad-bytes : (length file ≡ fileBytes m → ⊥) → ReadPromise file a b a b BadFileLength
       bad-bytes differ = turned-down (refl, refl) (omega arith) (refused-9 file lent passed-8 (λ e. differ (omega arith)))
@@ -110,7 +124,7 @@ module _ (file : List ℕ) (a b : List ℤ) where
 
         past-9 : fileVerdict file lent ≡ cond (not ok) (refused 1) (cond (someBelow m lent) (refused 3) (firstOutIn recordings 0 m))
         unfolding fileVerdict
-        past-9 = rw (is, blocks, count, le-ltb _ _ header, count-good passed-8, eq-eqb _ _ (rw count at bytes))
+        past-9 = rw (is, blocks, count, le-ltb _ _ header, passed-8 .count, eq-eqb _ _ (rw count at bytes))
 
         pub bad-length : not ok ≡ true → ReadPromise file a b a b BadLength
         bad-length h = turned-down (refl, refl) (omega arith) (past-9 ∙ rw h)
@@ -138,7 +152,7 @@ module _ (file : List ℕ) (a b : List ℤ) where
                   turned-down (refl, refl) (omega arith)
                   (past-3 ∙ out-verdict recordings 0 m beyond (inr (range-a, inl (o₂, omega arith))))
 
-              pub all-in-range : m ≤ beyond → Accepted file a b m N
+              pub all-in-range : m ≤ beyond → Readable file a b m N
               all-in-range in-b =
                   let range-b = first-end _ (samplesAt file (startOfB m)) 0 m o₂ (omega arith) in
                   record {
@@ -148,10 +162,12 @@ module _ (file : List ℕ) (a b : List ℤ) where
                           length-is = blocks;
                           wordsOfA = v;
                           wordsOfB = rw (← count) w;
-                          some = some;
-                          most = most;
-                          length-ok = sym is ∙ not-false ok good;
-                          rangeOfA = λ n h. passed _ (samplesAt file startOfA) 0 m range-a n (omega arith) (omega arith);
-                          rangeOfB = rw (← count) (λ n h. passed _ (samplesAt file (startOfB m)) 0 m range-b n (omega arith) (omega arith));
+                          sound = record {
+                            some = good-count m (sym is-bad ∙ few) .0;
+                            most = good-count m (sym is-bad ∙ few) .1;
+                            length-ok = sym is ∙ not-false ok good;
+                            rangeOfA = λ n h. passed _ (samplesAt file startOfA) 0 m range-a n (omega arith) (omega arith);
+                            rangeOfB = rw (← count) (λ n h. passed _ (samplesAt file (startOfB m)) 0 m range-b n (omega arith) (omega arith));
+                          };
                         });
                   }

@@ -1,5 +1,5 @@
 -- Document 01, "The pair file": what the bytes of a file mean, and when a file is turned down.
-use mathlib.Core.Bool.{not, cond, _||_}
+use mathlib.Core.Bool.{Bool, not, cond, _||_}
 use mathlib.Core.List.{List, [], _∷_}
 use Prim.Native.Nat.{ℕ, _+_, _*_}
 use lib.Dec.{eqb, ltb}
@@ -39,6 +39,9 @@ headerBytes = 8
 abbrev pub mostSamples : ℕ
 mostSamples = 4096
 
+abbrev pub badCount : ℕ → Bool
+badCount m = eqb m 0 || ltb mostSamples m
+
 abbrev pub fileBytes : ℕ → ℕ
 fileBytes m = 8 + 8 * m
 
@@ -47,7 +50,7 @@ fileBytes m = 8 + 8 * m
 unfoldable pub fileVerdict : List ℕ → List ℕ → Verdict
 fileVerdict file lent =
     cond (ltb (length file) headerBytes) (refused 7)
-    (cond (eqb (sampleCount file) 0 || ltb mostSamples (sampleCount file)) (refused 8)
+    (cond (badCount (sampleCount file)) (refused 8)
     (cond (not (eqb (length file) (fileBytes (sampleCount file)))) (refused 9)
     (cond (not (isLength (blockLength file))) (refused 1)
     (cond (someBelow (sampleCount file) lent) (refused 3)

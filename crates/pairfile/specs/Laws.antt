@@ -1,24 +1,87 @@
--- What is proved of the pair file, as statements: each is proved for all files in proofs/.
+-- What is proved of the pair file, as statements: each is proved for all files and all inputs in proofs/.
+use mathlib.Core.Bool.{false}
 use mathlib.Core.List.{List}
 use mathlib.Core.Path.{_≡_}
-use Prim.Native.Nat.{ℕ, _+_, _<_}
-use lib.ListN.{take}
-use Rattle.refusals.specs.Refusals.{accepted}
+use Prim.Native.Nat.{ℕ, _+_, _≤_, _<_}
+use lib.IntN.{ℤ}
+use lib.ListN.{length, take}
+use Rattle.words.specs.Words.{Samples, word, Written}
+use Rattle.refusals.specs.Refusals.{accepted, someBelow}
 use Rattle.little_endian.specs.Numbers.{AreBytes}
+use Rattle.pairfile.specs.declared.reader.FileAnswer.{FileAnswer}
+use Rattle.pairfile.specs.declared.writer.WriteAnswer.{WriteAnswer}
 use Rattle.pairfile.specs.File.{sampleCount, blockLength, samplesOfA, samplesOfB, mostSamples, fileBytes, fileVerdict}
+use Rattle.pairfile.specs.OwnFile.{pairFile, writeVerdict}
+use Rattle.pairfile.specs.ReadAnswers as read
+use Rattle.pairfile.specs.WriteAnswers as write
+use Rattle.pairfile.specs.Promises.{ReadPromise, WritePromise}
 
--- the files f and g read as the same m, N and samples
-pub record SameReading (f g : List ℕ) : Type 0 where
-  pub same-count : sampleCount f ≡ sampleCount g
-  pub same-length : blockLength f ≡ blockLength g
-  pub ofA : (n : ℕ) → n < sampleCount f → samplesOfA f n ≡ samplesOfA g n
-  pub ofB : (n : ℕ) → n < sampleCount f → samplesOfB f n ≡ samplesOfB g n
+-- ---- files that read alike
 
--- two accepted files that do so are one file, whatever recordings are lent for each
+-- the file reads as m, N and the samples of a and b
+pub record Reads (file : List ℕ) (m N : ℕ) (a b : Samples) : Type 0 where
+  pub count : sampleCount file ≡ m
+  pub blocks : blockLength file ≡ N
+  pub ofA : (n : ℕ) → n < m → samplesOfA file n ≡ a n
+  pub ofB : (n : ℕ) → n < m → samplesOfB file n ≡ b n
+
+-- two accepted files that read alike are one file, whatever recordings are lent for each
 abbrev pub OneFile : Type 0
 OneFile =
     (f g lent lent′ : List ℕ) → AreBytes f → AreBytes g → fileVerdict f lent ≡ accepted → fileVerdict g lent′ ≡ accepted
-    → SameReading f g → f ≡ g
+    → Reads f (sampleCount g) (blockLength g) (samplesOfA g) (samplesOfB g) → f ≡ g
+
+-- ---- our own files
+
+-- "our reader returns the input from it": the reader accepts the file of an accepted input, with m words or more lent for each recording,
+-- and reads the input from it
+abbrev pub InputReadBack : Type 0
+InputReadBack =
+    (a b : List ℤ) (N room : ℕ) → writeVerdict a b N room ≡ accepted
+    → ((lent : List ℕ) → someBelow (length a) lent ≡ false → fileVerdict (pairFile a b N) lent ≡ accepted)
+    × Reads (pairFile a b N) (length a) N (word a) (word b)
+
+-- "Each accepted input has one file": a file that the reader accepts, and from which it reads the input, is this one
+abbrev pub InputHasOneFile : Type 0
+InputHasOneFile =
+    (a b : List ℤ) (N room : ℕ) → writeVerdict a b N room ≡ accepted
+    → (file lent : List ℕ) → AreBytes file → fileVerdict file lent ≡ accepted → Reads file (length a) N (word a) (word b)
+    → file ≡ pairFile a b N
+
+-- what the reader answers, and leaves in the recordings c and d, when it has read a, b and N
+pub record InputRead (a b : List ℤ) (N : ℕ) (c d c′ d′ : List ℤ) (answer : FileAnswer) : Type 0 where
+  pub verdict : read.verdictOf answer ≡ accepted
+  pub count : read.sampleCountOf answer ≡ length a
+  pub blocks : read.blockLengthOf answer ≡ N
+  pub wordsOfA : Written 0 (length a) (word a) c c′
+  pub wordsOfB : Written 0 (length b) (word b) d d′
+
+-- both calls joined: the writer accepted and left buffer′; the reader was called with the file's bytes of it and recordings c and d of m
+-- words or more: it has read the input
+abbrev pub WrittenAndRead : Type 0
+WrittenAndRead =
+    (a b : List ℤ) (N : ℕ) (buffer buffer′ : List ℕ) (wrote : WriteAnswer)
+    → WritePromise a b N buffer buffer′ wrote
+    → write.verdictOf wrote ≡ accepted
+    → (c d c′ d′ : List ℤ) (answer : FileAnswer)
+    → ReadPromise (take (write.bytesOf wrote) buffer′) c d c′ d′ answer
+    → length a ≤ length c → length a ≤ length d
+    → InputRead a b N c d c′ d′ answer
+
+-- and the other way round: the reader accepted a file and left a′ and b′; the writer was called with the m words of each that were read,
+-- the N that was returned, and a buffer as long as the file or longer: it has written this file
+abbrev pub ReadAndWritten : Type 0
+ReadAndWritten =
+    (file : List ℕ) (a b a′ b′ : List ℤ) (answer : FileAnswer) → AreBytes file
+    → ReadPromise file a b a′ b′ answer
+    → read.verdictOf answer ≡ accepted
+    → (buffer buffer′ : List ℕ) (wrote : WriteAnswer)
+    → WritePromise (take (read.sampleCountOf answer) a′) (take (read.sampleCountOf answer) b′) (read.blockLengthOf answer)
+    buffer buffer′ wrote
+    → length file ≤ length buffer
+    → (write.verdictOf wrote ≡ accepted) × (take (write.bytesOf wrote) buffer′ ≡ file)
+
+-- ---- long files
 
 -- the first n bytes have the file's verdict, and where it is acceptance they are the whole file
 pub record AnswersAsItsFirst (n : ℕ) (file lent : List ℕ) : Type 0 where

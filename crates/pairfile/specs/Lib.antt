@@ -1,4 +1,6 @@
 pub mod File
-pub mod Answers
+pub mod OwnFile
+pub mod ReadAnswers
+pub mod WriteAnswers
 pub mod Promises
 pub mod Laws

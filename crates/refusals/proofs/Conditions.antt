@@ -11,6 +11,8 @@ use borrow.Author.Tests.{lt-ltb, le-ltb, ltb-false}
 use Rattle.whole.proofs.Cases.{le-or-lt}
 use Rattle.words.specs.Words.{Samples}
 use Rattle.refusals.specs.Refusals.{someBelow, firstBeyond, firstOut, firstBeyondOr, firstOutIn, Verdict, refusedAt, accepted}
+use Rattle.refusals.specs.Refusals.{number as numberOf}
+use Rattle.refusals.proofs.Ranges.{first-end}
 
 -- ---- lengths: all reach n, or some are below it
 abbrev pub AllReach : ℕ → List ℕ → Type 0
@@ -38,7 +40,7 @@ some-below n [] h = absurd h
 some-below n (m ∷ ms) (inl l) = rw (lt-ltb m n l)
 some-below n (m ∷ ms) (inr h) = rw (some-below n ms h) (or-true (ltb m n))
 
-none-of : (a b : Bool) → (a || b) ≡ false → (a ≡ false) × (b ≡ false)
+pub none-of : (a b : Bool) → (a || b) ≡ false → (a ≡ false) × (b ≡ false)
 none-of true b e = absurd (false≢true (sym e))
 none-of false b e = (refl, e)
 
@@ -67,6 +69,16 @@ module _ (number limit : ℕ) (x : Samples) (s N : ℕ) (rest : Verdict) where
   pub first-beyond : {place : ℕ} → place ≡ firstBeyond limit x s N → place < s + N
       → firstBeyondOr number limit x s N rest ≡ refusedAt number place
   first-beyond e l = rw (lt-ltb (firstBeyond limit x s N) (s + N) (omega (arith, e, l))) (ap (refusedAt number) (sym e))
+
+  -- a verdict that accepts has passed the test
+  pub past-beyond : firstBeyondOr number limit x s N rest ≡ accepted → 0 < number → (firstBeyond limit x s N ≡ s + N) × (rest ≡ accepted)
+  past-beyond e l = ⊎-elim within out (le-or-lt (s + N) (firstBeyond limit x s N))
+    where
+      within : s + N ≤ firstBeyond limit x s N → (firstBeyond limit x s N ≡ s + N) × (rest ≡ accepted)
+      within h = let end = first-end limit x s N refl h in (end, sym (none-beyond end) ∙ e)
+
+      out : firstBeyond limit x s N < s + N → (firstBeyond limit x s N ≡ s + N) × (rest ≡ accepted)
+      out h = absurd (omega (arith, l, ap numberOf (sym (first-beyond refl h) ∙ e)))
 
 -- ---- samples: all are in range, or the first that is not stands at a place
 abbrev pub AllIn : List Samples → ℕ → ℕ → Type 0

@@ -14,13 +14,13 @@ use Rattle.ffct.proofs.Lengths.{pow-len}
 use Rattle.ffct.proofs.ElevenLengths.{is-power, length-le}
 use Rattle.ffct.proofs.Blocks.{pair-same}
 use Rattle.refusals.specs.Refusals.{Verdict, refused, refusedAt, accepted, number}
-use Rattle.text.specs.Put.{Put}
+use Rattle.words.specs.Put.{Put}
 use Rattle.text.specs.Lines.{heading, refusal, lines}
-use Rattle.pairfile.specs.declared.FileAnswer.{FileAnswer}
-use Rattle.pairfile.specs.declared.FileAnswer.the-variants.{BelowHeader, BadCount, BadFileLength, BadLength}
-use Rattle.pairfile.specs.declared.FileAnswer.the-variants.{RecordingTooShort, OutOfRange, Read}
+use Rattle.pairfile.specs.declared.reader.FileAnswer.{FileAnswer}
+use Rattle.pairfile.specs.declared.reader.FileAnswer.the-variants.{BelowHeader, BadCount, BadFileLength, BadLength}
+use Rattle.pairfile.specs.declared.reader.FileAnswer.the-variants.{RecordingTooShort, OutOfRange, Read}
 use Rattle.pairfile.specs.File.{sampleCount, blockLength, samplesOfA, samplesOfB, mostSamples, fileVerdict}
-use Rattle.pairfile.specs.Answers.{verdictOf, sampleCountOf, blockLengthOf}
+use Rattle.pairfile.specs.ReadAnswers.{verdictOf, sampleCountOf, blockLengthOf}
 use Rattle.pairfile.specs.Promises.{ReadDone, ReadPromise}
 use Rattle.pairfile.specs.Laws.{firstBytes}
 use Rattle.pairfile.proofs.Longer.{longer}
@@ -102,19 +102,19 @@ module _ (file : List ℕ) (a b a′ b′ : List ℤ) (answer : FileAnswer) (n :
       done = rw (samples, blocks) (r .done accepts)
 
       pub spectra-room : (page : List ℕ) → 139278 ≤ length page → 14 + 34 * m ≤ length page
-      spectra-room page room = omega (arith, done .most)
+      spectra-room page room = omega (arith, done .sound .most)
 
       pub spectra-ready : {real imaginary scratch : List ℤ} → 1024 ≤ length real → 1024 ≤ length imaginary → 8256 ≤ length scratch
           → Printable m N a′ b′ real imaginary scratch
       spectra-ready h i j =
-          let short = length-le N (done .length-ok) in
+          let short = length-le N (done .sound .length-ok) in
           record {
-            length-ok = done .length-ok;
-            most = done .most;
-            wordsOfA = omega (arith, done .most, done .wordsOfA .len);
-            wordsOfB = omega (arith, done .most, done .wordsOfB .len);
-            rangeOfA = λ n l. rw (front (done .wordsOfA) n l) (done .rangeOfA n l);
-            rangeOfB = λ n l. rw (front (done .wordsOfB) n l) (done .rangeOfB n l);
+            length-ok = done .sound .length-ok;
+            most = done .sound .most;
+            wordsOfA = omega (arith, done .sound .most, done .wordsOfA .len);
+            wordsOfB = omega (arith, done .sound .most, done .wordsOfB .len);
+            rangeOfA = λ n l. rw (front (done .wordsOfA) n l) (done .sound .rangeOfA n l);
+            rangeOfB = λ n l. rw (front (done .wordsOfB) n l) (done .sound .rangeOfB n l);
             realWords = omega arith;
             imaginaryWords = omega arith;
             scratchFits = omega arith;
@@ -122,7 +122,7 @@ module _ (file : List ℕ) (a b a′ b′ : List ℤ) (answer : FileAnswer) (n :
 
       read-spectra : spectra m N (word a′) (word b′) ≡ spectra (sampleCount file) (blockLength file) (samplesOfA file) (samplesOfB file)
       read-spectra =
-          let ok = done .length-ok in
+          let ok = done .sound .length-ok in
           let same = same-blocks N ok (word a′) (samplesOfA file) (word b′) (samplesOfB file)
           (front (done .wordsOfA))
           (front (done .wordsOfB)) in

@@ -22,9 +22,9 @@ use Rattle.spectra.specs.declared.Answer.{Answer}
 use Rattle.spectra.specs.Answers.{spent}
 use Rattle.spectra.specs.Promises.{PairDone, PairPromise}
 use Rattle.spectra.proofs.Verdicts.{is-accepted}
-use Rattle.text.specs.Put.{Put}
+use Rattle.words.specs.Put.{Put}
 use Rattle.text.specs.Lines.{heading, line, lines}
-use Rattle.text.proofs.Putting.{put-none, _then_}
+use Rattle.words.proofs.Putting.{put-none, _then_}
 use Rattle.report.specs.Output.{linesAt, blockLines, spectra}
 use Rattle.report.specs.Puts.{Printable, PutFrom}
 

@@ -8,7 +8,7 @@ use lib.ListN.{length}
 use Rattle.words.specs.Words.{word}
 use Rattle.ffct.specs.Block.{isLength, largestSample}
 use Rattle.refusals.specs.Refusals.{scratchWords}
-use Rattle.text.specs.Put.{Put}
+use Rattle.words.specs.Put.{Put}
 use Rattle.report.specs.Output.{output}
 
 -- two recordings with m samples in range, in blocks of N, and words to work in

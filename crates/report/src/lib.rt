@@ -1,7 +1,7 @@
 // All that `pairspec` prints, put into a lent page.
-use pairfile::number_of;
-use pairfile::read;
-use pairfile::sizes_of;
+use pairfile::reader::number_of;
+use pairfile::reader::read;
+use pairfile::reader::sizes_of;
 use spectra::CountsAnswer;
 use spectra::count_query;
 use spectra::pair;

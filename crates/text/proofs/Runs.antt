@@ -16,8 +16,8 @@ use Rattle.words.specs.Words.{Samples}
 use Rattle.io.specs.Digits.{digits, Fewest}
 use Rattle.text.specs.Decimal.{number, decimal}
 use Rattle.text.specs.Lines.{space, lineFeed, refusal, line, lines}
-use Rattle.text.specs.Put.{Put}
-use Rattle.text.proofs.Putting.{put-none, _then_}
+use Rattle.words.specs.Put.{Put}
+use Rattle.words.proofs.Putting.{put-none, _then_}
 use Rattle.text.proofs.Spelling.{digits-number, decimal-negative, decimal-natural, number-length, line-length}
 
 -- the number that a signed parameter's bits hold

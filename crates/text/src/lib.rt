@@ -6,7 +6,7 @@ ghost use mathlib.Core.List.{_++_};
 ghost use mathlib.Core.Path.{_≡_};
 ghost use Rattle.words.specs.Words.{word};
 ghost use Rattle.text.specs.Decimal.{number, decimal};
-ghost use Rattle.text.specs.Put.{Put};
+ghost use Rattle.words.specs.Put.{Put};
 ghost use Rattle.text.specs.Lines.{heading, refusal, line, lines};
 
 pub fn put(text: &[u8], page: &mut [u8], at: usize) -> usize

@@ -2,16 +2,18 @@
 -- of an operation whose result fits is the result on the numbers.
 -- Assumes nothing.
 use mathlib.Core.Path.{_≡_, _∙_}
-use mathlib.Core.Bool.{false, true≢false}
-use Prim.Native.Nat.{ℕ, _^_, _<_}
+use mathlib.Core.Bool.{true, false, true≢false}
+use Prim.Native.Nat.{ℕ, suc, _+_, _-_, _^_, _<_}
 use native.Mathlib.Nat.{lt-of-le-of-lt}
+use native.Mathlib.Omega.{arith}
 use lib.Dec.{T, leb}
-use lib.IntN.{ℤ, pos, negsuc, negℤ, _-ℤ_, +ℤ-idl}
+use lib.IntN.{ℤ, pos, negsuc, natAbs, negℤ, _-ℤ_, +ℤ-idl}
 use lib.Signed.{shrZ, ltZ, nonNeg, mag, mag-shr}
 use mir.Syntax.{Width, w32, w64}
 use mir.Val.{SFits, hbits, toZ, ofZ}
 use mir.Facts.{toZ-ofZ, sfits-widen}
 use borrow.Author.Needs.{sfits-of}
+use borrow.Author.Tests.{ltb-true, lt-ltb}
 
 -- the bits p are the number x, which fits
 pub record Word (w : Width) (p : ℕ) (x : ℤ) : Type 0 where
@@ -81,3 +83,13 @@ module _ (x : ℤ) (l : mag x < 2 ^ 31) where
 pub not-negative : (x : ℤ) → ltZ x (pos 0) ≡ false → T (nonNeg x)
 not-negative (pos n) e = tt
 not-negative (negsuc n) e = true≢false e
+
+-- the complement of the bits of a negative number is one less than its size
+abbrev pub Turned : ℤ → Type 0
+Turned x = (n : ℕ) × (n < 2 ^ 31) × (natAbs x ≡ n + 1) × (toZ w32 (4294967295 - ofZ w32 x) ≡ pos n)
+
+pub turned : (x : ℤ) → SFits w32 x → ltZ x (pos 0) ≡ true → Turned x
+turned (pos n) f h = absurd (omega (arith, ltb-true n 0 h))
+turned (negsuc n) f h =
+    let s : 4294967295 - (2 ^ 32 - suc n) ≡ n = omega arith in
+    (n, f .sfits, omega arith, simp (s, lt-ltb n (2 ^ 31) (f .sfits)))

@@ -1,28 +1,12 @@
 -- `text::magnitude` meets its contract: the turned bits of a negative number are its size less 1. Assumes nothing.
-use mathlib.Core.Path.{_≡_, ap}
-use mathlib.Core.Bool.{true}
-use Prim.Native.Nat.{ℕ, suc, _+_, _-_, _^_, _<_}
+use mathlib.Core.Path.{ap}
 use native.Mathlib.Omega.{arith}
-use lib.IntN.{ℤ, pos, negsuc, natAbs}
-use lib.Signed.{ltZ}
-use mir.Syntax.{w32}
-use mir.Val.{SFits, toZ, ofZ}
+use lib.IntN.{natAbs}
 use mir.Facts.{toZ-ofZ, fits-natAbs}
 use borrow.Author.Needs.{needs}
-use borrow.Author.Tests.{ltb-true, lt-ltb}
-use Rattle.whole.proofs.Words.{not-negative}
+use Rattle.whole.proofs.Words.{not-negative, Turned, turned}
 use Rattle.text.proofs.magnitude.Statement.{statement}
 use Rattle.text.proofs.magnitude.Tie as tie
-
--- the complement of a negative number's bits is one less than its size
-abbrev Turned : ℤ → Type 0
-Turned x = (n : ℕ) × (n < 2 ^ 31) × (natAbs x ≡ n + 1) × (toZ w32 (4294967295 - ofZ w32 x) ≡ pos n)
-
-turned : (x : ℤ) → SFits w32 x → ltZ x (pos 0) ≡ true → Turned x
-turned (pos n) f h = absurd (omega (arith, ltb-true n 0 h))
-turned (negsuc n) f h =
-    let s : 4294967295 - (2 ^ 32 - suc n) ≡ n = omega arith in
-    (n, f .sfits, omega arith, simp (s, lt-ltb n (2 ^ 31) (f .sfits)))
 
 negative : (c : tie.Then1) → Turned (c .before .args .x)
 negative c = let f = c .before .fits .x in turned _ f (rw (toZ-ofZ f) at (c .if1 .taken))

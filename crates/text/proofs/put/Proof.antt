@@ -7,8 +7,8 @@ use native.Mathlib.Numerals.{add-one}
 use lib.ListN.{length, take, set, getD}
 use lib.Seq.{take-suc, take-all}
 use borrow.Author.Needs.{needs}
-use Rattle.text.specs.Put.{Put}
-use Rattle.text.proofs.Putting.{put-none, put-byte, _then_}
+use Rattle.words.specs.Put.{Put}
+use Rattle.words.proofs.Putting.{put-none, put-byte, _then_}
 use Rattle.text.proofs.put.Statement.{statement}
 use Rattle.text.proofs.put.Tie as tie
 

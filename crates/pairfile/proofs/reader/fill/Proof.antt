@@ -6,8 +6,8 @@ use lib.IntN.{pos}
 use borrow.Author.Needs.{needs}
 use Rattle.words.proofs.Writing.{Ends, ends-none, ends-front, ends-all}
 use Rattle.pairfile.specs.File.{samplesAt}
-use Rattle.pairfile.proofs.fill.Statement.{statement}
-use Rattle.pairfile.proofs.fill.Tie as tie
+use Rattle.pairfile.proofs.reader.fill.Statement.{statement}
+use Rattle.pairfile.proofs.reader.fill.Tie as tie
 
 abbrev Inv-loop : tie.InvT-loop
 Inv-loop file start m recording₀ i₀ recording i = (i ≤ m) × Ends (pos 0) 0 i 0 m (samplesAt file start) recording₀ recording

@@ -1,8 +1,8 @@
 -- The answers of the reader, by document 01's numbers and values.
 use Prim.Native.Nat.{ℕ}
-use Rattle.pairfile.specs.declared.FileAnswer.{FileAnswer}
-use Rattle.pairfile.specs.declared.FileAnswer.the-variants.{BelowHeader, BadCount, BadFileLength, BadLength}
-use Rattle.pairfile.specs.declared.FileAnswer.the-variants.{RecordingTooShort, OutOfRange, Read}
+use Rattle.pairfile.specs.declared.reader.FileAnswer.{FileAnswer}
+use Rattle.pairfile.specs.declared.reader.FileAnswer.the-variants.{BelowHeader, BadCount, BadFileLength, BadLength}
+use Rattle.pairfile.specs.declared.reader.FileAnswer.the-variants.{RecordingTooShort, OutOfRange, Read}
 use Rattle.refusals.specs.Refusals.{Verdict, refused, refusedAt, accepted}
 
 abbrev pub verdictOf : FileAnswer → Verdict

@@ -1,4 +1,4 @@
--- Texts put into a page one behind another (`Put` of specs/Put): none, one byte, a text behind a text. Assumes nothing.
+-- Bytes put into a lent buffer (`Put` of specs/Put): none, one, and some behind others. Assumes nothing.
 use mathlib.Core.Path.{_≡_, refl, sym, _∙_}
 use mathlib.Core.List.{List, [], _∷_, _++_, append-nil, append-assoc}
 use Prim.Native.Nat.{ℕ, _+_, _≤_, _<_}
@@ -6,7 +6,7 @@ use native.Mathlib.Omega.{arith}
 use native.Mathlib.Numerals.{add-one}
 use lib.ListN.{length, drop, set, length-append, length-set}
 use lib.Seq.{length-take-le, take-suc-set, drop-set-lt, drop-drop}
-use Rattle.text.specs.Put.{Put}
+use Rattle.words.specs.Put.{Put}
 
 pub put-none : {page : List ℕ} {at : ℕ} → at ≤ length page → Put page at [] at page
 put-none {page} {at} h =

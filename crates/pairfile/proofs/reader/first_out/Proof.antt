@@ -9,8 +9,8 @@ use Rattle.ffct.specs.Block.{largestSample}
 use Rattle.refusals.specs.Refusals.{inRange}
 use Rattle.refusals.proofs.Ranges.{Searched, searched-none, searched-on, searched-out, searched-all}
 use Rattle.pairfile.specs.File.{samplesAt}
-use Rattle.pairfile.proofs.first_out.Statement.{statement}
-use Rattle.pairfile.proofs.first_out.Tie as tie
+use Rattle.pairfile.proofs.reader.first_out.Statement.{statement}
+use Rattle.pairfile.proofs.reader.first_out.Tie as tie
 
 abbrev Inv-loop : tie.InvT-loop
 Inv-loop file start m i₀ i = Searched largestSample (samplesAt file start) m i

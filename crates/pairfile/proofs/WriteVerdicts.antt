@@ -1,0 +1,130 @@
+-- The tests of the writer, in their order: the answer at each, and what is known behind the last; and what an accepted input has passed.
+-- Assumes nothing.
+use mathlib.Core.Path.{_≡_, refl, sym, _∙_}
+use mathlib.Core.Bool.{Bool, true, false, not, cond}
+use mathlib.Core.List.{List}
+use Prim.Native.Nat.{ℕ, _+_, _≤_, _<_}
+use native.Mathlib.Omega.{arith}
+use lib.Dec.{eqb, ltb}
+use lib.IntN.{ℤ}
+use lib.ListN.{length}
+use borrow.Author.Tests.{lt-ltb, le-ltb, ltb-false, eq-eqb, ne-eqb, eqb-true, not-false}
+use Rattle.words.specs.Words.{Samples, word}
+use Rattle.words.specs.Put.{Put}
+use Rattle.ffct.specs.Block.{isLength}
+use Rattle.ffct.proofs.ElevenLengths.{length-le}
+use Rattle.refusals.specs.Refusals.{firstOut, firstOutOr, Verdict, refused, accepted}
+use Rattle.refusals.proofs.Ranges.{first-end, passed, none-out}
+use Rattle.refusals.proofs.Promises.{turned-down, carried-out, past-test}
+use Rattle.refusals.proofs.Conditions.{none-beyond, first-beyond, past-beyond}
+use Rattle.pairfile.specs.declared.writer.WriteAnswer.the-variants.{BadCount, RecordingsDiffer, BadLength}
+use Rattle.pairfile.specs.declared.writer.WriteAnswer.the-variants.{OutOfRange, BufferTooShort, Written}
+use Rattle.pairfile.specs.File.{mostSamples, badCount, fileBytes}
+use Rattle.pairfile.specs.OwnFile.{pairFile, writeVerdict}
+use Rattle.pairfile.specs.Promises.{Accepted, WritePromise}
+use Rattle.pairfile.proofs.Verdicts.{good-count, count-good}
+
+-- ---- what an accepted input has passed
+pub record Sound (a b : List ℤ) (N room : ℕ) : Type 0 where
+  pub same : length b ≡ length a
+  pub sound : Accepted (length a) N (word a) (word b)
+  pub fits : fileBytes (length a) ≤ room
+
+module _ (a b : List ℤ) (N room : ℕ) where
+  -- in range, the tests passed
+  in-range : badCount (length a) ≡ false → length b ≡ length a → isLength N ≡ true → firstOut (word a) 0 (length a) ≡ 0 + length a
+      → firstOut (word b) 0 (length b) ≡ 0 + length b → Accepted (length a) N (word a) (word b)
+  in-range few same ok range-a range-b = record {
+    some = good-count (length a) few .0;
+    most = good-count (length a) few .1;
+    length-ok = ok;
+    rangeOfA = λ n h. passed _ (word a) 0 (length a) range-a n (omega arith) (omega arith);
+    rangeOfB = λ n h. passed _ (word b) 0 (length b) range-b n (omega arith) (omega arith);
+  }
+
+  pub input-sound : writeVerdict a b N room ≡ accepted → Sound a b N room
+  unfolding writeVerdict
+  input-sound e =
+      let (few, past-8) = past-test (badCount (length a)) e (omega arith) in
+      let (alike, past-11) = past-test (not (eqb (length b) (length a))) past-8 (omega arith) in
+      let (good, past-1) = past-test (not (isLength N)) past-11 (omega arith) in
+      let (range-a, past-a) = past-beyond 6 _ (word a) 0 (length a) _ past-1 (omega arith) in
+      let (range-b, past-b) = past-beyond 6 _ (word b) 0 (length b) _ past-a (omega arith) in
+      let (long, _) = past-test (ltb room (fileBytes (length a))) past-b (omega arith) in
+      let same = eqb-true (length b) (length a) (not-false _ alike) in
+      record { same = same; sound = in-range few same (not-false _ good) range-a range-b; fits = ltb-false _ _ long }
+
+  pub input-accepted : Sound a b N room → writeVerdict a b N room ≡ accepted
+  unfolding writeVerdict
+  input-accepted s =
+      let in-a = none-out _ (word a) 0 (length a) (λ n _ h. s .sound .rangeOfA n (omega arith)) in
+      let in-b = none-out _ (word b) 0 (length b) (λ n _ h. s .sound .rangeOfB n (omega (arith, s .same))) in
+      rw (count-good (length a) (s .sound .some) (s .sound .most), eq-eqb _ _ (s .same), s .sound .length-ok)
+      (none-beyond 6 _ (word a) 0 (length a) _ in-a ∙ none-beyond 6 _ (word b) 0 (length b) _ in-b ∙ rw (le-ltb _ _ (s .fits)))
+
+-- ---- behind the last test: what putting the file asks, and what is promised once it is put
+pub record Writable (a b : List ℤ) (N : ℕ) (buffer : List ℕ) : Type 0 where
+  pub ready : (length a ≤ 4096) × (length b ≡ length a) × (N ≤ 1024) × (fileBytes (length a) ≤ length buffer)
+  pub writes : {buffer′ : List ℕ} {bytes : ℕ} → Put buffer 0 (pairFile a b N) bytes buffer′ → WritePromise a b N buffer buffer′ (Written bytes)
+
+-- ---- the tests, each where those before it are passed
+module _ (a b : List ℤ) (N : ℕ) (buffer : List ℕ) (bad : Bool) (is-bad : bad ≡ badCount (length a)) where
+  pub count-bad : bad ≡ true → WritePromise a b N buffer buffer BadCount
+  unfolding writeVerdict
+  count-bad h = turned-down refl (omega arith) (rw (← is-bad, h))
+
+  module _ (few : bad ≡ false) where
+    pub differ : (length b ≡ length a → ⊥) → WritePromise a b N buffer buffer RecordingsDiffer
+    unfolding writeVerdict
+    differ h = turned-down refl (omega arith) (rw (← is-bad, few, ne-eqb _ _ h))
+
+    module _ (same : length b ≡ length a) (ok : Bool) (is : ok ≡ isLength N) where
+      pub bad-length : not ok ≡ true → WritePromise a b N buffer buffer BadLength
+      unfolding writeVerdict
+      bad-length h = turned-down refl (omega arith) (rw (← is-bad, few, eq-eqb _ _ same, ← is, h))
+
+      module _ (good : not ok ≡ false) (out : ℕ) (o : out ≡ firstOut (word a) 0 (length a)) where
+        abbrev last : Verdict
+        last = cond (ltb (length buffer) (fileBytes (length a))) (refused 3) accepted
+
+        abbrev of-b : Verdict
+        of-b = firstOutOr (word b) 0 (length b) last
+
+        past-1 : writeVerdict a b N (length buffer) ≡ firstOutOr (word a) 0 (length a) of-b
+        unfolding writeVerdict
+        past-1 = rw (← is-bad, few, eq-eqb _ _ same, ← is, good)
+
+        pub a-out : out < length a → WritePromise a b N buffer buffer (OutOfRange out)
+        a-out h = turned-down refl (omega arith) (past-1 ∙ first-beyond 6 _ (word a) 0 (length a) of-b o (omega arith))
+
+        module _ (beyond : ℕ) (in-a : length a ≤ out) (o₂ : beyond ≡ firstOut (word b) 0 (length a)) where
+          range-a : firstOut (word a) 0 (length a) ≡ 0 + length a
+          range-a = first-end _ _ 0 (length a) o (omega arith)
+
+          of-b-is : beyond ≡ firstOut (word b) 0 (length b)
+          of-b-is = rw same o₂
+
+          past-a : writeVerdict a b N (length buffer) ≡ of-b
+          past-a = past-1 ∙ none-beyond 6 _ (word a) 0 (length a) of-b range-a
+
+          pub b-out : beyond < length a → WritePromise a b N buffer buffer (OutOfRange beyond)
+          b-out h = turned-down refl (omega arith) (past-a ∙ first-beyond 6 _ (word b) 0 (length b) last of-b-is (omega arith))
+
+          module _ (in-b : length a ≤ beyond) where
+            range-b : firstOut (word b) 0 (length b) ≡ 0 + length b
+            range-b = first-end _ _ 0 (length b) of-b-is (omega arith)
+
+            past-b : writeVerdict a b N (length buffer) ≡ last
+            past-b = past-a ∙ none-beyond 6 _ (word b) 0 (length b) last range-b
+
+            pub too-short : length buffer < fileBytes (length a) → WritePromise a b N buffer buffer BufferTooShort
+            too-short h = turned-down refl (omega arith) (past-b ∙ rw (lt-ltb _ _ h))
+
+            pub all-passed : fileBytes (length a) ≤ length buffer → Writable a b N buffer
+            all-passed h =
+                let length-ok = sym is ∙ not-false ok good in
+                let sound = in-range a b N (length buffer) (sym is-bad ∙ few) same length-ok range-a range-b in
+                record {
+                  ready = (sound .most, same, length-le N length-ok, h);
+                  writes = λ p. carried-out refl (past-b ∙ rw (le-ltb _ _ h)) (record { file = p; same = same; sound = sound });
+                }

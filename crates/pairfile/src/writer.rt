@@ -1,0 +1,121 @@
+// The writer of the pair file: our own pair files (document 02, (ii)).
+use crate::count::bad_count;
+use little_endian::put_signed;
+use little_endian::put_unsigned;
+use refusals::length::is_length;
+use refusals::range::first_out;
+ghost use mathlib.Core.List.{flatMap};
+ghost use mathlib.Core.Path.{_≡_};
+ghost use Prim.Native.Nat.{_+_, _*_, _≤_};
+ghost use lib.ListN.{length};
+ghost use Rattle.words.specs.Put.{Put};
+ghost use Rattle.refusals.specs.Refusals.{number};
+ghost use Rattle.little_endian.specs.Numbers.{signedBytes};
+ghost use Rattle.pairfile.specs.OwnFile.{pairFile};
+ghost use Rattle.pairfile.specs.WriteAnswers.{verdictOf, bytesOf, placeOf};
+ghost use Rattle.pairfile.specs.Promises.{WritePromise};
+
+// The answer of the writer: a case for each refusal of document 02, or the bytes of the file that was written.
+pub enum WriteAnswer {
+    BadCount,
+    RecordingsDiffer,
+    BadLength,
+    OutOfRange(usize),
+    BufferTooShort,
+    Written(usize),
+}
+
+// The samples of a recording, put from byte `at` on; the answer is the place behind them.
+fn put_samples(recording: &[i32], file: &mut [u8], at: usize) -> usize
+    requires { ⌜ at + 4 * length (now recording) ≤ length (now file) ⌝ }
+    ensures { λ r. ⌜ Put (now (file .entry)) at (flatMap signedBytes (now (recording .entry))) r (now (file .exit)) ⌝ }
+{
+    let mut next = at;
+    let mut i = 0;
+    while i < recording.len() {
+        let x = recording[i];
+        next = put_signed(x, file, next);
+        i += 1;
+    }
+    next
+}
+
+// The whole file, put from byte 0 on; the answer is the number of its bytes.
+fn put_file(a: &[i32], b: &[i32], n: usize, file: &mut [u8]) -> usize
+    requires { ⌜ (length (now a) ≤ 4096) × (length (now b) ≡ length (now a)) × (n ≤ 1024) × (8 + 8 * length (now a) ≤ length (now file)) ⌝ }
+    ensures { λ r. ⌜ Put (now (file .entry)) 0 (pairFile (now (a .entry)) (now (b .entry)) n) r (now (file .exit)) ⌝ }
+{
+    let of_length = put_unsigned(a.len() as u32, file, 0);
+    let of_a = put_unsigned(n as u32, file, of_length);
+    let of_b = put_samples(a, file, of_a);
+    put_samples(b, file, of_b)
+}
+
+pub fn write(a: &[i32], b: &[i32], length: usize, file: &mut [u8]) -> WriteAnswer
+    ensures { λ r. ⌜ WritePromise (now (a .entry)) (now (b .entry)) length (now (file .entry)) (now (file .exit)) r ⌝ }
+{
+    let m = a.len();
+    if bad_count(m) {
+        return WriteAnswer::BadCount;
+    }
+    if b.len() != m {
+        return WriteAnswer::RecordingsDiffer;
+    }
+    if !is_length(length) {
+        return WriteAnswer::BadLength;
+    }
+    let out = first_out(a, 0, m);
+    if out < m {
+        return WriteAnswer::OutOfRange(out);
+    }
+    let beyond = first_out(b, 0, m);
+    if beyond < m {
+        return WriteAnswer::OutOfRange(beyond);
+    }
+    if file.len() < 8 + 8 * m {
+        return WriteAnswer::BufferTooShort;
+    }
+    WriteAnswer::Written(put_file(a, b, length, file))
+}
+
+// Document 02's number of an answer; 0 where the file was written.
+pub fn number_of(answer: WriteAnswer) -> u32
+    ensures { λ r. ⌜ r ≡ number (verdictOf answer) ⌝ }
+{
+    match answer {
+        WriteAnswer::BadCount => 8,
+        WriteAnswer::RecordingsDiffer => 11,
+        WriteAnswer::BadLength => 1,
+        WriteAnswer::OutOfRange(_) => 6,
+        WriteAnswer::BufferTooShort => 3,
+        WriteAnswer::Written(_) => 0,
+    }
+}
+
+// The bytes of a file that was written; else 0.
+pub fn bytes_of(answer: WriteAnswer) -> usize
+    ensures { λ r. ⌜ r ≡ bytesOf answer ⌝ }
+{
+    match answer {
+        WriteAnswer::Written(bytes) => bytes,
+        WriteAnswer::BadCount => 0,
+        WriteAnswer::RecordingsDiffer => 0,
+        WriteAnswer::BadLength => 0,
+        WriteAnswer::OutOfRange(_) => 0,
+        WriteAnswer::BufferTooShort => 0,
+    }
+}
+
+// The place of the first sample out of range, of refusal 6; else 0.
+pub fn place_of(answer: WriteAnswer) -> usize
+    ensures { λ r. ⌜ r ≡ placeOf answer ⌝ }
+{
+    match answer {
+        WriteAnswer::OutOfRange(place) => place,
+        WriteAnswer::BadCount => 0,
+        WriteAnswer::RecordingsDiffer => 0,
+        WriteAnswer::BadLength => 0,
+        WriteAnswer::BufferTooShort => 0,
+        WriteAnswer::Written(_) => 0,
+    }
+}
