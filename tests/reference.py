@@ -415,8 +415,9 @@ class Answer(NamedTuple):
     """What a call gives back.
 
     refusal is 0 for an accepted call, else the number of the table "When a call
-    is turned down", or 10 or 11 of document 02; place is given with refusals 6 and 10 only.  results
-    and counts are those of an accepted call; the way back has no counts.
+    is turned down", or 10 or 11 of document 02; place is given with refusals 6
+    and 10 only.  results and counts are those of an accepted call; the way back
+    has no counts.
     """
     refusal: int
     place: Optional[int] = None

@@ -200,13 +200,11 @@ def check_sizes(calls):
 
 
 def check_every_sample(calls):
-    """Every number that a sample can be, once."""
+    """Every number that a sample can be, once in a and once in b."""
     every = range(-LARGEST_SAMPLE, LARGEST_SAMPLE + 1)
-    for at in range(0, len(every), 2 * MOST_FILE_SAMPLES):
-        part = list(every[at:at + 2 * MOST_FILE_SAMPLES])
-        half = (len(part) + 1) // 2
-        name = "samples from %d to %d" % (part[0], part[-1])
-        calls.round_trip(name, part[:half], part[-half:], calls.rng.choice(LENGTHS), 5)
+    for at in range(0, len(every), MOST_FILE_SAMPLES):
+        a = list(every[at:at + MOST_FILE_SAMPLES])
+        calls.round_trip("samples from %d to %d" % (a[0], a[-1]), a, [-sample for sample in a], calls.rng.choice(LENGTHS), 5)
 
 
 def check_known(calls):
