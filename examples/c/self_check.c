@@ -364,7 +364,8 @@ static size_t stack_used(int call)
 
 int main(int argc, char **argv)
 {
-    static const char *const names[] = {"no call", "mealbis_spectrum", "mealbis_cosine", "mealbis_pair", "mealbis_counts", "mealbis_read", "mealbis_inverse_dct", "mealbis_write"};
+    static const char *const names[] = {"no call", "mealbis_spectrum", "mealbis_cosine", "mealbis_pair", "mealbis_counts", "mealbis_read",
+                                        "mealbis_inverse_dct", "mealbis_write"};
     size_t i, own;
     for (i = 0; i < MEALBIS_WORDS(x); i++) {
         x[i] = (int32_t)(i * 7919 % 2000001) - 1000000;
