@@ -42,18 +42,21 @@
  *   1  length is not one of the eleven lengths
  *   2  start + length is more than the words of a recording; a sum beyond SIZE_MAX is more, too;
  *      in mealbis_inverse_dct, fewer than length coefficients are stored
- *   3  a result buffer is too short; in mealbis_read, a recording is shorter than the file's samples
+ *   3  a result buffer is too short; in mealbis_read, a recording is shorter than the file's samples;
+ *      in mealbis_write, the buffer of the file is shorter than 8 + 8 * samples bytes
  *   4  scratch is shorter than 8 * length + 64 words
  *   5  the allowance is below the products that the call spends
- *   6  a sample of the block is out of range; *place is the first such place
+ *   6  a sample is out of range, of the block or, in mealbis_read and mealbis_write, of the two whole
+ *      recordings; *place is the first such place
  *   7  the file is shorter than 8 bytes
- *   8  the file's sample count is 0 or above 4,096
+ *   8  the file's sample count is 0 or above 4,096; in mealbis_write, the words of a are
  *   9  the file's length is not 8 + 8 * samples bytes
  *  10  a stored coefficient is beyond length * 1,000,000 + length on either side; *place is the
  *      first such k
+ *  11  the two recordings of mealbis_write differ in length
  *
  * After a refusal every buffer is as it was. The single words (products, sums, place, samples,
- * length, the six counts) are written in EVERY answer, so that none keeps an old value:
+ * length, bytes, the six counts) are written in EVERY answer, so that none keeps an old value:
  *   - counts and sizes hold what the function says when it accepts, and 0 after a refusal;
  *   - *place holds the place after refusals 6 and 10, and 0 in every other answer. After 6 it counts
  *     from 0 at the first sample of the recording, not of the block; after 10 it is the coefficient's
@@ -67,23 +70,25 @@
  *
  * ---- Buffers
  *
- *   - A buffer is a pointer and a count of WORDS, not of bytes (of bytes for the file). It may be
- *     longer than needed; the words beyond those listed at the function stay as they are.
- *   - What a call writes (results, scratch, the recordings of mealbis_read, the single words) must
- *     not overlap anything else that the call is given. What it only reads may overlap: a and b of
- *     mealbis_pair may be one recording. Recordings, stored coefficients and files may lie in
- *     read-only memory.
+ *   - A buffer is a pointer and a count of WORDS, not of bytes (of bytes for a file). It may be
+ *     longer than needed; the words beyond those listed at the function stay as they are. But
+ *     mealbis_read takes the whole file and mealbis_write both recordings whole: there the counts
+ *     say how long they are.
+ *   - What a call writes (results, scratch, the recordings of mealbis_read, the file of
+ *     mealbis_write, the single words) must not overlap anything else that the call is given. What
+ *     it only reads may overlap: a and b of mealbis_pair, or of mealbis_write, may be one recording.
+ *     Recordings, stored coefficients and files that are only read may lie in read-only memory.
  *   - While a call runs, nobody else may write its buffers, nor read those that it writes: no other
  *     thread, no interrupt handler, no DMA transfer.
  *   - Pointers are aligned as their type asks: 4 bytes for int32_t, 8 for int64_t, uint64_t and
- *     size_t, 1 for the file.
- *   - Results, scratch and the single words may hold anything before a call. After an accepted call
- *     the first 8 * length + 64 words of scratch are 0.
- *   - An empty buffer (count 0) is refused, by 1, 2, 3, 4 or 7, and nothing is read or written
- *     through its pointer. NULL with count 0 is answered in the same way: so it is in the library as
- *     it is built today, and examples/c/self_check.c tries it for each buffer. But it is not
- *     promised: the proof is about slices of memory and does not know a null pointer. Pass the
- *     address of any object with count 0 to rely on nothing but the proof.
+ *     size_t, 1 for a file.
+ *   - What a call writes may hold anything before it. After an accepted call the first
+ *     8 * length + 64 words of scratch are 0.
+ *   - An empty buffer (count 0) is refused, by 2, 3, 4, 7, 8 or 11 where no earlier condition holds,
+ *     and nothing is read or written through its pointer. NULL with count 0 is answered in the same
+ *     way: so it is in the library as it is built today, and examples/c/self_check.c tries it for
+ *     each buffer. But it is not promised: the proof is about slices of memory and does not know a
+ *     null pointer. Pass the address of any object with count 0 to rely on nothing but the proof.
  *   - NULL with another count, or for a single word, is the caller's error and is not tested.
  *
  * ---- What a call needs
@@ -115,7 +120,7 @@ extern "C" {
 #endif
 
 /* The version, 10000 major + 100 minor + patch: of this header, and of the archive that is linked. */
-#define MEALBIS_VERSION 10100u
+#define MEALBIS_VERSION 10200u
 uint32_t mealbis_version(void);
 
 /* The answers. */
@@ -127,9 +132,10 @@ uint32_t mealbis_version(void);
 #define MEALBIS_ALLOWANCE_TOO_SMALL 5u
 #define MEALBIS_OUT_OF_RANGE 6u
 #define MEALBIS_FILE_BELOW_HEADER 7u
-#define MEALBIS_BAD_SAMPLE_COUNT 8u
+#define MEALBIS_BAD_SAMPLE_COUNT 8u /* in mealbis_write: by the words of a */
 #define MEALBIS_BAD_FILE_LENGTH 9u
 #define MEALBIS_COEFFICIENT_BEYOND_LIMIT 10u
+#define MEALBIS_RECORDINGS_DIFFER 11u
 
 /* Sizes. */
 #define MEALBIS_LONGEST_BLOCK 1024
@@ -253,6 +259,29 @@ uint32_t mealbis_read(
     int32_t *a, size_t a_words,
     int32_t *b, size_t b_words,
     size_t *samples, size_t *length, size_t *place);
+
+/*
+ * Writes a pair file: the bytes that mealbis_read reads, for two recordings of m samples each and a
+ * block length N. With m = a_words it writes 8 + 8 m bytes, MEALBIS_FILE_BYTES(m), to the front of
+ * `file`: m and N, 32 bits unsigned each, then the m samples of a and the m samples of b, 32 bits
+ * signed, all little-endian. *bytes is how many they are, and the bytes after them stay.
+ * Tests 8 (by a_words), 11, 1, 6, 3; 6 examines all samples of a, then those of b, and *place does
+ * not say in which of them the sample is: where a's sample there is in range, it is b's.
+ *
+ * Each accepted input has one file, and mealbis_read returns the input from it: *samples = m,
+ * *length = N, and every sample of a and of b. Any N of the eleven lengths will do, also one above
+ * m; such a file has no block.
+ *
+ *   a, a_words          the m samples: 1 to 4,096 words
+ *   b, b_words          just as many words
+ *   file, file_bytes    at least 8 + 8 m bytes; 32,776 are enough for every file
+ */
+uint32_t mealbis_write(
+    const int32_t *a, size_t a_words,
+    const int32_t *b, size_t b_words,
+    size_t length,
+    uint8_t *file, size_t file_bytes,
+    size_t *bytes, size_t *place);
 
 #ifdef __cplusplus
 }

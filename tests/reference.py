@@ -1,4 +1,4 @@
-"""Reference implementation of docs/01-scope.md and of request (i) of document 02, for tests only.
+"""Reference implementation of docs/01-scope.md and of requests (i) and (ii) of document 02, for tests only.
 
 This module was written from the papers alone (documents 01 and 02, and source
 document 001 for the equations) and shares no code with the product.  It says
@@ -12,7 +12,8 @@ what every call answers, in whole numbers of any size, with no thought for speed
   the exact sums       exact_cosine(x, k) .. exact_imaginary(a, b, k), all times 2^80
   the distances        within_eighth, within_quarter_more, within_quarter
   the calls            spectrum_call, cosine_call, pair_call, inverse_call, count_query
-  the pair file        read_pair_file(data, a_len, b_len), pairspec(data)
+  the pair file        read_pair_file(data, a_len, b_len), pairspec(data),
+                       write_pair_file(a, b, length, file_len)
   telling blocks       DIFFERS_FROM_DIRECT, TIES, INVERSE_TIES
 
 N is always the length of a block, C a cosine-DFT, S a sine-DFT.  Numbers in
@@ -414,8 +415,9 @@ class Answer(NamedTuple):
     """What a call gives back.
 
     refusal is 0 for an accepted call, else the number of the table "When a call
-    is turned down", or 10; place is given with refusals 6 and 10 only.  results
-    and counts are those of an accepted call; the way back has no counts.
+    is turned down", or 10 or 11 of document 02; place is given with refusals 6
+    and 10 only.  results and counts are those of an accepted call; the way back
+    has no counts.
     """
     refusal: int
     place: Optional[int] = None
@@ -429,6 +431,12 @@ def first_out_of_range(recording, start, end, largest=LARGEST_SAMPLE):
         if not -largest <= recording[place] <= largest:
             return place
     return None
+
+
+def first_out_of_any(recordings, start, end):
+    """The same place in the first of the recordings that has one."""
+    places = (first_out_of_range(recording, start, end) for recording in recordings)
+    return next((place for place in places if place is not None), None)
 
 
 def scratch_words(N):
@@ -457,11 +465,8 @@ def turned_down(recordings, start, N, allowance, result_words, result_lens,
         return Answer(4)
     if allowance < products(N):
         return Answer(5)
-    for recording in recordings:
-        place = first_out_of_range(recording, start, start + N)
-        if place is not None:
-            return Answer(6, place)
-    return None
+    place = first_out_of_any(recordings, start, start + N)
+    return None if place is None else Answer(6, place)
 
 
 def spectrum_call(recording, start, length, allowance, cosine_len, sine_len, scratch_len):
@@ -520,6 +525,11 @@ def count_query(length):
 
 # --- The pair file and the program ---------------------------------------------
 
+def file_size(m):
+    """The bytes of a file with m samples of each recording."""
+    return 8 + 8 * m
+
+
 class PairFile(NamedTuple):
     """What reading a pair file gives back; a and b are the m words written to each
     lent recording.  refusal and place are as in Answer."""
@@ -537,7 +547,7 @@ def read_pair_file(data, a_len, b_len):
     m, N = struct.unpack_from("<II", data)
     if m == 0 or m > MOST_FILE_SAMPLES:
         return PairFile(8)
-    if len(data) != 8 + 8 * m:
+    if len(data) != file_size(m):
         return PairFile(9)
     if N not in LENGTHS:
         return PairFile(1)
@@ -545,11 +555,36 @@ def read_pair_file(data, a_len, b_len):
         return PairFile(3)
     samples = struct.unpack_from("<%di" % (2 * m), data, 8)
     a, b = samples[:m], samples[m:]
-    for recording in (a, b):
-        place = first_out_of_range(recording, 0, m)
-        if place is not None:
-            return PairFile(6, place)
+    place = first_out_of_any((a, b), 0, m)
+    if place is not None:
+        return PairFile(6, place)
     return PairFile(0, None, m, N, a, b)
+
+
+class WrittenFile(NamedTuple):
+    """What writing a pair file gives back; data is the file, which stands in the first
+    bytes of the lent buffer.  refusal and place are as in Answer."""
+    refusal: int
+    place: Optional[int] = None
+    data: bytes = b""
+
+
+def write_pair_file(a, b, length, file_len):
+    m = len(a)
+    if m == 0 or m > MOST_FILE_SAMPLES:
+        return WrittenFile(8)
+    if len(b) != m:
+        return WrittenFile(11)
+    if length not in LENGTHS:
+        return WrittenFile(1)
+    place = first_out_of_any((a, b), 0, m)
+    if place is not None:
+        return WrittenFile(6, place)
+    if file_len < file_size(m):
+        return WrittenFile(3)
+    sizes = [size.to_bytes(4, "little") for size in (m, length)]
+    samples = [sample.to_bytes(4, "little", signed=True) for sample in (*a, *b)]
+    return WrittenFile(0, None, b"".join(sizes + samples))
 
 
 def pairspec(data):

@@ -7,8 +7,10 @@ printed with its traceback. The last line is 'N passed, M failed'.
 import itertools
 import math
 import operator
+import pathlib
 import random
 import struct
+import subprocess
 import sys
 import time
 import traceback
@@ -18,6 +20,7 @@ import reference as ref
 
 MOST = ref.LARGEST_SAMPLE
 TOO_MUCH = MOST + 1
+EXAMPLES = pathlib.Path(__file__).resolve().parent.parent / "examples"
 
 
 def random_block(rng, N):
@@ -536,6 +539,79 @@ def check_pairspec():
             for k, parts in enumerate(zip(*ref.pair(a[part], b[part])[:2])):
                 expected = [block, k, *parts]
                 assert lines[1 + block * length + k] == " ".join(map(str, expected))
+
+
+# --- The writer of the pair file ------------------------------------------------
+
+def check_written_bytes():
+    """files written by hand, byte for byte: the paper's example, negative samples, the ends of the range"""
+    for a, b, length, written in (
+            ([3, 1], [0, 2], 2, "02000000 02000000  03000000 01000000  00000000 02000000"),
+            ([7], [-1], 1, "01000000 01000000  07000000  ffffffff"),
+            ([-2, -256, 255], [256, -257, -65536], 1024,
+             "03000000 00040000  feffffff 00ffffff ff000000  00010000 fffeffff 0000ffff"),
+            ([MOST, -MOST], [999_999, -999_999], 512, "02000000 00020000  40420f00 c0bdf0ff  3f420f00 c1bdf0ff"),
+            ([123_456, -123_456], [65_535, 65_536], 8, "02000000 08000000  40e20100 c01dfeff  ffff0000 00000100")):
+        data = bytes.fromhex(written)
+        for more in (0, 1, 100):
+            assert ref.write_pair_file(a, b, length, len(data) + more) == ref.WrittenFile(0, None, data)
+        assert ref.write_pair_file(a, b, length, len(data) - 1) == ref.WrittenFile(3)
+    most = ref.write_pair_file([0] * 4096, [0] * 4096, 1, 32_776)
+    assert most == ref.WrittenFile(0, None, bytes.fromhex("00100000 01000000") + bytes(32_768))
+
+
+def check_written_and_read():
+    """files of every length, written and read: the input; read and written: the file; struct and the example write the same"""
+    rng = random.Random(22)
+    for length, m in itertools.product(ref.LENGTHS, (1, 2, 5, 64, 300, 4095, 4096)):
+        a, b = random_block(rng, m), random_block(rng, m)
+        data = ref.write_pair_file(a, b, length, 8 + 8 * m).data
+        assert data == file_bytes(a, b, length)
+        assert ref.read_pair_file(data, m, m) == ref.PairFile(0, None, m, length, tuple(a), tuple(b))
+    example = subprocess.run([sys.executable, EXAMPLES / "train_crossing.py"], check=True, stdout=subprocess.PIPE).stdout
+    for data in (example, (EXAMPLES / "train_crossing.pair").read_bytes()):
+        read = ref.read_pair_file(data, 4096, 4096)
+        assert (read.refusal, read.m, read.length) == (0, 600, 256)
+        assert ref.write_pair_file(read.a, read.b, read.length, 4808).data == data
+
+
+def broken_write(numbers, samples):
+    """The call with every one of the numbered conditions made to hold; 8 by this many samples."""
+    m = samples if 8 in numbers else 6
+    a, b = list(range(m)), list(range(m + 1 if 11 in numbers else m))
+    if 6 in numbers and b:
+        b[len(b) // 2] = -TOO_MUCH
+    return dict(a=a, b=b, length=12 if 1 in numbers else 4, file_len=8 * m + (7 if 3 in numbers else 8))
+
+
+def check_write_refusals_together():
+    """every set of refusals 8, 11, 1, 6, 3 of the writer: the earliest wins"""
+    order = (8, 11, 1, 6, 3)
+    assert ref.write_pair_file(**broken_write((), 0)).refusal == 0
+    for numbers, samples in itertools.product(subsets(order), (0, 4097)):
+        first = min(numbers, key=order.index)
+        expected = ref.WrittenFile(first, 3 if first == 6 else None)
+        assert ref.write_pair_file(**broken_write(numbers, samples)) == expected, numbers
+
+
+def check_write_refusal_edges():
+    """each refusal of the writer at its edge: sizes, lengths, the range on both sides at every place, a before b"""
+    write = ref.write_pair_file
+    for m in (0, 4097, 5000):
+        assert write([0] * m, [0] * m, 8, 10 ** 6) == ref.WrittenFile(8)
+        assert write([0] * m, [0] * 3, 8, 10 ** 6) == ref.WrittenFile(8)
+    for m in (1, 3, 4096):
+        for other in (0, m - 1, m + 1, 2 * m):
+            assert write([0] * m, [0] * other, 8, 10 ** 6) == ref.WrittenFile(11)
+        for size in (0, 7, 8, 8 * m, 8 * m + 7):
+            assert write([0] * m, [0] * m, 8, size) == ref.WrittenFile(3)
+    for length in (0, 3, 5, 6, 7, 9, 1023, 1025, 2048, 2 ** 32, 2 ** 32 + 8, 2 ** 63, 2 ** 64 - 1):
+        assert write([0], [0], length, 16) == ref.WrittenFile(1)
+    for place, sample in itertools.product(range(3), (TOO_MUCH, -TOO_MUCH, 2 ** 31 - 1, -2 ** 31)):
+        spoilt = [sample if n == place else 0 for n in range(3)]
+        assert write(spoilt, [0] * 3, 8, 32) == write([0] * 3, spoilt, 8, 32) == ref.WrittenFile(6, place)
+    assert write([0, 0, TOO_MUCH], [TOO_MUCH, 0, 0], 8, 32) == ref.WrittenFile(6, 2)
+    assert write([TOO_MUCH, 0, 0], [0, 0, TOO_MUCH], 8, 32) == ref.WrittenFile(6, 0)
 
 
 def run():

@@ -13,9 +13,9 @@
 
 static int32_t x[LONGEST + 8], y[LONGEST + 8], one[LONGEST + 8], two[LONGEST + 8], kept[LONGEST + 8], stored[LONGEST + 8];
 static int64_t scratch[MEALBIS_SCRATCH_WORDS(LONGEST) + 8];
-static uint8_t file[MEALBIS_FILE_BYTES(8)];
+static uint8_t file[MEALBIS_FILE_BYTES(8)], made[MEALBIS_FILE_BYTES(LONGEST) + 8], kept_bytes[sizeof made];
 static uint64_t products, sums, six[6];
-static size_t place, samples, length;
+static size_t place, samples, length, bytes;
 static uint32_t answer;
 static int passed, failed;
 
@@ -35,6 +35,8 @@ static void mark(void)
     memset(one, 0x55, sizeof one);
     memset(two, 0x55, sizeof two);
     memset(kept, 0x55, sizeof kept);
+    memset(made, 0x55, sizeof made);
+    memset(kept_bytes, 0x55, sizeof kept_bytes);
     memset(scratch, 0x55, sizeof scratch);
     memset(six, 0x55, sizeof six);
     memset(&products, 0x55, sizeof products);
@@ -42,6 +44,7 @@ static void mark(void)
     memset(&place, 0x55, sizeof place);
     memset(&samples, 0x55, sizeof samples);
     memset(&length, 0x55, sizeof length);
+    memset(&bytes, 0x55, sizeof bytes);
 }
 
 /* A call refused with this number (and place) leaves 0 in the words and the buffers as they were. */
@@ -64,6 +67,7 @@ static void refused(uint32_t number, size_t at, const char *what)
 #define PAIR(...) (mark(), answer = mealbis_pair(__VA_ARGS__, &products, &sums, &place))
 #define INVERSE(...) (mark(), answer = mealbis_inverse_dct(__VA_ARGS__, &place))
 #define READ(...) (mark(), answer = mealbis_read(__VA_ARGS__, &samples, &length, &place))
+#define WRITE(...) (mark(), answer = mealbis_write(__VA_ARGS__, &bytes, &place))
 
 static void calls(void)
 {
@@ -246,6 +250,50 @@ static void files(void)
     check(one[0] == 0 && two[0] == 7 && one[8] == kept[8] && two[8] == kept[8], "its samples, and no more", 8);
 }
 
+static void write_refused(uint32_t number, size_t at, const char *what)
+{
+    check(answer == number && bytes == 0, what, answer);
+    check(place == at, what, place);
+    check(!memcmp(made, kept_bytes, sizeof made), what, number);
+}
+
+/* n samples of x and of y written and read again: the same, and the bytes and words beyond them as they were. */
+static void written_and_read(size_t n)
+{
+    static uint8_t written[sizeof made];
+    size_t of_file = MEALBIS_FILE_BYTES(n);
+    WRITE(x, n, y, n, 256, made, sizeof made);
+    check(answer == 0 && bytes == of_file && place == 0, "a file is written", n);
+    check(!memcmp(made + of_file, kept_bytes + of_file, sizeof made - of_file), "and not a byte more", n);
+    memcpy(written, made, of_file); /* not `made`, which each call marks */
+    READ(written, of_file, one, MEALBIS_WORDS(one), two, MEALBIS_WORDS(two));
+    check(answer == 0 && samples == n && length == 256 && place == 0, "the file is read", n);
+    check(!memcmp(one, x, n * sizeof x[0]) && !memcmp(two, y, n * sizeof y[0]), "it has the samples", n);
+    check(!memcmp(one + n, kept + n, sizeof one - n * sizeof one[0]) && !memcmp(two + n, kept + n, sizeof two - n * sizeof two[0]), "and no more", n);
+}
+
+static void written_files(void)
+{
+    static const int32_t a[2] = {3, 1}, b[2] = {0, 2}, ends[2] = {-1000000, 1000000};
+    static const uint8_t example[24] = {2, 0, 0, 0, 2, 0, 0, 0, 3, 0, 0, 0, 1, 0, 0, 0, 0, 0, 0, 0, 2, 0, 0, 0};
+    static const uint8_t of_ends[24] = {2, 0, 0, 0, 0, 4, 0, 0, 0xc0, 0xbd, 0xf0, 0xff, 0x40, 0x42, 0x0f, 0, 0xc0, 0xbd, 0xf0, 0xff, 0x40, 0x42, 0x0f, 0};
+    static int32_t long_one[MEALBIS_MOST_FILE_SAMPLES + 1];
+    size_t n;
+    WRITE(a, 2, b, 2, 2, made, 24), check(answer == 0 && bytes == 24 && place == 0 && !memcmp(made, example, 24), "document 01's file", bytes);
+    check(made[24] == kept_bytes[24], "just its bytes", 24);
+    WRITE(ends, 2, ends, 2, 1024, made, 30), check(answer == 0 && bytes == 24 && !memcmp(made, of_ends, 24), "both recordings one", bytes);
+    for (n = 1; n <= LONGEST; n = n < 8 ? n + 1 : 2 * n)
+        written_and_read(n);
+    long_one[5] = INT32_MIN;
+    WRITE(long_one, 4097, long_one, 4096, 3, made, 24), write_refused(8, 0, "write, 4097 samples");
+    WRITE(long_one, 4096, long_one, 4097, 3, made, 24), write_refused(11, 0, "write, recordings of two lengths");
+    WRITE(long_one, 4096, long_one, 4096, 3, made, 24), write_refused(1, 0, "write, blocks of 3");
+    WRITE(long_one, 4096, long_one, 4096, SIZE_MAX, made, 24), write_refused(1, 0, "write, blocks of SIZE_MAX");
+    WRITE(long_one, 4096, long_one, 4096, 4, made, 24), write_refused(6, 5, "write, sample 5");
+    WRITE(x, 8, long_one, 8, 4, made, 24), write_refused(6, 5, "write, sample 5 of b");
+    WRITE(x, 8, y, 8, 4, made, 71), write_refused(3, 0, "write, a byte too few");
+}
+
 /* NULL with count 0, for each buffer and for all. */
 static void empty_buffers(void)
 {
@@ -273,6 +321,11 @@ static void empty_buffers(void)
     READ(file, sizeof file, NULL, 0, two, 8), file_refused(3, 0, "no recording a");
     READ(file, sizeof file, one, 8, NULL, 0), file_refused(3, 0, "no recording b");
     READ(NULL, 0, NULL, 0, NULL, 0), file_refused(7, 0, "no file and no recordings");
+    WRITE(NULL, 0, y, 8, 4, made, 72), write_refused(8, 0, "write, no a");
+    WRITE(x, 8, NULL, 0, 4, made, 72), write_refused(11, 0, "write, no b");
+    WRITE(x, 8, y, 8, 4, NULL, 0), write_refused(3, 0, "write, no file");
+    WRITE(x, 8, y, 8, 7, NULL, 0), write_refused(1, 0, "write, no file, blocks of 7");
+    WRITE(NULL, 0, NULL, 0, 4, NULL, 0), write_refused(8, 0, "write, nothing");
 }
 
 /* The stack of each call at the greatest length: it runs on a marked stack of its own. */
@@ -289,6 +342,7 @@ static void on_stack(void)
     case 4: mealbis_counts(LONGEST, six, six + 1, six + 2, six + 3, six + 4, six + 5); break;
     case 5: mealbis_read(file, sizeof file, one, 8, two, 8, &samples, &length, &place); break;
     case 6: mealbis_inverse_dct(x, LONGEST, LONGEST, one, LONGEST, &place); break;
+    case 7: mealbis_write(x, LONGEST, y, LONGEST, LONGEST, made, sizeof made, &bytes, &place); break;
     }
 }
 
@@ -310,7 +364,8 @@ static size_t stack_used(int call)
 
 int main(int argc, char **argv)
 {
-    static const char *const names[] = {"no call", "mealbis_spectrum", "mealbis_cosine", "mealbis_pair", "mealbis_counts", "mealbis_read", "mealbis_inverse_dct"};
+    static const char *const names[] = {"no call", "mealbis_spectrum", "mealbis_cosine", "mealbis_pair", "mealbis_counts", "mealbis_read",
+                                        "mealbis_inverse_dct", "mealbis_write"};
     size_t i, own;
     for (i = 0; i < MEALBIS_WORDS(x); i++) {
         x[i] = (int32_t)(i * 7919 % 2000001) - 1000000;
@@ -322,6 +377,7 @@ int main(int argc, char **argv)
     meaning();
     inverses();
     files();
+    written_files();
     empty_buffers();
     own = stack_used(0); /* what on_stack takes itself */
     for (i = 1; i < MEALBIS_WORDS(names); i++) {

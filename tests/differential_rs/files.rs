@@ -94,20 +94,20 @@ impl File {
 
 // ---- files that are made
 
-fn file_of(m: u32, n: u32, a: &[i32], b: &[i32]) -> Vec<u8> {
+pub fn file_of(m: u32, n: u32, a: &[i32], b: &[i32]) -> Vec<u8> {
     let mut bytes = [m.to_le_bytes(), n.to_le_bytes()].concat();
     bytes.extend(a.iter().chain(b).flat_map(|v| v.to_le_bytes()));
     bytes
 }
 
-fn samples(m: usize, random: &mut Random) -> Vec<i32> {
+pub fn samples(m: usize, random: &mut Random) -> Vec<i32> {
     match random.below(4) {
         0 => (0..m).map(|_| random.of(&[LARGEST, -LARGEST, 0, 1, -1])).collect(),
         _ => (0..m).map(|_| sample(random)).collect(),
     }
 }
 
-fn sizes(index: u64, random: &mut Random) -> (usize, usize) {
+pub fn sizes(index: u64, random: &mut Random) -> (usize, usize) {
     let n = LENGTHS[index as usize % 11];
     let any = 1 + random.below(300);
     let m = random.of(&[1, 2, n, n + 1, 2 * n - 1, 3 * n, 4095, 4096, any, any]);
@@ -120,7 +120,7 @@ pub fn legal_item(run: &mut Run, index: u64, random: &mut Random) {
     run.read(&file, random);
 }
 
-fn legal(index: u64, random: &mut Random) -> File {
+pub fn legal(index: u64, random: &mut Random) -> File {
     let (m, n) = sizes(index, random);
     let bytes = file_of(m as u32, n as u32, &samples(m, random), &samples(m, random));
     let spare = [0, 0, 1, 2, 9, 50];

@@ -4,7 +4,7 @@ use crate::calls::{Call, Kind, KINDS, LARGEST, LENGTHS};
 use crate::random::Random;
 use crate::run::Run;
 
-const OUT: [i32; 4] = [LARGEST + 1, -LARGEST - 1, i32::MAX, i32::MIN];
+pub const OUT: [i32; 4] = [LARGEST + 1, -LARGEST - 1, i32::MAX, i32::MIN];
 
 // ---- every set of refusals together
 
@@ -120,7 +120,7 @@ fn extreme_words(kind: Kind, length: usize, random: &mut Random) -> usize {
     random.of(&[0, 1, listed, listed, listed, listed + 1, listed.saturating_sub(1), 5, 513])
 }
 
-fn recording(len: usize, random: &mut Random) -> Vec<i32> {
+pub fn recording(len: usize, random: &mut Random) -> Vec<i32> {
     let mut samples: Vec<i32> = (0..len).map(|_| sample(random)).collect();
     if len > 0 && random.one_in(2) {
         samples[random.below(len)] = random.of(&OUT);

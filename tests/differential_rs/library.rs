@@ -84,6 +84,18 @@ extern "C" {
         length: *mut usize,
         place: *mut usize,
     ) -> u32;
+
+    pub fn mealbis_write(
+        a: *const i32,
+        a_len: usize,
+        b: *const i32,
+        b_len: usize,
+        length: usize,
+        file: *mut u8,
+        file_len: usize,
+        bytes: *mut usize,
+        place: *mut usize,
+    ) -> u32;
 }
 
 // ---- lent memory

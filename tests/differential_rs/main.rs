@@ -2,8 +2,8 @@
 //
 //     tests/differential [--seed S] [--seconds T | --rounds R] [--table FILE] [--item CLASS INDEX]
 //
-// Document 01 and request (i) of document 02 are implemented here once more, and the exact sums are evaluated term by term. The answer of every call, its counts, its results
-// and the words that it must not touch are compared with them.
+// Document 01 and requests (i) and (ii) of document 02 are implemented here once more, and the exact sums are evaluated term by term. The answer of every call, its counts,
+// its results and the words that it must not touch are compared with them.
 // Each class of calls is gone through once, then in rounds until the time is up or R rounds are made. --table writes docs/DISTANCES.md, --item repeats one item.
 // The last line is 'N passed, 0 failed', N the calls compared.
 mod back;
@@ -21,9 +21,10 @@ mod run;
 mod stored;
 mod ties;
 mod transforms;
+mod written;
 
 use random::Random;
-use record::{with_commas, FUNCTIONS, INVERSE, READ};
+use record::{with_commas, FUNCTIONS, INVERSE, READ, WRITE};
 use run::Run;
 use std::time::{Duration, Instant};
 
@@ -53,6 +54,10 @@ fn classes() -> Vec<Class> {
         class("extreme-stored", back::extreme_item, 1000, 20),
         class("trips", back::trip_item, (blocks::PATTERNS * 11) as u64, 11),
         class("trip-climb", back::trip_climb_item, 11, 1),
+        class("written", written::trip_item, 330, 11),
+        class("written-again", written::again_item, 110, 11),
+        class("flawed-written", written::flawed_item, written::SETS, 16),
+        class("extreme-written", written::extreme_item, 1000, 20),
     ]
 }
 
@@ -72,6 +77,7 @@ fn main() {
     let mut run = Run::new();
     known::self_check(&run.rules);
     stored::self_check(&run.rules.circle);
+    written::self_check();
     let rounds = match &words.item {
         Some((name, index)) => one_item(&mut run, words.seed, name, *index),
         None => whole_run(&mut run, &words),
@@ -130,10 +136,11 @@ fn one_item(run: &mut Run, seed: u64, name: &str, index: u64) -> u64 {
 
 // Two or three refusals that can hold together must have done so on some call.
 fn require_sets(run: &mut Run) {
-    for function in [0, 1, 2, READ, INVERSE] {
+    for function in [0, 1, 2, READ, INVERSE, WRITE] {
         let (order, impossible) = match function {
             READ => (&files::ORDER[..], &files::IMPOSSIBLE[..]),
             INVERSE => (&stored::ORDER[..], &[][..]),
+            WRITE => (&written::ORDER[..], &[][..]),
             _ => (&[1, 2, 3, 4, 5, 6][..], &[][..]),
         };
         for set in twos_and_threes(order) {

@@ -4,10 +4,11 @@ use crate::exact::{Part, ONE, PARTS};
 use std::collections::BTreeSet;
 
 // The functions of the library, in the order of FUNCTIONS.
-pub const FUNCTIONS: [&str; 6] = ["Spectrum", "Cosine", "Pair", "counts", "read", "inverse DCT"];
+pub const FUNCTIONS: [&str; 7] = ["Spectrum", "Cosine", "Pair", "counts", "read", "inverse DCT", "write"];
 pub const COUNTS: usize = 3;
 pub const READ: usize = 4;
 pub const INVERSE: usize = 5;
+pub const WRITE: usize = 6;
 
 pub fn function_of(kind: Kind) -> usize {
     match kind {
@@ -20,9 +21,9 @@ pub fn function_of(kind: Kind) -> usize {
 #[derive(Default)]
 pub struct Record {
     // calls by function and by the number answered
-    answers: [[u64; 11]; 6],
+    answers: [[u64; 12]; 7],
     // the sets of refusals whose conditions held on a call, by function
-    together: [BTreeSet<Vec<u32>>; 6],
+    together: [BTreeSet<Vec<u32>>; 7],
     // accepted blocks, and coefficients compared with their exact sums, by level
     pub blocks: [u64; 11],
     pub coefficients: [u64; 11],

@@ -4,8 +4,9 @@ use crate::exact::{distance, within, Part};
 use crate::files::File;
 use crate::library::*;
 use crate::random::Random;
-use crate::record::{function_of, Record, COUNTS, INVERSE, READ};
+use crate::record::{function_of, Record, COUNTS, INVERSE, READ, WRITE};
 use crate::stored::{rounded, Stored, StoredAnswer};
+use crate::written::Writing;
 
 pub struct Run {
     pub rules: Rules,
@@ -117,7 +118,7 @@ impl Run {
         before
     }
 
-    // ---- the count query and the reader
+    // ---- the count query, the reader and the writer
 
     pub fn counts(&mut self, length: usize, random: &mut Random) {
         let expected = self.rules.counts(length);
@@ -129,14 +130,14 @@ impl Run {
         let p: Vec<*mut u64> = lent.iter_mut().map(|word| word.pointer()).collect();
         let number = unsafe { mealbis_counts(length, p[0], p[1], p[2], p[3], p[4], p[5]) };
 
-        let mut wrong = differences(&lent.iter().map(Lent::difference).collect::<Vec<_>>());
         let correct = if expected.is_some() { 0 } else { 1 };
-        wrong.extend(wrong_number(number, correct));
         self.record.answer(COUNTS, correct, &[]);
-        self.fail(wrong, || format!("counts of length {length}"));
+        let found = lent.iter().map(Lent::difference).collect();
+        self.end(found, number, correct, || format!("counts of length {length}"));
     }
 
-    pub fn read(&mut self, file: &File, random: &mut Random) {
+    // the words that stand in both recordings then
+    pub fn read(&mut self, file: &File, random: &mut Random) -> [Vec<i32>; 2] {
         let answer = file.answer();
         let mut bytes = Lent::holding("the file", &file.bytes, random);
         let mut recordings = [Lent::filled("a", file.a_words, random), Lent::filled("b", file.b_words, random)];
@@ -156,10 +157,48 @@ impl Run {
         let mut found = vec![bytes.difference()];
         found.extend(recordings.iter().map(Lent::difference));
         found.extend(sizes.iter().map(Lent::difference));
-        let mut wrong = differences(&found);
-        wrong.extend(wrong_number(number, answer.number));
         self.record.answer(READ, answer.number, &file.holding());
-        self.fail(wrong, || file.described());
+        self.end(found, number, answer.number, || file.described());
+        recordings.map(|recording| recording.words().to_vec())
+    }
+
+    // the bytes that stand in the buffer then
+    pub fn write(&mut self, call: &Writing, random: &mut Random) -> Vec<u8> {
+        let answer = call.answer();
+        let mut recordings = [Lent::holding("a", &call.a, random), Lent::holding("b", &call.b, random)];
+        let mut file = Lent::filled("the file", call.bytes, random);
+        let mut words = ["the bytes", "the place"].map(|name| Lent::<usize>::filled(name, 1, random));
+        file.expect(&answer.file);
+        for (word, value) in words.iter_mut().zip([answer.file.len(), answer.place]) {
+            word.expect(&[value]);
+        }
+        let number = {
+            let [(a, a_len), (b, b_len)] = recordings.each_mut().map(|recording| (recording.pointer(), recording.len()));
+            let b = if call.same_words { a } else { b };
+            let [bytes, place] = words.each_mut().map(Lent::pointer);
+            unsafe { mealbis_write(a, a_len, b, b_len, call.length, file.pointer(), file.len(), bytes, place) }
+        };
+
+        let mut found = vec![file.difference()];
+        found.extend(recordings.iter().map(Lent::difference));
+        found.extend(words.iter().map(Lent::difference));
+        self.record.answer(WRITE, answer.number, &call.holding());
+        self.end(found, number, answer.number, || call.to_string());
+        file.words().to_vec()
+    }
+
+    // ---- failures
+
+    // of two calls together
+    pub fn require(&mut self, holds: bool, otherwise: &str, what: impl Fn() -> String) {
+        self.fail(if holds { vec![] } else { vec![otherwise.to_string()] }, what);
+    }
+
+    // of one call
+    fn end(&mut self, found: Vec<Option<String>>, number: u32, correct: u32, what: impl Fn() -> String) {
+        let mut wrong = differences(&found);
+        wrong.extend(wrong_number(number, correct));
+        self.fail(wrong, what);
     }
 
     fn fail(&mut self, wrong: Vec<String>, what: impl Fn() -> String) {

@@ -1,0 +1,344 @@
+#!/usr/bin/env python3
+"""Calls mealbis_write of the library, over its C interface, and compares each file, byte for byte, with that of tests/reference.py.
+
+    python3 tests/written_files.py [--library PATH] [--seed NUMBER]
+
+Builds libmealbis.a and a shared library of it, target/written_files/libmealbis.so; or takes another shared library. Of every call it compares the
+answer, *bytes, *place, the whole buffer of the file and the recordings, with guards before and behind each. What is written goes through
+mealbis_read, which must return the input; and files of the reference go through mealbis_read and back through mealbis_write.
+
+The last line is 'N passed, 0 failed'. Exit status 1 where something differs.
+"""
+import argparse
+import array
+import ctypes
+import itertools
+import mmap
+import random
+import subprocess
+import sys
+from pathlib import Path
+
+from reference import LARGEST_SAMPLE, LENGTHS, MOST_FILE_SAMPLES, file_size, write_pair_file
+
+ROOT = Path(__file__).resolve().parent.parent
+BUILT = ROOT / "target/written_files"
+ORDER = (8, 11, 1, 6, 3)            # in which mealbis_write tests
+OUT = (LARGEST_SAMPLE + 1, -LARGEST_SAMPLE - 1, 2 ** 31 - 1, -2 ** 31)
+GUARD = 64                          # bytes before and behind what is lent, or a few more
+PAGE = 4096
+MOST_SHOWN = 20                     # failures
+
+
+def shared_library():
+    """The library as it is built now, as a shared one."""
+    BUILT.mkdir(parents=True, exist_ok=True)
+    made, archive = BUILT / "libmealbis.so", "target/staticlib/libmealbis.a"
+    for words in (["rt", "staticlib", "mealbis"],
+                  ["cc", "-shared", "-o", made, "-Wl,--whole-archive", archive, "-Wl,--no-whole-archive"]):
+        done = subprocess.run(words, cwd=ROOT, stdin=subprocess.DEVNULL, stdout=subprocess.PIPE, stderr=subprocess.STDOUT, text=True)
+        if done.returncode:
+            sys.exit("%s\n0 passed, 1 failed" % done.stdout)
+    return made
+
+
+# --- memory that is lent ---------------------------------------------------------
+
+class Lent:
+    """Memory lent to a call as so many words, between two guards; all of it is compared afterwards."""
+
+    def __init__(self, name, count, held, guards):
+        self.name, self.count = name, count
+        self.first = len(guards[0])
+        whole = b"".join((guards[0], held, guards[1]))
+        self.memory = (ctypes.c_uint8 * len(whole)).from_buffer_copy(whole)
+        assert ctypes.addressof(self.memory) % 8 == 0
+        self.expected = whole
+
+    def pointer(self):
+        return ctypes.byref(self.memory, self.first)
+
+    def expect(self, written):
+        """These bytes should stand in front after the call, and all else stay."""
+        end = self.first + len(written)
+        self.expected = self.expected[:self.first] + written + self.expected[end:]
+
+    def front(self, size):
+        return bytes(self.memory)[self.first:self.first + size]
+
+    def difference(self):
+        got = bytes(self.memory)
+        if got == self.expected:
+            return None
+        at = next(i for i, (left, right) in enumerate(zip(got, self.expected)) if left != right)
+        return "byte %d of %s (%d lent) is %d and not %d" % (at - self.first, self.name, self.count, got[at], self.expected[at])
+
+
+class Mapped(Lent):
+    """So many words, all 0, in memory of which only the first page can be written; that page is compared."""
+
+    def __init__(self, name, word_size, count):
+        self.name, self.count, self.first = name, count, 0
+        libc = ctypes.CDLL(None, use_errno=True)
+        libc.mmap.restype = ctypes.c_void_p
+        size, readable = ctypes.c_size_t(word_size * count), mmap.PROT_READ
+        address = libc.mmap(None, size, readable, mmap.MAP_PRIVATE | mmap.MAP_ANONYMOUS, -1, ctypes.c_long(0))
+        if address == ctypes.c_void_p(-1).value:
+            raise OSError(ctypes.get_errno(), "no %d bytes of address space for %s" % (size.value, name))
+        libc.mprotect(ctypes.c_void_p(address), ctypes.c_size_t(PAGE), readable | mmap.PROT_WRITE)
+        self.memory = (ctypes.c_uint8 * PAGE).from_address(address)
+        self.expected = bytes(self.memory)
+
+
+def in_memory(code, words):
+    return array.array(code, words).tobytes()
+
+
+def lent_samples(name, samples):
+    """A recording to be read; the words around it are out of range."""
+    guard = in_memory("i", OUT * 4)
+    return Lent(name, len(samples), in_memory("i", samples), (guard, guard))
+
+
+def lent_bytes(rng, name, held):
+    """The bytes of a file, which may begin at any place of memory."""
+    return Lent(name, len(held), held, (rng.randbytes(GUARD + rng.randrange(8)), rng.randbytes(GUARD)))
+
+
+def lent_words(rng, name, word_size, count):
+    """Words to be written, with anything in them."""
+    return Lent(name, count, rng.randbytes(word_size * count), (rng.randbytes(GUARD), rng.randbytes(GUARD)))
+
+
+# --- calls -------------------------------------------------------------------------
+
+class Calls:
+    """Makes calls and counts those that came out as they should."""
+
+    def __init__(self, library, rng):
+        self.write_function, self.read_function = library.mealbis_write, library.mealbis_read
+        for function in (self.write_function, self.read_function):
+            function.restype = ctypes.c_uint32
+        self.rng = rng
+        self.passed = self.failed = 0
+
+    def add(self, name, wrong):
+        wrong = [told for told in wrong if told]
+        self.passed += not wrong
+        self.failed += bool(wrong)
+        if wrong and self.failed <= MOST_SHOWN:
+            print("written_files: %s: FAILED\n    %s" % (name, "\n    ".join(wrong)))
+
+    def compare(self, name, function, given, words, number):
+        """One call on lent memory and plain numbers; the words are pairs of lent memory and what should stand there."""
+        arguments = []
+        for one in given:
+            lent = isinstance(one, Lent)
+            arguments += [one.pointer(), ctypes.c_size_t(one.count)] if lent else [ctypes.c_size_t(one)]
+        for word, value in words:
+            word.expect(in_memory("Q", [value]))
+            arguments.append(word.pointer())
+        answer = function(*arguments)
+        told = None if answer == number else "the answer is %d and not %d" % (answer, number)
+        memory = [one for one in given if isinstance(one, Lent)] + [word for word, _ in words]
+        self.add(name, [told, *(one.difference() for one in memory)])
+
+    def size_words(self, names, values):
+        return [(lent_words(self.rng, name, 8, 1), value) for name, value in zip(names, values)]
+
+    def write(self, name, a, b, length, size, number):
+        """mealbis_write on a buffer of this size; it must answer as the reference, and the reference by this number. The bytes in front then."""
+        answer = write_pair_file(a, b, length, size)
+        if answer.refusal != number:
+            self.add(name, ["the reference answers %d, and %d is expected" % (answer.refusal, number)])
+        lent_a = lent_samples("a", a)
+        lent_b = lent_a if b is a else lent_samples("b", b)
+        file = lent_bytes(self.rng, "the file", self.rng.randbytes(size))
+        file.expect(answer.data)
+        words = self.size_words(("*bytes", "*place"), (len(answer.data), answer.place or 0))
+        self.compare(name, self.write_function, (lent_a, lent_b, length, file), words, answer.refusal)
+        return file.front(len(answer.data))
+
+    def read(self, name, data, a, b, length, spare):
+        """mealbis_read of an accepted file into recordings with spare words: it must return this input. Recordings and length as returned."""
+        m = len(a)
+        file = lent_bytes(self.rng, "the file", data)
+        recordings = [lent_words(self.rng, which, 4, m + spare) for which in "ab"]
+        for recording, wanted in zip(recordings, (a, b)):
+            recording.expect(in_memory("i", wanted))
+        words = self.size_words(("*samples", "*length", "*place"), (m, length, 0))
+        self.compare(name, self.read_function, (file, *recordings), words, 0)
+        (length,) = array.array("Q", words[1][0].front(8))
+        return [list(array.array("i", recording.front(4 * m))) for recording in recordings], length
+
+    def round_trip(self, name, a, b, length, more):
+        """An accepted input written to a buffer with so many bytes more, and read again."""
+        written = self.write(name, a, b, length, file_size(len(a)) + more, 0)
+        self.read(name + ", read again", written, a, b, length, self.rng.choice((0, 1, 7)))
+
+
+# --- accepted inputs ---------------------------------------------------------------
+
+NEAR = (0, 127, 128, 255, 256, 32767, 32768, 65535, 65536, LARGEST_SAMPLE - 1, LARGEST_SAMPLE)     # most are near a change of a byte
+KINDS = (range(-LARGEST_SAMPLE, LARGEST_SAMPLE + 1), (-LARGEST_SAMPLE, LARGEST_SAMPLE), range(-3, 4), NEAR + tuple(-number for number in NEAR))
+
+
+def samples(rng, m):
+    """A recording: of the whole range, of its ends, of small numbers or of those near a change."""
+    return rng.choices(rng.choice(KINDS), k=m)
+
+
+def check_sizes(calls):
+    """Every length with each m near the ends and some between; buffers longer by nothing, one byte or some."""
+    rng = calls.rng
+    between = sorted(rng.sample(range(41, 4060), 40))
+    for m, length in itertools.product([*range(1, 41), *between, *range(4060, MOST_FILE_SAMPLES + 1)], LENGTHS):
+        more = rng.choice((0, 0, 1, 2, 3, 4, 7, 8, 9, 100))
+        calls.round_trip("m %d, N %d, %d bytes more" % (m, length, more), samples(rng, m), samples(rng, m), length, more)
+    for more in (*range(20), 4096, 100_000):
+        calls.round_trip("m 3, %d bytes more" % more, samples(rng, 3), samples(rng, 3), 2, more)
+
+
+def check_every_sample(calls):
+    """Every number that a sample can be, once in a and once in b."""
+    every = range(-LARGEST_SAMPLE, LARGEST_SAMPLE + 1)
+    for at in range(0, len(every), MOST_FILE_SAMPLES):
+        a = list(every[at:at + MOST_FILE_SAMPLES])
+        calls.round_trip("samples from %d to %d" % (a[0], a[-1]), a, [-sample for sample in a], calls.rng.choice(LENGTHS), 5)
+
+
+def check_known(calls):
+    """The file of document 01's example, and one recording lent as both."""
+    written = calls.write("document 01", [3, 1], [0, 2], 2, 24, 0)
+    known = bytes([2, 0, 0, 0, 2, 0, 0, 0, 3, 0, 0, 0, 1, 0, 0, 0, 0, 0, 0, 0, 2, 0, 0, 0])
+    calls.add("document 01, by hand", [None if written == known else "%r and not %r" % (written, known)])
+    for m in (1, 2, 100, MOST_FILE_SAMPLES):
+        both = samples(calls.rng, m)
+        calls.round_trip("a and b one recording of %d" % m, both, both, 8, 3)
+
+
+def check_read_and_written(calls, count=300):
+    """Files of the reference, read by the library and written by it again: the same bytes."""
+    rng = calls.rng
+    for i in range(count):
+        m, length = rng.choice((rng.randint(1, 60), rng.randint(1, MOST_FILE_SAMPLES))), rng.choice(LENGTHS)
+        a, b = samples(rng, m), samples(rng, m)
+        data = write_pair_file(a, b, length, file_size(m)).data
+        name = "file %d, m %d, N %d" % (i, m, length)
+        (a, b), length = calls.read(name, data, a, b, length, 2)
+        again = calls.write(name + ", written again", a, b, length, len(data), 0)
+        calls.add(name + ", the same", [None if again == data else "the bytes differ"])
+
+
+# --- refusals ----------------------------------------------------------------------
+
+BAD_LENGTHS = (0, 3, 5, 6, 7, 9, 1023, 1025, 1536, 2048, 2 ** 31, 2 ** 32, 2 ** 32 + 1, 2 ** 32 + 8, 2 ** 42, 2 ** 63, 2 ** 63 + 8,
+               2 ** 64 - 8, 2 ** 64 - 1)
+
+
+def holding(a, b, length, size):
+    """The conditions that hold, whatever the others do, in their order."""
+    m = len(a)
+    holds = {8: m == 0 or m > 4096, 11: len(b) != m, 1: length not in LENGTHS,
+             6: any(abs(sample) > 1_000_000 for sample in itertools.chain(a, b)), 3: size < 8 + 8 * m}
+    return tuple(number for number in ORDER if holds[number])
+
+
+def broken(rng, numbers):
+    """Inputs with the numbered conditions made to hold: a few samples or many, b shorter or longer, a sample out of range in a, b or both."""
+    counts = (0, 4097) if 8 in numbers else (1, 9, 4096)
+    apart = (-1, 1, -9, 4096) if 11 in numbers else (0,)
+    where = ("a", "b", "ab") if 6 in numbers else ("",)
+    for m, more, spoils in itertools.product(counts, apart, where):
+        pair = {"a": samples(rng, m), "b": samples(rng, max(0, m + more))}
+        for name in spoils:
+            if pair[name]:
+                pair[name][rng.randrange(len(pair[name]))] = rng.choice(OUT)
+        short = [size for size in (0, 7, 8, 8 * m, 8 * m + 7) if size < 8 + 8 * m]
+        size = rng.choice(short) if 3 in numbers else 8 + 8 * m + rng.choice((0, 1, 50))
+        yield pair["a"], pair["b"], rng.choice(BAD_LENGTHS if 1 in numbers else LENGTHS), size
+
+
+def check_refusals(calls):
+    """Each refusal alone and every set of them together: the earliest wins."""
+    met = set()
+    sets = [numbers for size in range(len(ORDER) + 1) for numbers in itertools.combinations(ORDER, size)]
+    for numbers in sets:
+        for a, b, length, size in broken(calls.rng, numbers):
+            held = holding(a, b, length, size)
+            met.add(held)
+            name = "refusals %s, recordings of %d and %d, N %d, %d bytes" % (held, len(a), len(b), length, size)
+            calls.write(name, a, b, length, size, held[0] if held else 0)
+    for numbers in sets:
+        calls.add("refusals %s together" % (numbers,), [None if numbers in met else "no call met them"])
+
+
+def check_places(calls):
+    """Samples out of range at the first, the last and the middle place, in a, in b and in both: all of a before b."""
+    for m, out in itertools.product((1, 2, 3, 9, MOST_FILE_SAMPLES), OUT):
+        good = samples(calls.rng, m)
+        bad = {place: good[:place] + [out] + good[place + 1:] for place in (0, m // 2, m - 1)}
+        for place in bad:
+            name = "%d at %d of %d, in " % (out, place, m)
+            calls.write(name + "a", bad[place], good, 4, file_size(m), 6)
+            calls.write(name + "b", good, bad[place], 4, file_size(m), 6)
+            for other in bad:
+                calls.write(name + "a, and at %d in b" % other, bad[place], bad[other], 4, file_size(m), 6)
+    for edge in (-LARGEST_SAMPLE, LARGEST_SAMPLE):
+        calls.round_trip("all samples %d" % edge, [edge] * 9, [-edge] * 9, 4, 0)
+
+
+def check_lengths(calls):
+    """Every block length up to 2,100 and some far ones: the eleven are accepted."""
+    for length in (*range(2101), *BAD_LENGTHS, *(length << 32 for length in LENGTHS), *(length + 2 ** 32 for length in LENGTHS)):
+        calls.write("N %d" % length, [5], [-5], length, 20, 0 if length in LENGTHS else 1)
+
+
+def check_counts(calls):
+    """Recordings of none or too many samples, and of two lengths."""
+    for m in (0, 4097, 4098, 5000, 8192, 65536, 65537, 65540):
+        for other in (m, 0, 1, 4, 4096, m + 1):
+            calls.write("recordings of %d and %d" % (m, other), [1] * m, [2] * other, 4, 2 ** 20, 8)
+    for m in (1, 4, 4096):
+        for other in (0, m - 1, m + 1, m + 256, m + 65536):
+            calls.write("recordings of %d and %d" % (m, other), [1] * m, [2] * other, 4, 2 ** 16, 11)
+        for size in (0, 1, 4, 7, 8, 8 + 4 * m, 8 * m, 8 * m + 7):
+            calls.write("%d samples, %d bytes" % (m, size), [1] * m, [2] * m, 4, size, 3)
+
+
+def check_far_sizes(calls):
+    """Recordings of more than 2^32 words, and a file of more than 2^32 bytes: no size is cut to 32 bits."""
+    far, few = 2 ** 32 + 4, [1, -2, 3, -4]
+    words, file = Mapped("the far recording", 4, far), Mapped("the far file", 1, 2 ** 32 + 8)
+    for a, b, number in ((words, words, 8), (words, lent_samples("b", few), 8), (lent_samples("a", few), words, 11)):
+        lent = lent_bytes(calls.rng, "the file", calls.rng.randbytes(100))
+        name = "recordings of %d and %d" % (a.count, b.count)
+        calls.compare(name, calls.write_function, (a, b, 4, lent), calls.size_words(("*bytes", "*place"), (0, 0)), number)
+    answer = write_pair_file(few, few, 4, file.count)
+    file.expect(answer.data)
+    words = calls.size_words(("*bytes", "*place"), (40, 0))
+    calls.compare("a file of %d bytes" % file.count, calls.write_function, (lent_samples("a", few), lent_samples("b", few), 4, file), words, 0)
+
+
+CHECKS = (check_known, check_sizes, check_every_sample, check_read_and_written, check_refusals, check_places, check_lengths,
+          check_counts, check_far_sizes)
+
+
+def main():
+    words = argparse.ArgumentParser(description=__doc__.split("\n")[0])
+    words.add_argument("--library", metavar="PATH")
+    words.add_argument("--seed", type=int, default=20260911)
+    words = words.parse_args()
+    print("written_files: seed %d" % words.seed)
+    library = ctypes.CDLL(str(words.library or shared_library()))
+    calls = Calls(library, random.Random(words.seed))
+    for check in CHECKS:
+        before = calls.passed
+        check(calls)
+        print("%5d passed: %s" % (calls.passed - before, check.__doc__))
+    print("%d passed, %d failed" % (calls.passed, calls.failed))
+    return 1 if calls.failed else 0
+
+
+if __name__ == "__main__":
+    sys.exit(main())
