@@ -55,7 +55,8 @@ module _ (f g : List ℕ) (at : ℕ) (hf : AreBytes f) (hg : AreBytes g) (lf : a
       more 3 (more 2 (more 1 (more 0 (below-none _) (rw add-zero e₀)) e₁) e₂) e₃
 
 -- ---- the bytes of a number, put one behind another
-pub four-put : (n : ℕ) {at r₁ r₂ r₃ r₄ : ℕ} {f₀ f₁ f₂ f₃ f₄ : List ℕ} → Put f₀ at (n % 256 ∷ []) r₁ f₁ → Put f₁ r₁ (n / 256 % 256 ∷ []) r₂ f₂
+pub four-put : (n : ℕ) {at r₁ r₂ r₃ r₄ : ℕ} {f₀ f₁ f₂ f₃ f₄ : List ℕ} → Put f₀ at (n % 256 ∷ []) r₁ f₁
+    → Put f₁ r₁ (n / 256 % 256 ∷ []) r₂ f₂
     → Put f₂ r₂ (n / 65536 % 256 ∷ []) r₃ f₃ → Put f₃ r₃ (n / 16777216 % 256 ∷ []) r₄ f₄ → Put f₀ at (unsignedBytes n) r₄ f₄
 four-put n p q r s = p then q then r then s
 

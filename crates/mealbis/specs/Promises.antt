@@ -88,8 +88,8 @@ pub record ReadTold (bytes : List ℕ) (a b a′ b′ : List ℤ) (m′ N′ pla
 
 -- ---- writing a file
 
--- There is an answer of which the promise of the writer holds, with this buffer before and after, and it is the answer told. The bytes are 0
--- in every refusal, and the place is 0 in every answer but refusal 6.
+-- There is an answer of which the promise of the writer holds, with this buffer before and after, and it is the answer told. The bytes are
+-- 0 in every refusal, and the place is 0 in every answer but refusal 6.
 pub record WriteTold (a b : List ℤ) (N : ℕ) (buffer buffer′ : List ℕ) (bytes′ place′ number : ℕ) : Type 0 where
   pub answer : WriteAnswer
   pub promise : WritePromise a b N buffer buffer′ answer

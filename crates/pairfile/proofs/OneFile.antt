@@ -16,7 +16,8 @@ use Rattle.pairfile.specs.File.{sampleCount, blockLength, samplesOfA, sa
 use Rattle.pairfile.specs.Laws.{Reads, OneFile}
 use Rattle.pairfile.proofs.Verdicts.{Passed9, accepted-9}
 
-module _ (f g : List ℕ) (hf : AreBytes f) (hg : AreBytes g) (p : Passed9 f) (q : Passed9 g) (same : Reads f (sampleCount g) (blockLength g) (samplesOfA g) (samplesOfB g)) where
+module _ (f g : List ℕ) (hf : AreBytes f) (hg : AreBytes g) (p : Passed9 f) (q : Passed9 g)
+    (same : Reads f (sampleCount g) (blockLength g) (samplesOfA g) (samplesOfB g)) where
   as-long : length f ≡ length g
   as-long = omega (arith, p .bytes, q .bytes, same .count)
 
@@ -34,7 +35,8 @@ module _ (f g : List ℕ) (hf : AreBytes f) (hg : AreBytes g) (p : Passed9 f) (q
   number zero h = same .count
   number (suc zero) h = same .blocks
   number (suc (suc n)) h = ⊎-elim
-      (λ l. sample-once (suc (suc n)) _ _ h (omega arith) (omega (arith, same .count)) (same .ofB (n - sampleCount f) (omega (arith, same .count))))
+      (λ l. sample-once (suc (suc n)) _ _ h (omega arith) (omega (arith, same .count))
+      (same .ofB (n - sampleCount f) (omega (arith, same .count))))
       (λ l. sample-once (suc (suc n)) _ _ h (omega arith) (omega arith) (same .ofA n (omega (arith, l, same .count))))
       (le-or-lt (sampleCount f) n)
 

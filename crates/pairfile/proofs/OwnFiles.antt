@@ -1,8 +1,8 @@
 -- Our own file: put part by part; how long it is; and that it reads as the recordings and the block length that it was made from.
 -- Assumes nothing.
 use mathlib.Core.Path.{_≡_, refl, sym, ap, _∙_}
-use mathlib.Core.List.{List, [], _∷_, _++_, append-nil}
-use Prim.Native.Nat.{ℕ, suc, _+_, _*_, _^_, _≤_, _<_}
+use mathlib.Core.List.{List, [], _++_, append-nil}
+use Prim.Native.Nat.{ℕ, _+_, _*_, _^_, _≤_, _<_}
 use native.Mathlib.Omega.{arith}
 use lib.IntN.{ℤ, natAbs}
 use lib.ListN.{length, drop, length-append}
@@ -11,12 +11,12 @@ use Rattle.words.specs.Words.{word}
 use Rattle.words.specs.Put.{Put}
 use Rattle.words.proofs.Putting.{_then_}
 use Rattle.ffct.proofs.ElevenLengths.{length-le}
-use Rattle.little_endian.specs.Numbers.{AreBytes, unsigned, signed, unsignedBytes, signedBytes}
+use Rattle.little_endian.specs.Numbers.{AreBytes, signed, unsignedBytes}
 use Rattle.little_endian.proofs.Bytes.{unsigned-back, bytes-behind, four-bytes}
 use Rattle.little_endian.proofs.Signs.{bits-fit, signed-bits}
-use Rattle.pairfile.specs.File.{samplesAt, startOfA, startOfB, fileBytes, sampleCount, samplesOfB}
+use Rattle.pairfile.specs.File.{samplesAt, startOfA, startOfB, fileBytes, sampleCount}
 use Rattle.pairfile.specs.OwnFile.{pairFile}
-use Rattle.pairfile.specs.Promises.{Accepted}
+use Rattle.pairfile.specs.Promises.{Sound}
 use Rattle.pairfile.specs.Laws.{Reads}
 use Rattle.pairfile.proofs.Samples.{samplesBytes, samples-length, sample-stands, samples-bytes}
 
@@ -65,7 +65,7 @@ module _ (a b : List ℤ) (N : ℕ) where
     unfolding pairFile
     file-length = omega (arith, length-append (samplesBytes a) (samplesBytes b), samples-length a, samples-length b)
 
-    module _ (s : Accepted (length a) N (word a) (word b)) where
+    module _ (s : Sound (length a) N (word a) (word b)) where
       count-back : sampleCount file ≡ length a
       count-back = unsigned-back file 0 (length a) _ from-start (omega (arith, s .most))
 

@@ -13,21 +13,19 @@ use Rattle.words.specs.Words.{Samples, word, Written}
 use Rattle.words.proofs.Writing.{front, written-same}
 use Rattle.refusals.specs.Refusals.{accepted, someBelow}
 use Rattle.refusals.proofs.Conditions.{AllReach, all-reach, reach-all}
-use Rattle.pairfile.specs.declared.reader.FileAnswer.{FileAnswer}
-use Rattle.pairfile.specs.declared.writer.WriteAnswer.{WriteAnswer}
-use Rattle.pairfile.specs.File.{sampleCount, blockLength, samplesOfA, samplesOfB, fileBytes, fileVerdict}
+use Rattle.pairfile.specs.File.{sampleCount, fileBytes, fileVerdict}
 use Rattle.pairfile.specs.OwnFile.{pairFile, writeVerdict}
 use Rattle.pairfile.specs.ReadAnswers as read
 use Rattle.pairfile.specs.WriteAnswers as write
-use Rattle.pairfile.specs.Promises.{Accepted, ReadDone, ReadPromise, WritePromise}
-use Rattle.pairfile.specs.Laws.{Reads, InputReadBack, InputHasOneFile, InputRead, WrittenAndRead, ReadAndWritten}
+use Rattle.pairfile.specs.Promises.{ReadDone, ReadPromise}
+use Rattle.pairfile.specs.Laws.{Reads, InputReadBack, InputHasOneFile, WrittenAndRead, ReadAndWritten}
 use Rattle.pairfile.proofs.Verdicts.{count-good, Passed3, accepted-3, file-accepted}
-use Rattle.pairfile.proofs.WriteVerdicts.{Sound, input-sound, input-accepted}
+use Rattle.pairfile.proofs.WriteVerdicts.{Passed, input-passed, input-accepted}
 use Rattle.pairfile.proofs.OneFile.{one-file}
 use Rattle.pairfile.proofs.OwnFiles.{file-length, own-reads, own-bytes}
 
 -- ---- an accepted input
-module _ (a b : List ℤ) (N room : ℕ) (s : Sound a b N room) where
+module _ (a b : List ℤ) (N room : ℕ) (s : Passed a b N room) where
   reads : Reads (pairFile a b N) (length a) N (word a) (word b)
   reads = own-reads a b N (s .same) (s .sound)
 
@@ -48,11 +46,11 @@ module _ (a b : List ℤ) (N room : ℕ) (s : Sound a b N room) where
       (λ n h. let l = rw (reads .count) at h in rw (reads .ofB n l) (t .rangeOfB n l))
 
 pub input-read-back : InputReadBack
-input-read-back a b N room ok = let s = input-sound a b N room ok in (file-read a b N room s, reads a b N room s)
+input-read-back a b N room ok = let s = input-passed a b N room ok in (file-read a b N room s, reads a b N room s)
 
 pub input-has-one-file : InputHasOneFile
 input-has-one-file a b N room ok file lent bytes accepts r =
-    let s = input-sound a b N room ok in
+    let s = input-passed a b N room ok in
     let own = reads a b N room s in
     one-file file (pairFile a b N) lent [] bytes (own-bytes a b N) accepts (file-read a b N room s [] refl)
     (record {
@@ -73,8 +71,8 @@ written-and-read a b N buffer buffer′ wrote p ok c d c′ d′ answer q for-a 
       wordsOfB = written-same (done .wordsOfB) (s .same ∙ sym count) (λ n h. back .ofB n (omega (arith, s .same)));
     }
   where
-    s : Sound a b N (length buffer)
-    s = input-sound a b N (length buffer) (sym (p .verdict) ∙ ok)
+    s : Passed a b N (length buffer)
+    s = input-passed a b N (length buffer) (sym (p .verdict) ∙ ok)
 
     back : Reads (pairFile a b N) (length a) N (word a) (word b)
     back = reads a b N (length buffer) s
@@ -102,7 +100,8 @@ module _ (m : ℕ) {z : Samples} {before recording : List ℤ} (w : Written 0 m 
   holds n h = getD-take m recording n (pos 0) h ∙ front w n h
 
 -- what was read of a file, as an input
-module _ (file : List ℕ) (a b a′ b′ : List ℤ) (m N : ℕ) (done : ReadDone file a b a′ b′ m N) (for-a : m ≤ length a) (for-b : m ≤ length b) where
+module _ (file : List ℕ) (a b a′ b′ : List ℤ) (m N : ℕ) (done : ReadDone file a b a′ b′ m N)
+    (for-a : m ≤ length a) (for-b : m ≤ length b) where
   abbrev x : List ℤ
   x = take m a′
 
@@ -115,7 +114,7 @@ module _ (file : List ℕ) (a b a′ b′ : List ℤ) (m N : ℕ) (done : ReadDo
   of-b : length y ≡ m
   of-b = kept m (done .wordsOfB) for-b
 
-  read-sound : (room : ℕ) → fileBytes m ≤ room → Sound x y N room
+  read-sound : (room : ℕ) → fileBytes m ≤ room → Passed x y N room
   read-sound room fits =
       let s = done .sound in
       record {

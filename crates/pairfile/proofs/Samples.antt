@@ -1,4 +1,5 @@
--- The bytes of the samples of a recording, one sample behind another: how many they are, those of one sample more, and where a sample stands.
+-- The bytes of the samples of a recording, one sample behind another: how many they are, those of one sample more, and where a sample
+-- stands.
 -- Assumes nothing.
 use mathlib.Core.Path.{_≡_, refl, sym}
 use mathlib.Core.List.{List, [], _∷_, _++_, append-nil, append-assoc, flatMap}

@@ -167,7 +167,8 @@ module _ (file : List ℕ) (a b : List ℤ) where
                             most = good-count m (sym is-bad ∙ few) .1;
                             length-ok = sym is ∙ not-false ok good;
                             rangeOfA = λ n h. passed _ (samplesAt file startOfA) 0 m range-a n (omega arith) (omega arith);
-                            rangeOfB = rw (← count) (λ n h. passed _ (samplesAt file (startOfB m)) 0 m range-b n (omega arith) (omega arith));
+                            rangeOfB = rw (← count)
+                                (λ n h. passed _ (samplesAt file (startOfB m)) 0 m range-b n (omega arith) (omega arith));
                           };
                         });
                   }

@@ -9,7 +9,7 @@ use lib.Dec.{eqb, ltb}
 use lib.IntN.{ℤ}
 use lib.ListN.{length}
 use borrow.Author.Tests.{lt-ltb, le-ltb, ltb-false, eq-eqb, ne-eqb, eqb-true, not-false}
-use Rattle.words.specs.Words.{Samples, word}
+use Rattle.words.specs.Words.{word}
 use Rattle.words.specs.Put.{Put}
 use Rattle.ffct.specs.Block.{isLength}
 use Rattle.ffct.proofs.ElevenLengths.{length-le}
@@ -19,21 +19,21 @@ use Rattle.refusals.proofs.Promises.{turned-down, carried-out, past-test}
 use Rattle.refusals.proofs.Conditions.{none-beyond, first-beyond, past-beyond}
 use Rattle.pairfile.specs.declared.writer.WriteAnswer.the-variants.{BadCount, RecordingsDiffer, BadLength}
 use Rattle.pairfile.specs.declared.writer.WriteAnswer.the-variants.{OutOfRange, BufferTooShort, Written}
-use Rattle.pairfile.specs.File.{mostSamples, badCount, fileBytes}
+use Rattle.pairfile.specs.File.{badCount, fileBytes}
 use Rattle.pairfile.specs.OwnFile.{pairFile, writeVerdict}
-use Rattle.pairfile.specs.Promises.{Accepted, WritePromise}
+use Rattle.pairfile.specs.Promises.{Sound, WritePromise}
 use Rattle.pairfile.proofs.Verdicts.{good-count, count-good}
 
 -- ---- what an accepted input has passed
-pub record Sound (a b : List ℤ) (N room : ℕ) : Type 0 where
+pub record Passed (a b : List ℤ) (N room : ℕ) : Type 0 where
   pub same : length b ≡ length a
-  pub sound : Accepted (length a) N (word a) (word b)
+  pub sound : Sound (length a) N (word a) (word b)
   pub fits : fileBytes (length a) ≤ room
 
 module _ (a b : List ℤ) (N room : ℕ) where
   -- in range, the tests passed
   in-range : badCount (length a) ≡ false → length b ≡ length a → isLength N ≡ true → firstOut (word a) 0 (length a) ≡ 0 + length a
-      → firstOut (word b) 0 (length b) ≡ 0 + length b → Accepted (length a) N (word a) (word b)
+      → firstOut (word b) 0 (length b) ≡ 0 + length b → Sound (length a) N (word a) (word b)
   in-range few same ok range-a range-b = record {
     some = good-count (length a) few .0;
     most = good-count (length a) few .1;
@@ -42,9 +42,9 @@ module _ (a b : List ℤ) (N room : ℕ) where
     rangeOfB = λ n h. passed _ (word b) 0 (length b) range-b n (omega arith) (omega arith);
   }
 
-  pub input-sound : writeVerdict a b N room ≡ accepted → Sound a b N room
+  pub input-passed : writeVerdict a b N room ≡ accepted → Passed a b N room
   unfolding writeVerdict
-  input-sound e =
+  input-passed e =
       let (few, past-8) = past-test (badCount (length a)) e (omega arith) in
       let (alike, past-11) = past-test (not (eqb (length b) (length a))) past-8 (omega arith) in
       let (good, past-1) = past-test (not (isLength N)) past-11 (omega arith) in
@@ -54,7 +54,7 @@ module _ (a b : List ℤ) (N room : ℕ) where
       let same = eqb-true (length b) (length a) (not-false _ alike) in
       record { same = same; sound = in-range few same (not-false _ good) range-a range-b; fits = ltb-false _ _ long }
 
-  pub input-accepted : Sound a b N room → writeVerdict a b N room ≡ accepted
+  pub input-accepted : Passed a b N room → writeVerdict a b N room ≡ accepted
   unfolding writeVerdict
   input-accepted s =
       let in-a = none-out _ (word a) 0 (length a) (λ n _ h. s .sound .rangeOfA n (omega arith)) in
@@ -65,7 +65,8 @@ module _ (a b : List ℤ) (N room : ℕ) where
 -- ---- behind the last test: what putting the file asks, and what is promised once it is put
 pub record Writable (a b : List ℤ) (N : ℕ) (buffer : List ℕ) : Type 0 where
   pub ready : (length a ≤ 4096) × (length b ≡ length a) × (N ≤ 1024) × (fileBytes (length a) ≤ length buffer)
-  pub writes : {buffer′ : List ℕ} {bytes : ℕ} → Put buffer 0 (pairFile a b N) bytes buffer′ → WritePromise a b N buffer buffer′ (Written bytes)
+  pub writes : {buffer′ : List ℕ} {bytes : ℕ} → Put buffer 0 (pairFile a b N) bytes buffer′
+      → WritePromise a b N buffer buffer′ (Written bytes)
 
 -- ---- the tests, each where those before it are passed
 module _ (a b : List ℤ) (N : ℕ) (buffer : List ℕ) (bad : Bool) (is-bad : bad ≡ badCount (length a)) where

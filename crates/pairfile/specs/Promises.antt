@@ -18,7 +18,7 @@ use Rattle.pairfile.specs.ReadAnswers as read
 use Rattle.pairfile.specs.WriteAnswers as write
 
 -- what acceptance says of m, N and the samples of a and b, whether they are read or written
-pub record Accepted (m N : ℕ) (a b : Samples) : Type 0 where
+pub record Sound (m N : ℕ) (a b : Samples) : Type 0 where
   pub some : 1 ≤ m
   pub most : m ≤ mostSamples
   pub length-ok : isLength N ≡ true
@@ -31,7 +31,7 @@ pub record ReadDone (file : List ℕ) (a b a′ b′ : List ℤ) (m N : ℕ) : T
   pub length-is : N ≡ blockLength file
   pub wordsOfA : Written 0 m (samplesOfA file) a a′
   pub wordsOfB : Written 0 m (samplesOfB file) b b′
-  pub sound : Accepted m N (samplesOfA file) (samplesOfB file)
+  pub sound : Sound m N (samplesOfA file) (samplesOfB file)
 
 abbrev pub ReadPromise : List ℕ → (a b a′ b′ : List ℤ) → FileAnswer → Type 0
 ReadPromise file a b a′ b′ answer =
@@ -43,7 +43,7 @@ ReadPromise file a b a′ b′ answer =
 pub record WriteDone (a b : List ℤ) (N : ℕ) (buffer buffer′ : List ℕ) (bytes : ℕ) : Type 0 where
   pub file : Put buffer 0 (pairFile a b N) bytes buffer′
   pub same : length b ≡ length a
-  pub sound : Accepted (length a) N (word a) (word b)
+  pub sound : Sound (length a) N (word a) (word b)
 
 abbrev pub WritePromise : (a b : List ℤ) → ℕ → (buffer buffer′ : List ℕ) → WriteAnswer → Type 0
 WritePromise a b N buffer buffer′ answer =

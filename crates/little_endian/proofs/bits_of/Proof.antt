@@ -6,7 +6,6 @@ use native.Mathlib.Omega.{arith}
 use lib.IntN.{ℤ, pos, negsuc, natAbs}
 use lib.Signed.{ltZ}
 use mir.Facts.{toZ-ofZ, fits-natAbs}
-use borrow.Author.Needs.{needs}
 use borrow.Author.Tests.{ltb-true}
 use Rattle.whole.proofs.Words.{not-negative, Turned, turned}
 use Rattle.little_endian.specs.Numbers.{bits}
@@ -36,6 +35,6 @@ bits-of-spec =
     (tie.spec
     (λ c. let (n, b, _, e) = negative c in rw e (tt, record { fits = omega arith }))  -- cast-result
     (λ c. let (n, b, _, e) = negative c in omega (arith, ap natAbs e))  -- sub-result
-    (λ c. let s = c .before in rw (toZ-ofZ (s .fits .x)) (not-negative (s .args .x) (above c), fits-natAbs tt (s .fits .x)))  -- cast-result-2
+    (λ c. let s = c .before in let f = s .fits .x in rw (toZ-ofZ f) (not-negative (s .args .x) (above c), fits-natAbs tt f))  -- cast-result-2
     (λ c. let (n, b, a, e) = negative c in omega (arith, ap natAbs e, bits-negative (c .before .args .x) (below c)))  -- returns
     (λ c. let s = c .before in omega (arith, bits-natural (s .args .x) (above c), ap natAbs (toZ-ofZ (s .fits .x)))))  -- returns-2
