@@ -35,6 +35,6 @@ bits-of-spec =
     (tie.spec
     (λ c. let (n, b, _, e) = negative c in rw e (tt, record { fits = omega arith }))  -- cast-result
     (λ c. let (n, b, _, e) = negative c in omega (arith, ap natAbs e))  -- sub-result
-    (λ c. let s = c .before in let f = s .fits .x in rw (toZ-ofZ f) (not-negative (s .args .x) (above c), fits-natAbs tt f))  -- cast-result-2
+    (λ c. let f = c .before .fits .x in rw (toZ-ofZ f) (not-negative (c .before .args .x) (above c), fits-natAbs tt f))  -- cast-result-2
     (λ c. let (n, b, a, e) = negative c in omega (arith, ap natAbs e, bits-negative (c .before .args .x) (below c)))  -- returns
     (λ c. let s = c .before in omega (arith, bits-natural (s .args .x) (above c), ap natAbs (toZ-ofZ (s .fits .x)))))  -- returns-2
