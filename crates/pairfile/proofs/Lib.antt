@@ -1,7 +1,7 @@
 pub mod Verdicts
-pub mod WriteVerdicts
 pub mod Samples
 pub mod OwnFiles
+pub mod WriteVerdicts
 pub mod OneFile
 pub mod Longer
 pub mod RoundTrips

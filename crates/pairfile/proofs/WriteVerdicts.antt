@@ -23,6 +23,7 @@ use Rattle.pairfile.specs.File.{badCount, fileBytes}
 use Rattle.pairfile.specs.OwnFile.{pairFile, writeVerdict}
 use Rattle.pairfile.specs.Promises.{Sound, WritePromise}
 use Rattle.pairfile.proofs.Verdicts.{good-count, count-good}
+use Rattle.pairfile.proofs.OwnFiles.{file-length}
 
 -- ---- what an accepted input has passed
 pub record Passed (a b : List ℤ) (N room : ℕ) : Type 0 where
@@ -31,7 +32,7 @@ pub record Passed (a b : List ℤ) (N room : ℕ) : Type 0 where
   pub fits : fileBytes (length a) ≤ room
 
 module _ (a b : List ℤ) (N room : ℕ) where
-  -- in range, the tests passed
+  -- what the tests before the last leave
   in-range : badCount (length a) ≡ false → length b ≡ length a → isLength N ≡ true → firstOut (word a) 0 (length a) ≡ 0 + length a
       → firstOut (word b) 0 (length b) ≡ 0 + length b → Sound (length a) N (word a) (word b)
   in-range few same ok range-a range-b = record {
@@ -127,5 +128,6 @@ module _ (a b : List ℤ) (N : ℕ) (buffer : List ℕ) (bad : Bool) (is-bad : b
                 let sound = in-range a b N (length buffer) (sym is-bad ∙ few) same length-ok range-a range-b in
                 record {
                   ready = (sound .most, same, length-le N length-ok, h);
-                  writes = λ p. carried-out refl (past-b ∙ rw (le-ltb _ _ h)) (record { file = p; same = same; sound = sound });
+                  writes = λ p. carried-out refl (past-b ∙ rw (le-ltb _ _ h))
+                      (record { file = p; bytes-is = omega (arith, p .next-is, file-length a b N same); same = same; sound = sound });
                 }

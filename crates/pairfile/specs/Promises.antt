@@ -12,7 +12,7 @@ use Rattle.ffct.specs.Block.{isLength, largestSample}
 use Rattle.refusals.specs.Refusals.{Promise}
 use Rattle.pairfile.specs.declared.reader.FileAnswer.{FileAnswer}
 use Rattle.pairfile.specs.declared.writer.WriteAnswer.{WriteAnswer}
-use Rattle.pairfile.specs.File.{sampleCount, blockLength, samplesOfA, samplesOfB, mostSamples, fileVerdict}
+use Rattle.pairfile.specs.File.{sampleCount, blockLength, samplesOfA, samplesOfB, mostSamples, fileBytes, fileVerdict}
 use Rattle.pairfile.specs.OwnFile.{pairFile, writeVerdict}
 use Rattle.pairfile.specs.ReadAnswers as read
 use Rattle.pairfile.specs.WriteAnswers as write
@@ -42,6 +42,7 @@ ReadPromise file a b a′ b′ answer =
 -- "From two recordings and a block length, write the file of document 01 into a lent buffer. .. Bytes after the file stay."
 pub record WriteDone (a b : List ℤ) (N : ℕ) (buffer buffer′ : List ℕ) (bytes : ℕ) : Type 0 where
   pub file : Put buffer 0 (pairFile a b N) bytes buffer′
+  pub bytes-is : bytes ≡ fileBytes (length a)
   pub same : length b ≡ length a
   pub sound : Sound (length a) N (word a) (word b)
 
