@@ -59,6 +59,7 @@ fn fill(file: &[u8], start: usize, m: usize, recording: &mut [i32])
     }
 }
 
+// The samples of a pair file, put at the front of two lent recordings.
 pub fn read(file: &[u8], a: &mut [i32], b: &mut [i32]) -> FileAnswer
     ensures { λ r. ⌜ ReadPromise (now (file .entry)) (now (a .entry)) (now (b .entry)) (now (a .exit)) (now (b .exit)) r ⌝ }
 {

@@ -51,6 +51,7 @@ fn put_file(a: &[i32], b: &[i32], n: usize, file: &mut [u8]) -> usize
     put_samples(b, file, of_b)
 }
 
+// The pair file of the recordings a and b, in blocks of `length`, put at the front of a lent buffer.
 pub fn write(a: &[i32], b: &[i32], length: usize, file: &mut [u8]) -> WriteAnswer
     ensures { λ r. ⌜ WritePromise (now (a .entry)) (now (b .entry)) length (now (file .entry)) (now (file .exit)) r ⌝ }
 {
