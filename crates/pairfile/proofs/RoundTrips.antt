@@ -114,8 +114,8 @@ module _ (file : List ℕ) (a b a′ b′ : List ℤ) (m N : ℕ) (done : ReadDo
   of-b : length y ≡ m
   of-b = kept m (done .wordsOfB) for-b
 
-  read-sound : (room : ℕ) → fileBytes m ≤ room → Passed x y N room
-  read-sound room fits =
+  read-passed : (room : ℕ) → fileBytes m ≤ room → Passed x y N room
+  read-passed room fits =
       let s = done .sound in
       record {
         same = of-b ∙ sym of-a;
@@ -168,7 +168,7 @@ read-and-written file a b a′ b′ answer bytes p ok buffer buffer′ wrote q r
     stated : writeVerdict (take m a′) (take m b′) N (length buffer) ≡ accepted
     stated =
         input-accepted _ _ N (length buffer)
-        (read-sound file a b a′ b′ m N done (reach .0) (reach .1 .0) (length buffer) (omega (arith, passed .past .bytes, done .samples-is)))
+        (read-passed file a b a′ b′ m N done (reach .0) (reach .1 .0) (length buffer) (omega (arith, passed .past .bytes, done .samples-is)))
 
     is-accepted : write.verdictOf wrote ≡ accepted
     is-accepted = q .verdict ∙ stated
