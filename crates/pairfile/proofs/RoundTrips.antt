@@ -168,7 +168,8 @@ read-and-written file a b a′ b′ answer bytes p ok buffer buffer′ wrote q r
     stated : writeVerdict (take m a′) (take m b′) N (length buffer) ≡ accepted
     stated =
         input-accepted _ _ N (length buffer)
-        (read-passed file a b a′ b′ m N done (reach .0) (reach .1 .0) (length buffer) (omega (arith, passed .past .bytes, done .samples-is)))
+        (read-passed file a b a′ b′ m N done (reach .0) (reach .1 .0) (length buffer)
+        (omega (arith, passed .past .bytes, done .samples-is)))
 
     is-accepted : write.verdictOf wrote ≡ accepted
     is-accepted = q .verdict ∙ stated
