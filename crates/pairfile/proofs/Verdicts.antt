@@ -1,5 +1,6 @@
--- The verdict on a file, condition by condition: what 7, 8 and 9 follow from, and that an accepted file has passed them; then a run of the
--- reader, which at each test promises a refusal that leaves the recordings as they are, and at the end what was written.
+-- The verdict on a file, condition by condition: what 7, 8 and 9 follow from, what an accepted file has passed, and when a file is
+-- accepted; then a run of the reader, which at each test promises a refusal that leaves the recordings as they are, and at the end what was
+-- written.
 -- Assumes nothing.
 use mathlib.Core.Path.{_≡_, refl, sym, _∙_}
 use mathlib.Core.Logic.{inl, inr}
