@@ -6,15 +6,16 @@ use mathlib.Core.Path.{_≡_, sym, subst, _∙_}
 use Prim.Native.Nat.{ℕ, _≤_, _<_}
 use native.Mathlib.Omega.{arith}
 use lib.IntN.{ℤ, natAbs, _-ℤ_}
+use lib.ListN.{length}
 use Rattle.words.specs.Words.{Samples, word}
 use Rattle.words.proofs.Writing.{front}
 use Rattle.ffct.specs.Block.{AcceptedBlock, isLength, level}
 use Rattle.ffct.specs.Transforms.{dct}
 use Rattle.ffct.proofs.ElevenLengths.{is-power, length-pos}
 use Rattle.refusals.specs.Refusals.{block, accepted}
+use Rattle.refusals.proofs.Calls.{Passes, passes}
 use Rattle.spectra.specs.Answers.{spent}
 use Rattle.spectra.specs.Promises.{cosineCall, CosineDone}
-use Rattle.spectra.proofs.Verdicts.{Sound, sound}
 use Rattle.inverse.specs.Inverse.{inverseDct, largestCoefficient}
 use Rattle.inverse.specs.Answers as inverse
 use Rattle.inverse.proofs.Values.{value-same}
@@ -44,16 +45,16 @@ cosine-and-back r start N allowance cs scratch cs′ scratch′ cosine p ok valu
     d : CosineDone N (block r start) allowance cs scratch cs′ scratch′ (spent cosine)
     d = p .done ok
 
-    call : Sound (cosineCall r start N allowance cs scratch)
-    call = sound (cosineCall r start N allowance cs scratch) (sym (p .verdict) ∙ ok)
+    passed : Passes (cosineCall r start N allowance (length cs) (length scratch))
+    passed = passes _ (sym (p .verdict) ∙ ok)
 
     length-ok : isLength N ≡ true
-    length-ok = call .length-ok
+    length-ok = passed .length-ok
 
     words : (k : ℕ) → k < N → word cs′ k ≡ dct (level N) (block r start) .at k
     words = front (d .words)
 
     is-accepted : inverse.verdictOf back ≡ accepted
     is-accepted = q .verdict
-        ∙ accepts cs′ values N length-ok (omega (arith, d .words .len, call .results .0)) room
+        ∙ accepts cs′ values N length-ok (omega (arith, d .words .len, passed .results .0)) room
         (stored N (block r start) cs′ length-ok (d .block) words)

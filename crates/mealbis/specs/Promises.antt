@@ -8,8 +8,10 @@ use lib.IntN.{ℤ}
 use Rattle.refusals.specs.Refusals.{number as numberOf}
 use Rattle.spectra.specs.declared.Answer.{Answer}
 use Rattle.spectra.specs.declared.CountsAnswer.{CountsAnswer}
+use Rattle.spectra.specs.declared.marks.MarkAnswer.{MarkAnswer}
 use Rattle.spectra.specs.Answers.{verdictOf, spent, place as placeOf, verdictOfCounts, countsOf}
-use Rattle.spectra.specs.Promises.{SpectrumPromise, CosinePromise, PairPromise, CountsPromise}
+use Rattle.spectra.specs.MarkAnswers as marked
+use Rattle.spectra.specs.Promises.{SpectrumPromise, CosinePromise, PairPromise, MarkPromise, CountsPromise}
 use Rattle.inverse.specs.declared.InverseAnswer.{InverseAnswer}
 use Rattle.inverse.specs.Answers as inverse
 use Rattle.inverse.specs.Promises.{InversePromise}
@@ -49,6 +51,20 @@ pub record PairTold (a b : List ℤ) (start N allowance : ℕ)
   pub answer : Answer
   pub promise : PairPromise a b start N allowance real imaginary scratch real′ imaginary′ scratch′ answer
   pub told : Told answer products′ sums′ place′ number
+
+-- ---- the mark of a block
+
+-- There is an answer of which the promise of the mark holds, with these buffers before and after, and it is the answer told. The counts and
+-- the mark are 0 in every refusal, and the place is 0 in every answer but refusal 6.
+pub record MarkTold (recording : List ℤ) (start N allowance : ℕ) (flatLimit clipLevel : ℤ)
+    (cosine sine scratch cosine′ sine′ scratch′ : List ℤ) (products′ sums′ place′ mark′ number : ℕ) : Type 0 where
+  pub answer : MarkAnswer
+  pub promise : MarkPromise recording start N allowance flatLimit clipLevel cosine sine scratch cosine′ sine′ scratch′ answer
+  pub number-is : number ≡ numberOf (marked.verdictOf answer)
+  pub products-is : products′ ≡ marked.spent answer .products
+  pub sums-is : sums′ ≡ marked.spent answer .sums
+  pub place-is : place′ ≡ marked.place answer
+  pub mark-is : mark′ ≡ marked.markNumber answer
 
 -- ---- the count query
 

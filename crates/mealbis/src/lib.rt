@@ -9,8 +9,9 @@ use pairfile::reader::FileAnswer;
 use pairfile::writer;
 use spectra::Answer;
 use spectra::CountsAnswer;
-ghost use Rattle.mealbis.specs.Promises.{Told, SpectrumTold, CosineTold, PairTold, CountsTold, InverseTold};
-ghost use Rattle.mealbis.specs.Promises.{FileTold, ReadTold, WriteTold};
+use spectra::marks;
+ghost use Rattle.mealbis.specs.Promises.{Told, SpectrumTold, CosineTold, PairTold, MarkTold, CountsTold};
+ghost use Rattle.mealbis.specs.Promises.{InverseTold, FileTold, ReadTold, WriteTold};
 
 // ---- answers
 
@@ -102,6 +103,47 @@ pub extern "C" fn mealbis_pair(
 {
     let answer = spectra::pair(a, b, start, length, allowance, real, imaginary, scratch);
     tell(answer, products, sums, place)
+}
+
+// Spectrum, and the mark of its block by the owner's two figures.
+#[no_mangle]
+pub extern "C" fn mealbis_mark(
+    recording: &[i32],
+    start: usize,
+    length: usize,
+    allowance: u64,
+    flat_limit: i32,
+    clip_level: i32,
+    cosine: &mut [i32],
+    sine: &mut [i32],
+    scratch: &mut [i64],
+    products: &mut u64,
+    sums: &mut u64,
+    place: &mut usize,
+    mark: &mut u32,
+) -> u32
+    ensures { λ r. ⌜ MarkTold (now (recording .entry)) start length allowance «flat_limit» «clip_level»
+        (now (cosine .entry)) (now (sine .entry)) (now (scratch .entry))
+        (now (cosine .exit)) (now (sine .exit)) (now (scratch .exit))
+        (now (products .exit)) (now (sums .exit)) (now (place .exit)) (now (mark .exit)) r ⌝ }
+{
+    let answer = marks::mark_block(
+        recording,
+        start,
+        length,
+        allowance,
+        flat_limit,
+        clip_level,
+        cosine,
+        sine,
+        scratch,
+    );
+    let spent = marks::spent_of(answer);
+    *products = spent.products;
+    *sums = spent.sums;
+    *place = marks::place_of(answer);
+    *mark = marks::mark_of(answer);
+    marks::number_of(answer)
 }
 
 // All six counts of a length.

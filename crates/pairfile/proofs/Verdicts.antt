@@ -87,7 +87,7 @@ module _ (file lent : List ℕ) where
   file-accepted p range-a range-b =
       let q = p .past in
       rw (le-ltb _ _ (q .past .header), q .past .count, eq-eqb _ _ (q .bytes), p .length-ok, p .reach)
-      (in-verdict (samplesOfA file ∷ samplesOfB file ∷ []) 0 (sampleCount file) (
+      (in-verdict 0 (sampleCount file) accepted (samplesOfA file ∷ samplesOfB file ∷ []) (
         none-out _ (samplesOfA file) 0 (sampleCount file) (λ n _ h. range-a n (omega arith)),
         (none-out _ (samplesOfB file) 0 (sampleCount file) (λ n _ h. range-b n (omega arith)), tt),
       ))
@@ -123,7 +123,7 @@ module _ (file : List ℕ) (a b : List ℤ) where
         abbrev recordings : List Samples
         recordings = samplesAt file startOfA ∷ samplesAt file (startOfB m) ∷ []
 
-        past-9 : fileVerdict file lent ≡ cond (not ok) (refused 1) (cond (someBelow m lent) (refused 3) (firstOutIn recordings 0 m))
+        past-9 : fileVerdict file lent ≡ cond (not ok) (refused 1) (cond (someBelow m lent) (refused 3) (firstOutIn recordings 0 m accepted))
         unfolding fileVerdict
         past-9 = rw (is, blocks, count, le-ltb _ _ header, passed-8 .count, eq-eqb _ _ (rw count at bytes))
 
@@ -138,11 +138,11 @@ module _ (file : List ℕ) (a b : List ℤ) where
           b-short h = turned-down (refl, refl) (omega arith) (past-9 ∙ rw (good, some-below m lent (inr (inl h))))
 
           module _ (for-a : m ≤ length a) (for-b : m ≤ length b) (out : ℕ) (o : out ≡ firstOut (samplesAt file startOfA) 0 m) where
-            past-3 : fileVerdict file lent ≡ firstOutIn recordings 0 m
+            past-3 : fileVerdict file lent ≡ firstOutIn recordings 0 m accepted
             past-3 = past-9 ∙ rw (good, all-reach m lent (for-a, (for-b, tt)))
 
             pub a-out : out < m → ReadPromise file a b a b (OutOfRange out)
-            a-out h = turned-down (refl, refl) (omega arith) (past-3 ∙ out-verdict recordings 0 m out (inl (o, omega arith)))
+            a-out h = turned-down (refl, refl) (omega arith) (past-3 ∙ out-verdict 0 m accepted recordings out (inl (o, omega arith)))
 
             module _ (beyond : ℕ) (in-a : m ≤ out) (o₂ : beyond ≡ firstOut (samplesAt file (startOfB m)) 0 m) where
               range-a : firstOut (samplesAt file startOfA) 0 m ≡ 0 + m
@@ -151,13 +151,13 @@ module _ (file : List ℕ) (a b : List ℤ) where
               pub b-out : beyond < m → ReadPromise file a b a b (OutOfRange beyond)
               b-out h =
                   turned-down (refl, refl) (omega arith)
-                  (past-3 ∙ out-verdict recordings 0 m beyond (inr (range-a, inl (o₂, omega arith))))
+                  (past-3 ∙ out-verdict 0 m accepted recordings beyond (inr (range-a, inl (o₂, omega arith))))
 
               pub all-in-range : m ≤ beyond → Readable file a b m N
               all-in-range in-b =
                   let range-b = first-end _ (samplesAt file (startOfB m)) 0 m o₂ (omega arith) in
                   record {
-                    reads = λ v w. carried-out refl (past-3 ∙ in-verdict recordings 0 m (range-a, (range-b, tt)))
+                    reads = λ v w. carried-out refl (past-3 ∙ in-verdict 0 m accepted recordings (range-a, (range-b, tt)))
                         (record {
                           samples-is = count;
                           length-is = blocks;

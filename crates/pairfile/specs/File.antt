@@ -6,7 +6,7 @@ use lib.Dec.{eqb, ltb}
 use lib.ListN.{length}
 use Rattle.words.specs.Words.{Samples}
 use Rattle.ffct.specs.Block.{isLength}
-use Rattle.refusals.specs.Refusals.{someBelow, Verdict, refused, firstOutIn}
+use Rattle.refusals.specs.Refusals.{someBelow, Verdict, refused, accepted, firstOutIn}
 use Rattle.little_endian.specs.Numbers.{unsigned, signed}
 
 -- ---- "Sizes first: sample count m (32 bits unsigned), block length N (32 bits unsigned)."
@@ -54,4 +54,4 @@ fileVerdict file lent =
     (cond (not (eqb (length file) (fileBytes (sampleCount file)))) (refused 9)
     (cond (not (isLength (blockLength file))) (refused 1)
     (cond (someBelow (sampleCount file) lent) (refused 3)
-    (firstOutIn (samplesOfA file ∷ samplesOfB file ∷ []) 0 (sampleCount file))))))
+    (firstOutIn (samplesOfA file ∷ samplesOfB file ∷ []) 0 (sampleCount file) accepted)))))

@@ -31,10 +31,6 @@ or-true : (b : Bool) → (b || true) ≡ true
 or-true true = refl
 or-true false = refl
 
-or-false : (b : Bool) → (b || false) ≡ b
-or-false true = refl
-or-false false = refl
-
 pub some-below : (n : ℕ) (ms : List ℕ) → SomeBelow n ms → someBelow n ms ≡ true
 some-below n [] h = absurd h
 some-below n (m ∷ ms) (inl l) = rw (lt-ltb m n l)
@@ -48,11 +44,8 @@ pub reach-all : (n : ℕ) (ms : List ℕ) → someBelow n ms ≡ false → AllRe
 reach-all n [] e = tt
 reach-all n (m ∷ ms) e = let (f, g) = none-of (ltb m n) (someBelow n ms) e in (ltb-false m n f, reach-all n ms g)
 
--- one length decides, and so does the shorter of two
-pub one-below : (m n : ℕ) → someBelow n (m ∷ []) ≡ ltb m n
-one-below m n = or-false (ltb m n)
-
-pub two-below : (a b : ℕ) {m : ℕ} → m ≡ min a b → (n : ℕ) → someBelow n (a ∷ b ∷ []) ≡ ltb m n
+-- of two lengths the shorter decides
+pub two-below : (a b : ℕ) {m : ℕ} → m ≡ min a b → (n : ℕ) → someBelow n (a ∷ b ∷ []) ≡ someBelow n (m ∷ [])
 two-below a b {m} e n = ⊎-elim
     (λ h. rw (le-ltb a n h) (⊎-elim
     (λ l. rw (le-ltb b n l, le-ltb m n (omega arith)))
@@ -89,11 +82,20 @@ abbrev pub OutAt : List Samples → ℕ → ℕ → ℕ → Type 0
 OutAt [] s N place = ⊥
 OutAt (x ∷ xs) s N place = ((place ≡ firstOut x s N) × (place < s + N)) ⊎ ((firstOut x s N ≡ s + N) × OutAt xs s N place)
 
-pub in-verdict : (xs : List Samples) (s N : ℕ) → AllIn xs s N → firstOutIn xs s N ≡ accepted
-in-verdict [] s N h = refl
-in-verdict (x ∷ xs) s N (e, h) = none-beyond 6 _ x s N _ e ∙ in-verdict xs s N h
+module _ (s N : ℕ) (rest : Verdict) where
+  pub in-verdict : (xs : List Samples) → AllIn xs s N → firstOutIn xs s N rest ≡ rest
+  in-verdict [] h = refl
+  in-verdict (x ∷ xs) (e, h) = none-beyond 6 _ x s N _ e ∙ in-verdict xs h
 
-pub out-verdict : (xs : List Samples) (s N place : ℕ) → OutAt xs s N place → firstOutIn xs s N ≡ refusedAt 6 place
-out-verdict [] s N place h = absurd h
-out-verdict (x ∷ xs) s N place (inl (e, l)) = first-beyond 6 _ x s N _ e l
-out-verdict (x ∷ xs) s N place (inr (e, h)) = none-beyond 6 _ x s N _ e ∙ out-verdict xs s N place h
+  pub out-verdict : (xs : List Samples) (place : ℕ) → OutAt xs s N place → firstOutIn xs s N rest ≡ refusedAt 6 place
+  out-verdict [] place h = absurd h
+  out-verdict (x ∷ xs) place (inl (e, l)) = first-beyond 6 _ x s N _ e l
+  out-verdict (x ∷ xs) place (inr (e, h)) = none-beyond 6 _ x s N _ e ∙ out-verdict xs place h
+
+  -- a verdict that accepts has passed the tests
+  pub past-in : (xs : List Samples) → firstOutIn xs s N rest ≡ accepted → AllIn xs s N × (rest ≡ accepted)
+  past-in [] e = (tt, e)
+  past-in (x ∷ xs) e =
+      let (here, on) = past-beyond 6 _ x s N _ e (omega arith) in
+      let (there, end) = past-in xs on in
+      ((here, there), end)

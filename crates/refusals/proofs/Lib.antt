@@ -1,3 +1,4 @@
 pub mod Ranges
 pub mod Conditions
 pub mod Promises
+pub mod Calls

@@ -60,10 +60,10 @@ firstBeyondOr number limit x start N rest =
 abbrev pub firstOutOr : Samples → ℕ → ℕ → Verdict → Verdict
 firstOutOr x start N rest = firstBeyondOr 6 largestSample x start N rest
 
--- "in Pair a before b"
-abbrev pub firstOutIn : List Samples → ℕ → ℕ → Verdict
-firstOutIn [] start N = accepted
-firstOutIn (x ∷ xs) start N = firstOutOr x start N (firstOutIn xs start N)
+-- 6 on each of the recordings, and then the rest. "in Pair a before b"
+abbrev pub firstOutIn : List Samples → ℕ → ℕ → Verdict → Verdict
+firstOutIn [] start N rest = rest
+firstOutIn (x ∷ xs) start N rest = firstOutOr x start N (firstOutIn xs start N rest)
 
 -- ---- what a call promises of the verdict that its answer tells: it is the one that is stated; what stays where the call is turned down,
 -- and what is done where it is accepted

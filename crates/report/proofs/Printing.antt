@@ -16,12 +16,12 @@ use Rattle.words.specs.Words.{Samples, word}
 use Rattle.ffct.specs.Block.{isLength, level}
 use Rattle.ffct.specs.Transforms.{pair as pairOf}
 use Rattle.ffct.proofs.ElevenLengths.{is-power}
-use Rattle.refusals.specs.Refusals.{block}
+use Rattle.refusals.specs.Refusals.{block, accepted}
 use Rattle.refusals.proofs.Ranges.{none-out}
+use Rattle.refusals.proofs.Calls.{is-accepted}
 use Rattle.spectra.specs.declared.Answer.{Answer}
 use Rattle.spectra.specs.Answers.{spent}
 use Rattle.spectra.specs.Promises.{PairDone, PairPromise}
-use Rattle.spectra.proofs.Verdicts.{is-accepted}
 use Rattle.words.specs.Put.{Put}
 use Rattle.text.specs.Lines.{heading, line, lines}
 use Rattle.words.proofs.Putting.{put-none, _then_}
@@ -34,15 +34,13 @@ module _ (i : ℕ) {N allowance : ℕ} {a b real imaginary scratch real′ imagi
       → PairPromise a b (i * N) N allowance real imaginary scratch real′ imaginary′ scratch′ answer
       → PairDone N (block a (i * N)) (block b (i * N)) allowance real imaginary scratch real′ imaginary′ scratch′ (spent answer)
   pair-done p e promise = promise .done (promise .verdict ∙ is-accepted (record {
-    past = record {
-      length-ok = p .length-ok;
-      recordings = (p .wordsOfA, (p .wordsOfB, tt));
-      results = (p .realWords, (p .imaginaryWords, tt));
-      scratch = p .scratchFits;
-      allowance = omega (arith, e (block a (i * N)) (block b (i * N)));
-    };
+    length-ok = p .length-ok;
+    recordings = (p .wordsOfA, (p .wordsOfB, tt));
+    results = (p .realWords, (p .imaginaryWords, tt));
+    scratch = p .scratchFits;
+    allowance = omega (arith, e (block a (i * N)) (block b (i * N)));
     range = (none-out _ (word a) (i * N) N (λ j _ l. p .rangeOfA j l), (none-out _ (word b) (i * N) N (λ j _ l. p .rangeOfB j l), tt));
-  }))
+  }) accepted)
 
 -- ---- equal coefficients have equal lines
 pub lines-same : (i : ℕ) (f f′ g g′ : Samples) (n : ℕ) → ((k : ℕ) → k < n → f k ≡ f′ k) → ((k : ℕ) → k < n → g k ≡ g′ k)

@@ -20,12 +20,12 @@ use Rattle.counts.specs.declared.tally.Tally.{Tally}
 use Rattle.blocks.specs.Blocks.{Workable, CosineMade, SpectrumMade, PairMade}
 use Rattle.blocks.proofs.BlockRuns.{accepted}
 use Rattle.refusals.specs.Refusals.{scratchWords, block, firstOut}
+use Rattle.refusals.specs.Calls.{Call}
 use Rattle.refusals.proofs.Ranges.{all-in}
-use Rattle.spectra.specs.declared.Answer.the-variants.{Done}
-use Rattle.spectra.specs.Calls.{Call}
-use Rattle.spectra.specs.Promises.{CosinePromise, cosineCall, SpectrumPromise, spectrumCall, PairPromise, pairCall}
 use Rattle.refusals.proofs.Promises.{carried-out}
-use Rattle.spectra.proofs.Verdicts.{Passed6, is-accepted}
+use Rattle.refusals.proofs.Calls.{Passes, is-accepted}
+use Rattle.spectra.specs.declared.Answer.the-variants.{Done}
+use Rattle.spectra.specs.Promises.{CosinePromise, cosineCall, SpectrumPromise, spectrumCall, PairPromise, pairCall}
 
 -- ---- the block of N samples from s on, lent as a slice of the recording r
 abbrev pub lent : List ℤ → ℕ → ℕ → List ℤ
@@ -37,9 +37,9 @@ pub record Fit (recording : List ℤ) (start N : ℕ) : Type 0 where
   pub inside : start + N ≤ length recording
   pub range : firstOut (word recording) start N ≡ start + N
 
-pub fit : {call : Call} (recording : List ℤ) → Passed6 call → call .start + call .N ≤ length recording
+pub fit : {call : Call} (recording : List ℤ) → Passes call → call .start + call .N ≤ length recording
     → firstOut (word recording) (call .start) (call .N) ≡ call .start + call .N → Fit recording (call .start) (call .N)
-fit recording p inside range = record { length-ok = p .past .length-ok; inside = inside; range = range }
+fit recording p inside range = record { length-ok = p .length-ok; inside = inside; range = range }
 
 module _ {recording : List ℤ} {start N : ℕ} (f : Fit recording start N) where
   fit-block : AcceptedBlock (level N) (block recording start)
@@ -86,14 +86,14 @@ put-back {m} {n} {g} {w} {w′} e h p =
     }
 
 -- ---- what an accepted call asks of the functions on a block, and what it has done. m words of scratch are lent, and come back as w′
-module _ {N m allowance start : ℕ} {scratch : List ℤ} (is : m ≡ scratchWords N) where
-  module _ {r coefficients : List ℤ} (passed : Passed6 (cosineCall r start N allowance coefficients scratch)) where
+module _ (scratch : List ℤ) {N m allowance start : ℕ} (is : m ≡ scratchWords N) where
+  module _ (r coefficients : List ℤ) (passed : Passes (cosineCall r start N allowance (length coefficients) (length scratch))) where
     fit-x : Fit r start N
-    fit-x = fit r passed (passed .past .recordings .0) (passed .range .0)
+    fit-x = fit r passed (passed .recordings .0) (passed .range .0)
 
     pub cosine-ready : let n = length (lent r start N) in Workable n (lent r start N) (take m scratch) × (n ≤ length coefficients)
     cosine-ready = let e = fit-length fit-x in
-        (fit-workable fit-x scratch e is (passed .past .scratch), omega (arith, e, passed .past .results .0))
+        (fit-workable fit-x scratch e is (passed .scratch), omega (arith, e, passed .results .0))
 
     pub cosine-done : {coefficients′ w′ : List ℤ} {spent : Tally} → let n = length (lent r start N) in
         CosineMade n (dct (level n) (word (lent r start N))) coefficients (take m scratch) coefficients′ w′ spent
@@ -104,26 +104,27 @@ module _ {N m allowance start : ℕ} {scratch : List ℤ} (is : m ≡ scratchWor
         let (products, sums) = made .tallied in
         let forms = published (level N) in
         let near = limits (level N) x (fit-block fit-x) .dct in
-        carried-out refl (is-accepted passed) (record {
+        carried-out refl (is-accepted passed _) (record {
           block = fit-block fit-x;
           words = made .words;
           near = λ k h. rw (front (made .words) k h) ((rw (sym (is-power N (fit-x .length-ok))) at near) k h);
-          scratchCleared = put-back is (omega (arith, is, passed .past .scratch)) (made .cleared);
+          scratchCleared = put-back is (omega (arith, is, passed .scratch)) (made .cleared);
           tallied = made .tallied;
           published = (ap pos products ∙ forms .dctP x, ap pos sums ∙ forms .dctS x);
-          allowed = omega (arith, products, passed .past .allowance);
+          allowed = omega (arith, products, passed .allowance);
         })
 
-  module _ {r cosine sine : List ℤ} (passed : Passed6 (spectrumCall r start N allowance cosine sine scratch)) where
+  module _ (r cosine sine : List ℤ)
+      (passed : Passes (spectrumCall r start N allowance (length cosine) (length sine) (length scratch))) where
     fit-r : Fit r start N
-    fit-r = fit r passed (passed .past .recordings .0) (passed .range .0)
+    fit-r = fit r passed (passed .recordings .0) (passed .range .0)
 
     pub spectrum-ready : let n = length (lent r start N) in
         Workable n (lent r start N) (take m scratch) × (n / 2 + 1 ≤ length cosine) × (n / 2 + 1 ≤ length sine)
     spectrum-ready = let e = fit-length fit-r in (
-      fit-workable fit-r scratch e is (passed .past .scratch),
-      omega (arith, e, passed .past .results .0),
-      omega (arith, e, passed .past .results .1 .0),
+      fit-workable fit-r scratch e is (passed .scratch),
+      omega (arith, e, passed .results .0),
+      omega (arith, e, passed .results .1 .0),
     )
 
     pub spectrum-done : {cosine′ sine′ w′ : List ℤ} {spent : Tally} → let n = length (lent r start N) in
@@ -137,35 +138,36 @@ module _ {N m allowance start : ℕ} {scratch : List ℤ} (is : m ≡ scratchWor
         let near = limits (level N) x (fit-block fit-r) in
         let (products, sums) = made .tallied in
         let forms = published (level N) in
-        carried-out refl (is-accepted passed) (record {
+        carried-out refl (is-accepted passed _) (record {
           block = fit-block fit-r;
           cosineWords = made .cosineWords;
           sineWords = made .sineWords;
           cosineNear = λ k h. rw (front (made .cosineWords) k (omega (arith, h))) ((rw power at (near .cosine)) k h);
           sineNear = λ k h. rw (front (made .sineWords) k (omega (arith, h))) ((rw power at (near .sine)) k h);
-          scratchCleared = put-back is (omega (arith, is, passed .past .scratch)) (made .cleared);
+          scratchCleared = put-back is (omega (arith, is, passed .scratch)) (made .cleared);
           tallied = made .tallied;
           published = λ h. let some = some-level N (fit-r .length-ok) h in
               (ap pos products ∙ forms .spectrumP x some, ap pos sums ∙ forms .spectrumS x some);
           nothingAtOne = λ e. omega (arith, made .tallied, forms .spectrumAtOne x (one-level N e));
-          allowed = omega (arith, products, passed .past .allowance);
+          allowed = omega (arith, products, passed .allowance);
         })
 
-  module _ {a b real imaginary : List ℤ} (passed : Passed6 (pairCall a b start N allowance real imaginary scratch)) where
+  module _ (a b real imaginary : List ℤ)
+      (passed : Passes (pairCall a b start N allowance (length real) (length imaginary) (length scratch))) where
     fit-a : Fit a start N
-    fit-a = fit a passed (passed .past .recordings .0) (passed .range .0)
+    fit-a = fit a passed (passed .recordings .0) (passed .range .0)
 
     fit-b : Fit b start N
-    fit-b = fit b passed (passed .past .recordings .1 .0) (passed .range .1 .0)
+    fit-b = fit b passed (passed .recordings .1 .0) (passed .range .1 .0)
 
     pub pair-ready : let n = length (lent a start N) in
         Workable n (lent a start N) (take m scratch) × Workable n (lent b start N) (take m scratch)
         × (n ≤ length real) × (n ≤ length imaginary)
     pair-ready = let e = fit-length fit-a in (
-      fit-workable fit-a scratch e is (passed .past .scratch),
-      fit-workable fit-b scratch e is (passed .past .scratch),
-      omega (arith, e, passed .past .results .0),
-      omega (arith, e, passed .past .results .1 .0),
+      fit-workable fit-a scratch e is (passed .scratch),
+      fit-workable fit-b scratch e is (passed .scratch),
+      omega (arith, e, passed .results .0),
+      omega (arith, e, passed .results .1 .0),
     )
 
     pub pair-done : {real′ imaginary′ w′ : List ℤ} {spent : Tally} → let n = length (lent a start N) in
@@ -180,17 +182,17 @@ module _ {N m allowance start : ℕ} {scratch : List ℤ} (is : m ≡ scratchWor
         let near = pair-limits (level N) x y (fit-block fit-a) (fit-block fit-b) in
         let (products, sums) = made .tallied in
         let forms = published (level N) in
-        carried-out refl (is-accepted passed) (record {
+        carried-out refl (is-accepted passed _) (record {
           blockA = fit-block fit-a;
           blockB = fit-block fit-b;
           realWords = made .realWords;
           imaginaryWords = made .imaginaryWords;
           realNear = λ k h. rw (front (made .realWords) k h) ((rw power at (near .real)) k h);
           imaginaryNear = λ k h. rw (front (made .imaginaryWords) k h) ((rw power at (near .imaginary)) k h);
-          scratchCleared = put-back is (omega (arith, is, passed .past .scratch)) (made .cleared);
+          scratchCleared = put-back is (omega (arith, is, passed .scratch)) (made .cleared);
           tallied = made .tallied;
           published = λ h. let some = some-level N (fit-a .length-ok) h in
               (ap pos products ∙ forms .pairP x y some, ap pos sums ∙ forms .pairS x y some);
           nothingAtOne = λ e. omega (arith, made .tallied, forms .pairAtOne x y (one-level N e));
-          allowed = omega (arith, products, passed .past .allowance);
+          allowed = omega (arith, products, passed .allowance);
         })

@@ -1,2 +1,3 @@
-pub mod Verdicts
 pub mod Accepted
+pub mod MarkRules
+pub mod MarkRuns

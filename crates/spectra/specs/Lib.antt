@@ -1,4 +1,4 @@
-pub mod Calls
 pub mod Answers
-pub mod Tests
+pub mod Marks
+pub mod MarkAnswers
 pub mod Promises

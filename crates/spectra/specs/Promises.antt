@@ -5,6 +5,7 @@ use mathlib.Core.List.{List, [], _∷_}
 use mathlib.Core.Path.{_≡_}
 use Prim.Native.Nat.{ℕ, _+_, _/_, _≤_, _<_}
 use lib.IntN.{ℤ, pos}
+use lib.ListN.{length}
 use Rattle.words.specs.Words.{Samples, word, Written}
 use Rattle.ffct.specs.Block.{AcceptedBlock, isLength, level}
 use Rattle.ffct.specs.Exact.{exactCosine, exactSine, exactDct, exactReal, exactImaginary, eighth, quarterOfNext, quarter, Within}
@@ -13,16 +14,21 @@ use Rattle.ffct.specs.Counts.{dctProducts, dctSums, spectrumProducts, spectrumS
 use Rattle.counts.specs.declared.tally.Tally.{Tally}
 use Rattle.counts.specs.Counts.{SixCounts, SixPublished}
 use Rattle.refusals.specs.Refusals.{scratchWords, block, refused, accepted, Promise}
+use Rattle.refusals.specs.Calls.{Call, verdict}
 use Rattle.spectra.specs.declared.Answer.{Answer}
 use Rattle.spectra.specs.declared.CountsAnswer.{CountsAnswer}
-use Rattle.spectra.specs.Calls.{Call, verdict}
+use Rattle.spectra.specs.declared.marks.MarkAnswer.{MarkAnswer}
+use Rattle.spectra.specs.declared.marks.MarkAnswer.the-variants.{Marked}
 use Rattle.spectra.specs.Answers.{verdictOf, spent, verdictOfCounts, countsOf}
+use Rattle.spectra.specs.Marks.{mark, markVerdict}
+use Rattle.spectra.specs.MarkAnswers as marked
 
--- ---- Spectrum
-abbrev pub spectrumCall : List ℤ → ℕ → ℕ → ℕ → List ℤ → List ℤ → List ℤ → Call
+-- ---- Spectrum: the call, with the lengths of its buffers
+abbrev pub spectrumCall : List ℤ → (start N allowance cosine sine scratch : ℕ) → Call
 spectrumCall recording start N allowance cosine sine scratch =
     record {
-      recordings = recording ∷ [];
+      lengths = length recording ∷ [];
+      samples = word recording ∷ [];
       start = start;
       N = N;
       allowance = allowance;
@@ -48,15 +54,31 @@ pub record SpectrumDone (N : ℕ) (x : Samples) (allowance : ℕ)
 
 abbrev pub SpectrumPromise : List ℤ → ℕ → ℕ → ℕ → (cosine sine scratch cosine′ sine′ scratch′ : List ℤ) → Answer → Type 0
 SpectrumPromise recording start N allowance cosine sine scratch cosine′ sine′ scratch′ answer =
-    Promise (verdictOf answer) (verdict (spectrumCall recording start N allowance cosine sine scratch))
+    Promise (verdictOf answer) (verdict (spectrumCall recording start N allowance (length cosine) (length sine) (length scratch)))
     ((cosine′ ≡ cosine) × (sine′ ≡ sine) × (scratch′ ≡ scratch))
     (SpectrumDone N (block recording start) allowance cosine sine scratch cosine′ sine′ scratch′ (spent answer))
 
+-- ---- the mark of a block: the call is Spectrum's. "returns the mark with Spectrum's full answer"
+pub record MarkDone (flatLimit clipLevel : ℤ) (N : ℕ) (x : Samples) (allowance : ℕ)
+    (cosine sine scratch cosine′ sine′ scratch′ : List ℤ) (answer : MarkAnswer) : Type 0 where
+  pub spectrum : SpectrumDone N x allowance cosine sine scratch cosine′ sine′ scratch′ (marked.spent answer)
+  pub marked : answer ≡ Marked (mark flatLimit clipLevel N x (spectrumOf (level N) x .cosine) (spectrumOf (level N) x .sine))
+      (marked.spent answer)
+
+abbrev pub MarkPromise : List ℤ → (start N allowance : ℕ) → (flatLimit clipLevel : ℤ)
+    → (cosine sine scratch cosine′ sine′ scratch′ : List ℤ) → MarkAnswer → Type 0
+MarkPromise recording start N allowance flatLimit clipLevel cosine sine scratch cosine′ sine′ scratch′ answer =
+    Promise (marked.verdictOf answer)
+    (markVerdict (spectrumCall recording start N allowance (length cosine) (length sine) (length scratch)) flatLimit clipLevel)
+    ((cosine′ ≡ cosine) × (sine′ ≡ sine) × (scratch′ ≡ scratch))
+    (MarkDone flatLimit clipLevel N (block recording start) allowance cosine sine scratch cosine′ sine′ scratch′ answer)
+
 -- ---- Cosine
-abbrev pub cosineCall : List ℤ → ℕ → ℕ → ℕ → List ℤ → List ℤ → Call
+abbrev pub cosineCall : List ℤ → (start N allowance coefficients scratch : ℕ) → Call
 cosineCall recording start N allowance coefficients scratch =
     record {
-      recordings = recording ∷ [];
+      lengths = length recording ∷ [];
+      samples = word recording ∷ [];
       start = start;
       N = N;
       allowance = allowance;
@@ -78,15 +100,16 @@ pub record CosineDone (N : ℕ) (x : Samples) (allowance : ℕ)
 
 abbrev pub CosinePromise : List ℤ → ℕ → ℕ → ℕ → (coefficients scratch coefficients′ scratch′ : List ℤ) → Answer → Type 0
 CosinePromise recording start N allowance coefficients scratch coefficients′ scratch′ answer =
-    Promise (verdictOf answer) (verdict (cosineCall recording start N allowance coefficients scratch))
+    Promise (verdictOf answer) (verdict (cosineCall recording start N allowance (length coefficients) (length scratch)))
     ((coefficients′ ≡ coefficients) × (scratch′ ≡ scratch))
     (CosineDone N (block recording start) allowance coefficients scratch coefficients′ scratch′ (spent answer))
 
 -- ---- Pair, recordings a and b
-abbrev pub pairCall : List ℤ → List ℤ → ℕ → ℕ → ℕ → List ℤ → List ℤ → List ℤ → Call
+abbrev pub pairCall : (a b : List ℤ) → (start N allowance real imaginary scratch : ℕ) → Call
 pairCall a b start N allowance real imaginary scratch =
     record {
-      recordings = a ∷ b ∷ [];
+      lengths = length a ∷ length b ∷ [];
+      samples = word a ∷ word b ∷ [];
       start = start;
       N = N;
       allowance = allowance;
@@ -112,7 +135,7 @@ pub record PairDone (N : ℕ) (x y : Samples) (allowance : ℕ)
 
 abbrev pub PairPromise : List ℤ → List ℤ → ℕ → ℕ → ℕ → (real imaginary scratch real′ imaginary′ scratch′ : List ℤ) → Answer → Type 0
 PairPromise a b start N allowance real imaginary scratch real′ imaginary′ scratch′ answer =
-    Promise (verdictOf answer) (verdict (pairCall a b start N allowance real imaginary scratch))
+    Promise (verdictOf answer) (verdict (pairCall a b start N allowance (length real) (length imaginary) (length scratch)))
     ((real′ ≡ real) × (imaginary′ ≡ imaginary) × (scratch′ ≡ scratch))
     (PairDone N (block a start) (block b start) allowance real imaginary scratch real′ imaginary′ scratch′ (spent answer))
 

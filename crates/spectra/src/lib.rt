@@ -1,35 +1,34 @@
-// Spectrum, Cosine, Pair and the count query, as a buyer calls them. No call asks anything of its input: each tests document 01's refusals
-// in their order, before anything is written, and promises its whole outcome (specs/Promises.antt).
+// Spectrum, Cosine, Pair and the count query, as a buyer calls them; marks of blocks are in a module of their own. No call asks anything of
+// its input: each tests its refusals in their order, before anything is written, and promises its whole outcome (specs/Promises.antt).
+pub mod marks;
+
 use blocks::cosine_of;
 use blocks::pair_of;
 use blocks::spectrum_of;
 use counts::Counts;
 use counts::counts_of;
 use counts::tally::Tally;
+use refusals::call;
+use refusals::call::Refusal;
+use refusals::call::Tested;
+use refusals::call::test;
 use refusals::length::is_length;
-use refusals::length::reaches_beyond;
 use refusals::length::scratch_words;
 use refusals::length::shorter;
 use refusals::range::first_out;
 ghost use mathlib.Core.Bool.{true};
 ghost use mathlib.Core.Path.{_≡_};
-ghost use Prim.Native.Nat.{_≤_};
-ghost use lib.ListN.{length as List·length};
 ghost use Rattle.ffct.specs.Block.{isLength, level};
 ghost use Rattle.counts.specs.Counts.{SixCounts};
 ghost use Rattle.refusals.specs.Refusals.{number};
+ghost use Rattle.refusals.specs.Tests.{Tells};
 ghost use Rattle.spectra.specs.Answers.{verdictOf, spent, place};
-ghost use Rattle.spectra.specs.Tests.{Tells};
+ghost use Rattle.spectra.specs.Promises.{spectrumCall, pairCall};
 ghost use Rattle.spectra.specs.Promises.{SpectrumPromise, CosinePromise, PairPromise, CountsPromise};
 
-// The answer of a call on recordings: a case for each refusal of document 01, or the counts that were spent.
+// The answer of a call on recordings: a refusal, or the counts that were spent.
 pub enum Answer {
-    BadLength,
-    BeyondRecording,
-    ResultTooShort,
-    ScratchTooShort,
-    AllowanceTooSmall,
-    OutOfRange(usize),
+    Refused(Refusal),
     Done(Tally),
 }
 
@@ -37,12 +36,6 @@ pub enum Answer {
 pub enum CountsAnswer {
     BadLength,
     Counted(Counts),
-}
-
-// What the tests of a call find: the answer that turns it down, or nothing.
-enum Tested {
-    Refused(Answer),
-    Passed,
 }
 
 // ---- the tests
@@ -58,39 +51,66 @@ fn counts_at(length: usize) -> Counts
     }
 }
 
-// The tests 1 to 6 in their order, 6 on one recording. Of several recordings, and of several result buffers, the shortest length is given.
-fn test(
+// The tests of Spectrum, on the words of its buffers.
+fn test_spectrum(
     recording: &[i32],
-    shortest: usize,
     start: usize,
     length: usize,
     allowance: u64,
-    room: usize,
-    yields: usize,
+    cosine: usize,
+    sine: usize,
     scratch: usize,
-    products: u64,
 ) -> Tested
-    requires { ⌜ shortest ≤ List·length (now recording) ⌝ }
-    ensures { λ r. ⌜ Tells (now (recording .entry)) shortest start length allowance room yields scratch products r ⌝ }
+    ensures { λ r. ⌜ Tells (spectrumCall (now (recording .entry)) start length allowance cosine sine scratch) r ⌝ }
 {
-    if !is_length(length) {
-        return Tested::Refused(Answer::BadLength);
+    let counts = counts_at(length);
+    let room = shorter(cosine, sine);
+    test(
+        recording,
+        recording.len(),
+        start,
+        length,
+        allowance,
+        room,
+        length / 2 + 1,
+        scratch,
+        counts.spectrum.products,
+    )
+}
+
+// The tests of Pair: those on a, and then 6 on b.
+fn test_pair(
+    a: &[i32],
+    b: &[i32],
+    start: usize,
+    length: usize,
+    allowance: u64,
+    real: usize,
+    imaginary: usize,
+    scratch: usize,
+) -> Tested
+    ensures { λ r. ⌜ Tells (pairCall (now (a .entry)) (now (b .entry)) start length allowance real imaginary scratch) r ⌝ }
+{
+    let counts = counts_at(length);
+    let shortest = shorter(a.len(), b.len());
+    let room = shorter(real, imaginary);
+    let tested = test(
+        a,
+        shortest,
+        start,
+        length,
+        allowance,
+        room,
+        length,
+        scratch,
+        counts.pair.products,
+    );
+    if let Tested::Refused(refusal) = tested {
+        return Tested::Refused(refusal);
     }
-    if reaches_beyond(start, length, shortest) {
-        return Tested::Refused(Answer::BeyondRecording);
-    }
-    if room < yields {
-        return Tested::Refused(Answer::ResultTooShort);
-    }
-    if scratch < scratch_words(length) {
-        return Tested::Refused(Answer::ScratchTooShort);
-    }
-    if allowance < products {
-        return Tested::Refused(Answer::AllowanceTooSmall);
-    }
-    let out = first_out(recording, start, length);
+    let out = first_out(b, start, length);
     if out < start + length {
-        return Tested::Refused(Answer::OutOfRange(out));
+        return Tested::Refused(Refusal::OutOfRange(out));
     }
     Tested::Passed
 }
@@ -110,21 +130,17 @@ pub fn spectrum(
         (now (cosine .entry)) (now (sine .entry)) (now (scratch .entry))
         (now (cosine .exit)) (now (sine .exit)) (now (scratch .exit)) r ⌝ }
 {
-    let counts = counts_at(length);
-    let room = shorter(cosine.len(), sine.len());
-    let tested = test(
+    let tested = test_spectrum(
         recording,
-        recording.len(),
         start,
         length,
         allowance,
-        room,
-        length / 2 + 1,
+        cosine.len(),
+        sine.len(),
         scratch.len(),
-        counts.spectrum.products,
     );
-    if let Tested::Refused(answer) = tested {
-        return answer;
+    if let Tested::Refused(refusal) = tested {
+        return Answer::Refused(refusal);
     }
     let end = start + length;
     let m = scratch_words(length);
@@ -155,8 +171,8 @@ pub fn cosine(
         scratch.len(),
         counts.dct.products,
     );
-    if let Tested::Refused(answer) = tested {
-        return answer;
+    if let Tested::Refused(refusal) = tested {
+        return Answer::Refused(refusal);
     }
     let end = start + length;
     let m = scratch_words(length);
@@ -177,28 +193,20 @@ pub fn pair(
         (now (real .entry)) (now (imaginary .entry)) (now (scratch .entry))
         (now (real .exit)) (now (imaginary .exit)) (now (scratch .exit)) r ⌝ }
 {
-    let counts = counts_at(length);
-    let shortest = shorter(a.len(), b.len());
-    let room = shorter(real.len(), imaginary.len());
-    let tested = test(
+    let tested = test_pair(
         a,
-        shortest,
+        b,
         start,
         length,
         allowance,
-        room,
-        length,
+        real.len(),
+        imaginary.len(),
         scratch.len(),
-        counts.pair.products,
     );
-    if let Tested::Refused(answer) = tested {
-        return answer;
+    if let Tested::Refused(refusal) = tested {
+        return Answer::Refused(refusal);
     }
     let end = start + length;
-    let out = first_out(b, start, length);
-    if out < end {
-        return Answer::OutOfRange(out);
-    }
     let m = scratch_words(length);
     Answer::Done(pair_of(
         &a[start..end],
@@ -226,12 +234,7 @@ pub fn number_of(answer: Answer) -> u32
     ensures { λ r. ⌜ r ≡ number (verdictOf answer) ⌝ }
 {
     match answer {
-        Answer::BadLength => 1,
-        Answer::BeyondRecording => 2,
-        Answer::ResultTooShort => 3,
-        Answer::ScratchTooShort => 4,
-        Answer::AllowanceTooSmall => 5,
-        Answer::OutOfRange(_) => 6,
+        Answer::Refused(refusal) => call::number_of(refusal),
         Answer::Done(_) => 0,
     }
 }
@@ -240,18 +243,12 @@ pub fn number_of(answer: Answer) -> u32
 pub fn spent_of(answer: Answer) -> Tally
     ensures { λ r. ⌜ (r .products ≡ spent answer .products) × (r .sums ≡ spent answer .sums) ⌝ }
 {
-    let none = Tally {
-        products: 0,
-        sums: 0,
-    };
     match answer {
         Answer::Done(tally) => tally,
-        Answer::BadLength => none,
-        Answer::BeyondRecording => none,
-        Answer::ResultTooShort => none,
-        Answer::ScratchTooShort => none,
-        Answer::AllowanceTooSmall => none,
-        Answer::OutOfRange(_) => none,
+        Answer::Refused(_) => Tally {
+            products: 0,
+            sums: 0,
+        },
     }
 }
 
@@ -260,12 +257,7 @@ pub fn place_of(answer: Answer) -> usize
     ensures { λ r. ⌜ r ≡ place answer ⌝ }
 {
     match answer {
-        Answer::OutOfRange(place) => place,
-        Answer::BadLength => 0,
-        Answer::BeyondRecording => 0,
-        Answer::ResultTooShort => 0,
-        Answer::ScratchTooShort => 0,
-        Answer::AllowanceTooSmall => 0,
+        Answer::Refused(refusal) => call::place_of(refusal),
         Answer::Done(_) => 0,
     }
 }

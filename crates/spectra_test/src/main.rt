@@ -2,6 +2,7 @@
 // tests/spectra.py, which shares nothing with the product.
 use counts::tally::Tally;
 use libc::STDOUT_FILENO;
+use refusals::call::Refusal;
 use spectra::Answer;
 use spectra::CountsAnswer;
 use spectra::cosine;
@@ -22,17 +23,23 @@ fn write_tally(tally: Tally) {
     write_count(tally.sums);
 }
 
-fn write_answer(answer: Answer) {
-    match answer {
-        Answer::BadLength => write_count(1),
-        Answer::BeyondRecording => write_count(2),
-        Answer::ResultTooShort => write_count(3),
-        Answer::ScratchTooShort => write_count(4),
-        Answer::AllowanceTooSmall => write_count(5),
-        Answer::OutOfRange(place) => {
+fn write_refusal(refusal: Refusal) {
+    match refusal {
+        Refusal::BadLength => write_count(1),
+        Refusal::BeyondRecording => write_count(2),
+        Refusal::ResultTooShort => write_count(3),
+        Refusal::ScratchTooShort => write_count(4),
+        Refusal::AllowanceTooSmall => write_count(5),
+        Refusal::OutOfRange(place) => {
             write_count(6);
             write_count(place as u64);
         }
+    }
+}
+
+fn write_answer(answer: Answer) {
+    match answer {
+        Answer::Refused(refusal) => write_refusal(refusal),
         Answer::Done(tally) => {
             write_count(0);
             write_tally(tally);

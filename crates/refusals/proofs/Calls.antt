@@ -1,0 +1,92 @@
+-- The tests of a call: what they say of a call that passes them; that those of several recordings are those of the first, and the rest; and
+-- that a refusal accepts nothing.
+-- Assumes nothing.
+use mathlib.Core.Path.{_≡_, refl, subst, _∙_}
+use mathlib.Core.Bool.{Bool, true, false, not, cond}
+use mathlib.Core.List.{List, [], _∷_}
+use Prim.Native.Nat.{ℕ, _+_, _≤_, _<_}
+use native.Mathlib.Omega.{arith}
+use lib.Dec.{ltb}
+use borrow.Author.Tests.{le-ltb, ltb-false, not-false}
+use Rattle.words.specs.Words.{Samples}
+use Rattle.ffct.specs.Block.{isLength}
+use Rattle.refusals.specs.Refusals.{someBelow, scratchWords, Verdict, number, firstOutIn, accepted, Promise}
+use Rattle.refusals.specs.declared.call.Refusal.{Refusal}
+use Rattle.refusals.specs.declared.call.Refusal.the-variants.{BadLength, BeyondRecording, ResultTooShort, ScratchTooShort}
+use Rattle.refusals.specs.declared.call.Refusal.the-variants.{AllowanceTooSmall, OutOfRange}
+use Rattle.refusals.specs.declared.call.Tested.{Tested}
+use Rattle.refusals.specs.declared.call.Tested.the-variants.{Refused, Passed}
+use Rattle.refusals.specs.Calls.{Call, tests, oneRecording}
+use Rattle.refusals.specs.Tests.{verdictOf, outcome, Tells}
+use Rattle.refusals.proofs.Promises.{turned-down, past-test}
+use Rattle.refusals.proofs.Conditions.{AllReach, all-reach, reach-all, AllIn, in-verdict, past-in}
+
+-- ---- a call that passes its tests
+pub record Passes (call : Call) : Type 0 where
+  pub length-ok : isLength (call .N) ≡ true
+  pub recordings : AllReach (call .start + call .N) (call .lengths)
+  pub results : AllReach (call .yields) (call .results)
+  pub scratch : scratchWords (call .N) ≤ call .scratch
+  pub allowance : call .products ≤ call .allowance
+  pub range : AllIn (call .samples) (call .start) (call .N)
+
+pub passes : (call : Call) → tests call accepted ≡ accepted → Passes call
+unfolding tests
+passes call e =
+    let (good, past-1) = past-test (not (isLength (call .N))) e (omega arith) in
+    let (inside, past-2) = past-test (someBelow (call .start + call .N) (call .lengths)) past-1 (omega arith) in
+    let (room, past-3) = past-test (someBelow (call .yields) (call .results)) past-2 (omega arith) in
+    let (words, past-4) = past-test (ltb (call .scratch) (scratchWords (call .N))) past-3 (omega arith) in
+    let (allowed, past-5) = past-test (ltb (call .allowance) (call .products)) past-4 (omega arith) in
+    record {
+      length-ok = not-false _ good;
+      recordings = reach-all _ (call .lengths) inside;
+      results = reach-all _ (call .results) room;
+      scratch = ltb-false _ _ words;
+      allowance = ltb-false _ _ allowed;
+      range = past-in (call .start) (call .N) accepted (call .samples) past-5 .0;
+    }
+
+pub is-accepted : {call : Call} → Passes call → (rest : Verdict) → tests call rest ≡ rest
+unfolding tests
+is-accepted {call} p rest =
+    let reach = all-reach (call .start + call .N) (call .lengths) (p .recordings) in
+    let room = all-reach (call .yields) (call .results) (p .results) in
+    rw (p .length-ok, reach, room, le-ltb _ _ (p .scratch), le-ltb _ _ (p .allowance))
+    (in-verdict (call .start) (call .N) rest (call .samples) (p .range))
+
+-- ---- the tests of a call on several recordings, from those on the first; `shortest` stands for the lengths of its recordings, `room` for
+-- those of its result buffers, and the products need be the call's only where N is a length
+of-length : (b : Bool) (u v w : Verdict) → (b ≡ true → v ≡ w) → cond (not b) u v ≡ cond (not b) u w
+of-length true u v w e = e refl
+of-length false u v w e = refl
+
+module _ (call : Call) {x : Samples} {others : List Samples} (is : call .samples ≡ x ∷ others) {shortest room products : ℕ}
+    (below : (n : ℕ) → someBelow n (call .lengths) ≡ someBelow n (shortest ∷ []))
+    (short : (n : ℕ) → someBelow n (call .results) ≡ someBelow n (room ∷ []))
+    (spends : isLength (call .N) ≡ true → products ≡ call .products) where
+  pub by-first : {tested : Tested}
+      → Tells (oneRecording x shortest (call .start) (call .N) (call .allowance) room (call .yields) (call .scratch) products) tested
+      → (rest : Verdict) → tests call rest ≡ outcome tested (firstOutIn others (call .start) (call .N) rest)
+  unfolding tests
+  by-first t rest =
+      rw (below (call .start + call .N), short (call .yields), is)
+      (of-length (isLength (call .N)) _ _ _ (λ h. rw (spends h)))
+      ∙ t .verdict (firstOutIn others (call .start) (call .N) rest)
+
+-- ---- what the tests tell of a call: the promise of one that is turned down by them, and the verdict on one that passes
+pub some-number : (refusal : Refusal) → 0 < number (verdictOf refusal)
+some-number BadLength = omega arith
+some-number BeyondRecording = omega arith
+some-number ResultTooShort = omega arith
+some-number ScratchTooShort = omega arith
+some-number AllowanceTooSmall = omega arith
+some-number (OutOfRange place) = omega arith
+
+module _ {call : Call} {tested : Tested} (t : Tells call tested) (rest : Verdict) where
+  pub refused-by : {Unchanged Done : Type 0} → Unchanged → {refusal : Refusal} → tested ≡ Refused refusal
+      → Promise (verdictOf refusal) (tests call rest) Unchanged Done
+  refused-by u {refusal} e = turned-down u (some-number refusal) (subst (Tells call) e t .verdict rest)
+
+  pub passed-by : tested ≡ Passed → tests call rest ≡ rest
+  passed-by e = subst (Tells call) e t .verdict rest

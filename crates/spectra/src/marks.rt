@@ -1,0 +1,196 @@
+// A mark for each block, with the owner's own figures (document 02, (iii)).
+use crate::Answer;
+use crate::spectrum;
+use crate::test_spectrum;
+use counts::tally::Tally;
+use refusals::call;
+use refusals::call::Refusal;
+use refusals::call::Tested;
+use refusals::range::first_beyond;
+ghost use mathlib.Core.Path.{_≡_};
+ghost use Prim.Native.Nat.{_+_, _/_, _^_, _≤_, _<_};
+ghost use lib.IntN.{pos};
+ghost use lib.ListN.{length as List·length};
+ghost use Rattle.words.specs.Words.{word};
+ghost use Rattle.refusals.specs.Refusals.{block, number};
+ghost use Rattle.spectra.specs.Marks.{flat, clipped, mark, badFigures};
+ghost use Rattle.spectra.specs.MarkAnswers.{verdictOf, spent, place, markNumber};
+ghost use Rattle.spectra.specs.Promises.{MarkPromise};
+
+pub enum Mark {
+    Flat,
+    Clipped,
+    Plain,
+}
+
+// The answer of the call: a refusal of Spectrum, that of the figures, or the mark with the counts that were spent.
+pub enum MarkAnswer {
+    Refused(Refusal),
+    BadFigures,
+    Marked(Mark, Tally),
+}
+
+// ---- the figures and the rules
+
+// Whether the flat limit is negative or the clip level is outside 1 to 1,000,000.
+fn bad_figures(flat_limit: i32, clip_level: i32) -> bool
+    ensures { λ r. ⌜ r ≡ badFigures «flat_limit» «clip_level» ⌝ }
+{
+    if flat_limit < 0 {
+        return true;
+    }
+    if clip_level < 1 {
+        return true;
+    }
+    1000000 < clip_level
+}
+
+// Whether all coefficients from k = 1 are at most the flat limit in size.
+fn is_flat(limit: u32, length: usize, cosine: &[i32], sine: &[i32]) -> bool
+    requires { ⌜ (limit < 2 ^ 31) × (length / 2 + 1 ≤ List·length (now cosine)) × (length / 2 + 1 ≤ List·length (now sine)) ⌝ }
+    ensures { λ r. ⌜ r ≡ flat (pos limit) length (word (now (cosine .entry))) (word (now (sine .entry))) ⌝ }
+{
+    let last = length / 2;
+    if first_beyond(limit, cosine, 1, last) <= last {
+        return false;
+    }
+    last < first_beyond(limit, sine, 1, last)
+}
+
+// Whether a sample is at least the clip level in size: beyond the number before it.
+fn is_clipped(level: u32, recording: &[i32], start: usize, length: usize) -> bool
+    requires { ⌜ (1 ≤ level) × (level < 2 ^ 31) × (start + length ≤ List·length (now recording)) ⌝ }
+    ensures { λ r. ⌜ r ≡ clipped (pos level) length (block (now (recording .entry)) start) ⌝ }
+{
+    first_beyond(level - 1, recording, start, length) < start + length
+}
+
+// The mark of a block, from its coefficients. Flat is looked at first.
+fn mark_by(
+    flat_limit: u32,
+    clip_level: u32,
+    recording: &[i32],
+    start: usize,
+    length: usize,
+    cosine: &[i32],
+    sine: &[i32],
+) -> Mark
+    requires { ⌜ («flat_limit» < 2 ^ 31) × (1 ≤ «clip_level») × («clip_level» < 2 ^ 31)
+        × (start + length ≤ List·length (now recording))
+        × (length / 2 + 1 ≤ List·length (now cosine)) × (length / 2 + 1 ≤ List·length (now sine)) ⌝ }
+    ensures { λ r. ⌜ r ≡ mark (pos «flat_limit») (pos «clip_level») length
+        (block (now (recording .entry)) start) (word (now (cosine .entry))) (word (now (sine .entry))) ⌝ }
+{
+    if is_flat(flat_limit, length, cosine, sine) {
+        return Mark::Flat;
+    }
+    if is_clipped(clip_level, recording, start, length) {
+        return Mark::Clipped;
+    }
+    Mark::Plain
+}
+
+// ---- the call
+
+// Spectrum, and the mark of its block. The figures are tested behind all that Spectrum tests.
+pub fn mark_block(
+    recording: &[i32],
+    start: usize,
+    length: usize,
+    allowance: u64,
+    flat_limit: i32,
+    clip_level: i32,
+    cosine: &mut [i32],
+    sine: &mut [i32],
+    scratch: &mut [i64],
+) -> MarkAnswer
+    ensures { λ r. ⌜ MarkPromise (now (recording .entry)) start length allowance «flat_limit» «clip_level»
+        (now (cosine .entry)) (now (sine .entry)) (now (scratch .entry))
+        (now (cosine .exit)) (now (sine .exit)) (now (scratch .exit)) r ⌝ }
+{
+    if bad_figures(flat_limit, clip_level) {
+        let tested = test_spectrum(
+            recording,
+            start,
+            length,
+            allowance,
+            cosine.len(),
+            sine.len(),
+            scratch.len(),
+        );
+        return match tested {
+            Tested::Refused(refusal) => MarkAnswer::Refused(refusal),
+            Tested::Passed => MarkAnswer::BadFigures,
+        };
+    }
+    let answer = spectrum(recording, start, length, allowance, cosine, sine, scratch);
+    match answer {
+        Answer::Refused(refusal) => MarkAnswer::Refused(refusal),
+        Answer::Done(tally) => {
+            let mark = mark_by(
+                flat_limit as u32,
+                clip_level as u32,
+                recording,
+                start,
+                length,
+                cosine,
+                sine,
+            );
+            MarkAnswer::Marked(mark, tally)
+        }
+    }
+}
+
+// ---- the answer as plain numbers
+
+// The number of an answer in document 01 or 02; 0 where the call was accepted.
+pub fn number_of(answer: MarkAnswer) -> u32
+    ensures { λ r. ⌜ r ≡ number (verdictOf answer) ⌝ }
+{
+    match answer {
+        MarkAnswer::Refused(refusal) => call::number_of(refusal),
+        MarkAnswer::BadFigures => 12,
+        MarkAnswer::Marked(_, _) => 0,
+    }
+}
+
+// The counts that an accepted call spent; else 0 and 0.
+pub fn spent_of(answer: MarkAnswer) -> Tally
+    ensures { λ r. ⌜ (r .products ≡ spent answer .products) × (r .sums ≡ spent answer .sums) ⌝ }
+{
+    let none = Tally {
+        products: 0,
+        sums: 0,
+    };
+    match answer {
+        MarkAnswer::Marked(_, tally) => tally,
+        MarkAnswer::Refused(_) => none,
+        MarkAnswer::BadFigures => none,
+    }
+}
+
+// The place of the first sample out of range, of refusal 6; else 0.
+pub fn place_of(answer: MarkAnswer) -> usize
+    ensures { λ r. ⌜ r ≡ place answer ⌝ }
+{
+    match answer {
+        MarkAnswer::Refused(refusal) => call::place_of(refusal),
+        MarkAnswer::BadFigures => 0,
+        MarkAnswer::Marked(_, _) => 0,
+    }
+}
+
+// The mark as a number: flat 1, clipped 2, plain 3; 0 where the call was turned down.
+pub fn mark_of(answer: MarkAnswer) -> u32
+    ensures { λ r. ⌜ r ≡ markNumber answer ⌝ }
+{
+    match answer {
+        MarkAnswer::Marked(mark, _) => match mark {
+            Mark::Flat => 1,
+            Mark::Clipped => 2,
+            Mark::Plain => 3,
+        },
+        MarkAnswer::Refused(_) => 0,
+        MarkAnswer::BadFigures => 0,
+    }
+}
