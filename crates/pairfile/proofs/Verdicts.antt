@@ -123,7 +123,8 @@ module _ (file : List ℕ) (a b : List ℤ) where
         abbrev recordings : List Samples
         recordings = samplesAt file startOfA ∷ samplesAt file (startOfB m) ∷ []
 
-        past-9 : fileVerdict file lent ≡ cond (not ok) (refused 1) (cond (someBelow m lent) (refused 3) (firstOutIn recordings 0 m accepted))
+        past-9 : fileVerdict file lent
+            ≡ cond (not ok) (refused 1) (cond (someBelow m lent) (refused 3) (firstOutIn recordings 0 m accepted))
         unfolding fileVerdict
         past-9 = rw (is, blocks, count, le-ltb _ _ header, passed-8 .count, eq-eqb _ _ (rw count at bytes))
 

@@ -51,11 +51,12 @@ module _ (limit N : ℕ) where
   from-1 : (x : Samples) → all (λ k. leZ (size (x k)) (pos limit)) 1 (N / 2) ≡ ltb (N / 2) (firstBeyond limit x 1 (N / 2))
   from-1 x = within limit x 1 (N / 2) ∙ ap (λ e. leb e (firstBeyond limit x 1 (N / 2))) (omega arith)
 
-  pub not-flat : (cosine sine : Samples) {out : ℕ} → out ≡ firstBeyond limit cosine 1 (N / 2) → out ≤ N / 2 → flat (pos limit) N cosine sine ≡ false
+  pub not-flat : (cosine sine : Samples) {out : ℕ} → out ≡ firstBeyond limit cosine 1 (N / 2) → out ≤ N / 2
+      → flat (pos limit) N cosine sine ≡ false
   not-flat cosine sine e h = rw (from-1 cosine, ← e, le-ltb _ _ h)
 
-  pub flat-by : (cosine sine : Samples) {out beyond : ℕ} → out ≡ firstBeyond limit cosine 1 (N / 2) → N / 2 < out → beyond ≡ firstBeyond limit sine 1 (N / 2)
-      → flat (pos limit) N cosine sine ≡ ltb (N / 2) beyond
+  pub flat-by : (cosine sine : Samples) {out beyond : ℕ} → out ≡ firstBeyond limit cosine 1 (N / 2) → N / 2 < out
+      → beyond ≡ firstBeyond limit sine 1 (N / 2) → flat (pos limit) N cosine sine ≡ ltb (N / 2) beyond
   flat-by cosine sine e h o = rw (from-1 cosine, from-1 sine, ← e, ← o, lt-ltb _ _ h)
 
 shifted : (s a b c : ℕ) → c ≡ s + a → ltb a b ≡ ltb c (s + b)
@@ -68,9 +69,11 @@ pub clipped-by : (level N s : ℕ) (r : List ℤ) {out : ℕ} → 1 ≤ level �
     → clipped (pos level) N (block r s) ≡ ltb out (s + N)
 clipped-by zero N s r h o = absurd (omega arith)
 clipped-by (suc m) N s r {out} h o =
+    let place = firstBeyond m (block r s) 0 N in
     let same : suc m - 1 ≡ m = omega arith in
-    beyond m (block r s) 0 N ∙ ap (ltb (firstBeyond m (block r s) 0 N)) (omega arith)
-    ∙ shifted s (firstBeyond m (block r s) 0 N) N out (o ∙ ap (λ l. firstBeyond l (word r) s N) same ∙ sym (first-shift m (word r) s N refl))
+    beyond m (block r s) 0 N
+    ∙ ap (ltb place) (omega arith)
+    ∙ shifted s place N out (o ∙ ap (λ l. firstBeyond l (word r) s N) same ∙ sym (first-shift m (word r) s N refl))
 
 -- ---- of the coefficients the mark takes those from k = 1 to N / 2 alone
 all-same : (p q : ℕ → Bool) (i d : ℕ) → ((k : ℕ) → k < i + d → p k ≡ q k) → all p i d ≡ all q i d

@@ -27,7 +27,8 @@ spectrum-spec =
     (tie.spec
     (λ c κs. search needs)  -- test-spectrum-requires
     (λ c. search needs)  -- enum-known-tested
-    (λ c. refused-by (c .before .before .before .test-spectrum .ensures) accepted (refl, refl, refl) (c .before .tested .given .1))  -- returns
+    (λ c. let t = c .before .before .before in
+    refused-by (t .test-spectrum .ensures) accepted (refl, refl, refl) (c .before .tested .given .1))  -- returns
     (λ c. search needs)  -- enum-told
     (λ c. record { fits = omega (arith, passed c .recordings .0) })  -- add-end
     (λ c κs. length-le _ (passed c .length-ok))  -- scratch-words-requires

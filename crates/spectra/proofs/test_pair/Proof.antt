@@ -1,12 +1,12 @@
 -- `spectra::test_pair` meets its contract: what is left behind the tests on a is 6 on b. Assumes nothing.
 use mathlib.Core.Path.{_≡_, refl, ap, _∙_}
-use mathlib.Core.List.{_∷_, []}
 use Prim.Native.Nat.{_+_, _≤_}
 use native.Mathlib.Omega.{arith}
 use lib.ListN.{length}
 use borrow.Author.Needs.{needs}
 use Rattle.words.specs.Words.{word}
-use Rattle.refusals.specs.Refusals.{Verdict, accepted, firstOutIn}
+use Rattle.refusals.specs.Refusals.{Verdict, accepted, firstOutOr}
+use Rattle.refusals.specs.declared.call.Tested.{Tested}
 use Rattle.refusals.specs.Calls.{Call, tests}
 use Rattle.refusals.specs.Tests.{outcome}
 use Rattle.refusals.proofs.Ranges.{first-end}
@@ -21,24 +21,23 @@ call c =
     let a = c .before .before .before .before .args in
     pairCall (a .a .now) (a .b .now) (a .start) (a .length) (a .allowance) (a .real) (a .imaginary) (a .scratch)
 
-abbrev on-b : tie.After-test → Verdict → Verdict
-on-b c rest = let a = c .before .before .before .before .args in firstOutIn (word (a .b .now) ∷ []) (a .start) (a .length) rest
-
-on-a : (c : tie.After-test) (rest : Verdict) → tests (call c) rest ≡ outcome (c .test .result) (on-b c rest)
-on-a c =
+told : (c : tie.After-test) {tested : Tested} → c .test .result ≡ tested → (rest : Verdict)
+    → let a = c .before .before .before .before .args in
+    tests (call c) rest ≡ outcome tested (firstOutOr (word (a .b .now)) (a .start) (a .length) rest)
+told c e rest =
+    let a = c .before .before .before .before .args in
     let shortest = two-below _ _ (c .before .before .shorter .ensures) in
     let room = two-below _ _ (c .before .shorter2 .ensures) in
-    by-first (call c) refl shortest room (λ ok. c .before .before .before .counts-at .ensures ok .ofPair _ _ .0) (c .test .ensures)
+    by-first (call c) refl shortest room (λ ok. c .before .before .before .counts-at .ensures ok .ofPair _ _ .0) (c .test .ensures) rest
+    ∙ ap (λ t. outcome t (firstOutOr (word (a .b .now)) (a .start) (a .length) rest)) e
 
--- ---- where a passes them
+-- where a passes them, b's block lies in its recording
 inside : (c : tie.After-enum-told) → let a = c .before .before .before .before .before .before .args in
     a .start + a .length ≤ length (a .b .now)
 inside c =
-    let d = c .before .before in
-    omega (arith, passes _ (passed-by (d .test .ensures) accepted (c .enum-told .given .1)) .recordings .0, d .before .before .shorter .ensures)
-
-left : (c : tie.After-enum-told) (rest : Verdict) → tests (call (c .before .before)) rest ≡ on-b (c .before .before) rest
-left c rest = let d = c .before .before in on-a d rest ∙ ap (λ t. outcome t (on-b d rest)) (c .enum-told .given .1)
+    let t = c .before .before in
+    let passed = passes _ (passed-by (t .test .ensures) accepted (c .enum-told .given .1)) in
+    omega (arith, passed .recordings .0, t .before .before .shorter .ensures)
 
 pub test-pair-spec : {M : Type 1} → statement M
 test-pair-spec =
@@ -49,12 +48,17 @@ test-pair-spec =
     (λ c κs. search needs)  -- shorter-requires-2
     (λ c κs. search needs)  -- test-requires
     (λ c. search needs)  -- enum-known-tested
-    (λ c. let d = c .before .before .before in
-    record { verdict = λ rest. on-a d rest ∙ ap (λ t. outcome t (on-b d rest)) (c .before .tested .given .1) })  -- returns
+    (λ c. record { verdict = told (c .before .before .before) (c .before .tested .given .1) })  -- returns
     (λ c. search needs)  -- enum-told
     (λ c κs. inside c)  -- first-out-requires
     (λ c. record { fits = omega (arith, inside (c .before)) })  -- add-if1
     (λ c. let d = c .before .before in
-    record { verdict = λ rest. left d rest ∙ first-beyond 6 _ _ _ _ rest (c .before .first-out .ensures) (c .if1 .taken) })  -- returns-2
+    record {
+      verdict = λ rest. told (d .before .before) (d .enum-told .given .1) rest
+          ∙ first-beyond 6 _ _ _ _ rest (c .before .first-out .ensures) (c .if1 .taken);
+    })  -- returns-2
     (λ c. let d = c .before .before in
-    record { verdict = λ rest. left d rest ∙ none-beyond 6 _ _ _ _ rest (first-end _ _ _ _ (c .before .first-out .ensures) (c .if1 .left)) }))  -- returns-3
+    record {
+      verdict = λ rest. told (d .before .before) (d .enum-told .given .1) rest
+          ∙ none-beyond 6 _ _ _ _ rest (first-end _ _ _ _ (c .before .first-out .ensures) (c .if1 .left));
+    }))  -- returns-3

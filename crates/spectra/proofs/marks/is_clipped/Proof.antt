@@ -6,4 +6,10 @@ use Rattle.spectra.proofs.marks.is_clipped.Statement.{statement}
 use Rattle.spectra.proofs.marks.is_clipped.Tie as tie
 
 pub is-clipped-spec : {M : Type 1} → statement M
-is-clipped-spec = tie.close (tie.spec (λ c. search needs) (λ c κs. search needs) (λ c. search needs) (λ c. sym (clipped-by _ _ _ (c .before .args .recording .now) (c .before .pre .0) (c .first-beyond .ensures))))
+is-clipped-spec =
+    tie.close
+    (tie.spec
+    (λ c. search needs)  -- sub-first-beyond
+    (λ c κs. search needs)  -- first-beyond-requires
+    (λ c. search needs)  -- add-result
+    (λ c. sym (clipped-by _ _ _ (c .before .args .recording .now) (c .before .pre .0) (c .first-beyond .ensures))))  -- returns

@@ -11,6 +11,8 @@ is-flat-spec =
     tie.close
     (tie.spec
     (λ c κs. search needs)  -- first-beyond-requires
-    (λ c. sym (not-flat _ _ _ (word (c .before .before .args .sine .now)) (c .before .first-beyond .ensures) (c .if1 .taken)))  -- returns
+    (λ c. let e = c .before in
+    sym (not-flat _ _ _ (word (e .before .args .sine .now)) (e .first-beyond .ensures) (c .if1 .taken)))  -- returns
     (λ c κs. search needs)  -- first-beyond-requires-2
-    (λ c. sym (flat-by _ _ _ _ (c .before .before .first-beyond .ensures) (c .before .if1 .left) (c .first-beyond2 .ensures))))  -- returns-2
+    (λ c. let e = c .before in
+    sym (flat-by _ _ _ _ (e .before .first-beyond .ensures) (e .if1 .left) (c .first-beyond2 .ensures))))  -- returns-2

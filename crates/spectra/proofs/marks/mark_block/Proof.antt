@@ -14,12 +14,15 @@ use Rattle.spectra.proofs.MarkRuns.{tests-refused, figures-refused, spe
 use Rattle.spectra.proofs.marks.mark_block.Statement.{statement}
 use Rattle.spectra.proofs.marks.mark_block.Tie as tie
 
+-- ---- the figures
 bad : (c : tie.Then1) → let a = c .before .before .args in badFigures (a .flat-limit) (a .clip-level) ≡ true
-bad c = let f = c .before .before .fits in
+bad c =
+    let f = c .before .before .fits in
     sym (rw (toZ-ofZ (f .flat-limit), toZ-ofZ (f .clip-level)) at (c .before .bad-figures .ensures)) ∙ c .if1 .taken
 
 good : (c : tie.Else1) → let a = c .before .before .args in badFigures (a .flat-limit) (a .clip-level) ≡ false
-good c = let f = c .before .before .fits in
+good c =
+    let f = c .before .before .fits in
     sym (rw (toZ-ofZ (f .flat-limit), toZ-ofZ (f .clip-level)) at (c .before .bad-figures .ensures)) ∙ c .if1 .left
 
 accepted : (c : tie.Else1) → let a = c .before .before .args in Figures (a .flat-limit) (a .clip-level)
@@ -27,6 +30,10 @@ accepted c = figures _ _ (good c)
 
 natural-word : {z : ℤ} → SFits w32 z → Natural z → T (nonNeg (toZ w32 (ofZ w32 z))) × Fits w32 (natAbs (toZ w32 (ofZ w32 z)))
 natural-word f n = rw (toZ-ofZ f) (n .sign, fits-natAbs tt f)
+
+-- ---- behind Spectrum
+abbrev tested : tie.After-spectrum → tie.Else1
+tested c = c .before .before .before .before
 
 pub mark-block-spec : {M : Type 1} → statement M
 mark-block-spec =
@@ -36,24 +43,35 @@ mark-block-spec =
     (λ c κs. search needs)  -- test-spectrum-requires
     (λ c. search needs)  -- enum-known-tested
     (λ c. search needs)  -- enum-told
-    (λ c. tests-refused (c .before .before .before .before .before .before .args .recording .now) _ _ _ _ _ _ _ _ (c .before .before .before .test-spectrum .ensures) (c .before .tested .given .1))  -- returns
-    (λ c. figures-refused (c .before .before .before .before .before .args .recording .now) _ _ _ _ _ _ _ _ (c .before .before .test-spectrum .ensures) (bad (c .before .before .before)) (c .enum-told .given .1))  -- returns-2
+    (λ c. let t = c .before .before .before in
+    tests-refused (t .before .before .before .args .recording .now) _ _ _ _ _ _ _ _
+    (t .test-spectrum .ensures) (c .before .tested .given .1))  -- returns
+    (λ c. let t = c .before .before in
+    figures-refused (t .before .before .before .args .recording .now) _ _ _ _ _ _ _ _
+    (t .test-spectrum .ensures) (bad (t .before)) (c .enum-told .given .1))  -- returns-2
     (λ c κs. search needs)  -- spectrum-requires
     (λ c. search needs)  -- enum-known-answer
     (λ c. search needs)  -- enum-known-answer-2
-    (λ c. natural-word (c .before .before .before .before .before .before .before .before .before .before .before .before .fits .flat-limit) (accepted (c .before .before .before .before .before .before .before .before .before .before) .flat-limit))  -- cast-mark-by
-    (λ c. natural-word (c .before .before .before .before .before .before .before .before .before .before .before .before .fits .clip-level) (accepted (c .before .before .before .before .before .before .before .before .before .before) .clip-level))  -- cast-mark-by-2
-    (λ c κs. let d = c .before .before .before .before .before .before .before .before .before .before .before .before in let f = d .before .before .fits in
-    rw (toZ-ofZ (f .flat-limit), toZ-ofZ (f .clip-level))
-    (spectrum-ready (d .before .before .args .recording .now) _ _ _ _ _ _ _ _ (good d) (c .before .before .before .before .before .before .before .before .spectrum .ensures) (f .flat-limit) (f .clip-level) (c .before .before .before .answer2 .given .1)))  -- mark-by-requires
+    (λ c. let t = tested (c .before .before .before .before .before .before) in
+    natural-word (t .before .before .fits .flat-limit) (accepted t .flat-limit))  -- cast-mark-by
+    (λ c. let t = tested (c .before .before .before .before .before .before) in
+    natural-word (t .before .before .fits .clip-level) (accepted t .clip-level))  -- cast-mark-by-2
+    (λ c κs. let s = c .before .before .before .before .before .before .before .before in
+    let e = tested s .before .before in
+    rw (toZ-ofZ (e .fits .flat-limit), toZ-ofZ (e .fits .clip-level))
+    (spectrum-ready (e .args .recording .now) _ _ _ _ _ _ _ _ (good (tested s)) (s .spectrum .ensures)
+    (e .fits .flat-limit) (e .fits .clip-level) (c .before .before .before .answer2 .given .1)))  -- mark-by-requires
     (λ c. search needs)  -- same-length
     (λ c. search needs)  -- same-length-2
     (λ c. search needs)  -- same-length-3
-    (λ c. let d = c .before .before .before .before .before .before .before .before .before .before in
-    spectrum-refused (d .before .before .args .recording .now) _ _ _ _ _ _ _ _ (good d) (c .before .before .before .before .before .before .spectrum .ensures) (c .before .answer .given .1))  -- returns-3
+    (λ c. let s = c .before .before .before .before .before .before in
+    spectrum-refused (tested s .before .before .args .recording .now) _ _ _ _ _ _ _ _ (good (tested s)) (s .spectrum .ensures)
+    (c .before .answer .given .1))  -- returns-3
     (λ c. search needs)  -- same-length-4
     (λ c. search needs)  -- same-length-5
     (λ c. search needs)  -- same-length-6
-    (λ c. let d = c .before .before .before .before .before .before .before .before .before .before .before .before .before in let f = d .before .before .fits in
-    spectrum-marked (d .before .before .args .recording .now) _ _ _ _ _ _ _ _ (good d) (c .before .before .before .before .before .before .before .before .before .spectrum .ensures) (c .before .before .before .before .answer2 .given .1)
-    (rw (toZ-ofZ (f .flat-limit), toZ-ofZ (f .clip-level)) at (c .mark-by .ensures))))  -- returns-4
+    (λ c. let s = c .before .before .before .before .before .before .before .before .before in
+    let e = tested s .before .before in
+    spectrum-marked (e .args .recording .now) _ _ _ _ _ _ _ _ (good (tested s)) (s .spectrum .ensures)
+    (c .before .before .before .before .answer2 .given .1)
+    (rw (toZ-ofZ (e .fits .flat-limit), toZ-ofZ (e .fits .clip-level)) at (c .mark-by .ensures))))  -- returns-4

@@ -12,5 +12,7 @@ mark-by-spec =
     (λ c κs. search needs)  -- is-flat-requires
     (λ c. rw (← c .before .is-flat .ensures, c .if1 .taken))  -- returns
     (λ c κs. search needs)  -- is-clipped-requires
-    (λ c. rw (← c .before .before .before .is-flat .ensures, c .before .before .if1 .left, ← c .before .is-clipped .ensures, c .if2 .taken))  -- returns-2
-    (λ c. rw (← c .before .before .before .is-flat .ensures, c .before .before .if1 .left, ← c .before .is-clipped .ensures, c .if2 .left)))  -- returns-3
+    (λ c. let e = c .before .before in
+    rw (← e .before .is-flat .ensures, e .if1 .left, ← c .before .is-clipped .ensures, c .if2 .taken))  -- returns-2
+    (λ c. let e = c .before .before in
+    rw (← e .before .is-flat .ensures, e .if1 .left, ← c .before .is-clipped .ensures, c .if2 .left)))  -- returns-3
