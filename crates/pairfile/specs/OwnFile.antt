@@ -1,13 +1,13 @@
 -- Document 02, (ii), "Our own pair files": the bytes of the file, and when the call that writes it is turned down.
 use mathlib.Core.Bool.{not, cond}
-use mathlib.Core.List.{List, _++_, flatMap}
+use mathlib.Core.List.{List, [], _∷_, _++_, flatMap}
 use Prim.Native.Nat.{ℕ}
 use lib.Dec.{eqb, ltb}
 use lib.IntN.{ℤ}
 use lib.ListN.{length}
 use Rattle.words.specs.Words.{word}
 use Rattle.ffct.specs.Block.{isLength}
-use Rattle.refusals.specs.Refusals.{Verdict, refused, accepted, firstOutOr}
+use Rattle.refusals.specs.Refusals.{Verdict, refused, accepted, firstOutIn}
 use Rattle.little_endian.specs.Numbers.{unsignedBytes, signedBytes}
 use Rattle.pairfile.specs.File.{badCount, fileBytes}
 
@@ -22,6 +22,5 @@ writeVerdict a b N room =
     cond (badCount (length a)) (refused 8)
     (cond (not (eqb (length b) (length a))) (refused 11)
     (cond (not (isLength N)) (refused 1)
-    (firstOutOr (word a) 0 (length a)
-    (firstOutOr (word b) 0 (length b)
-    (cond (ltb room (fileBytes (length a))) (refused 3) accepted)))))
+    (firstOutIn (word a ∷ word b ∷ []) 0 (length a)
+    (cond (ltb room (fileBytes (length a))) (refused 3) accepted))))

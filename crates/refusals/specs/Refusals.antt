@@ -1,5 +1,5 @@
 -- Document 01, "When a call is turned down": the conditions 1 to 6, on lengths and samples, in their order; and what a call promises of its
--- verdict. The order itself is the verdict on a call (crates spectra, inverse) and on a file.
+-- verdict. The order itself is in Calls, of the calls on recordings; in the crate inverse; and in pairfile, of a file and of its writer.
 use mathlib.Core.Bool.{Bool, false, cond, _||_}
 use mathlib.Core.List.{List, [], _∷_}
 use mathlib.Core.Path.{_≡_}

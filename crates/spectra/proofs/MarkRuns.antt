@@ -1,7 +1,7 @@
 -- A run of the call that marks a block: what figures that are accepted say, and the promise at each end.
 -- Assumes nothing.
 use mathlib.Core.Path.{_≡_, refl, sym, ap, subst, _∙_}
-use mathlib.Core.Bool.{Bool, true, false, true≢false, cond}
+use mathlib.Core.Bool.{true, false, true≢false}
 use mathlib.Core.List.{List}
 use Prim.Native.Nat.{ℕ, _+_, _/_, _^_, _≤_, _<_}
 use native.Mathlib.Omega.{arith}
@@ -15,7 +15,7 @@ use borrow.Author.Tests.{ltb-false}
 use Rattle.words.specs.Words.{word}
 use Rattle.words.proofs.Writing.{front}
 use Rattle.counts.specs.declared.tally.Tally.{Tally}
-use Rattle.refusals.specs.Refusals.{block, number, refused, accepted}
+use Rattle.refusals.specs.Refusals.{block, number}
 use Rattle.refusals.specs.Calls.{Call, verdict}
 use Rattle.refusals.specs.declared.call.Refusal.{Refusal}
 use Rattle.refusals.specs.declared.call.Tested.{Tested}
