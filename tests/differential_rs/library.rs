@@ -20,6 +20,26 @@ extern "C" {
         place: *mut usize,
     ) -> u32;
 
+    pub fn mealbis_mark(
+        recording: *const i32,
+        recording_len: usize,
+        start: usize,
+        length: usize,
+        allowance: u64,
+        flat_limit: i32,
+        clip_level: i32,
+        cosine: *mut i32,
+        cosine_len: usize,
+        sine: *mut i32,
+        sine_len: usize,
+        scratch: *mut i64,
+        scratch_len: usize,
+        products: *mut u64,
+        sums: *mut u64,
+        place: *mut usize,
+        mark: *mut u32,
+    ) -> u32;
+
     pub fn mealbis_cosine(
         recording: *const i32,
         recording_len: usize,
@@ -132,6 +152,12 @@ impl Word for usize {
 impl Word for i32 {
     fn filling(i: u64) -> i32 {
         (mixed(i) >> 32) as i32 | 1
+    }
+}
+
+impl Word for u32 {
+    fn filling(i: u64) -> u32 {
+        (mixed(i) >> 32) as u32 | 1
     }
 }
 
