@@ -196,9 +196,9 @@ def check_outside(calls):
     for N, outside, level in itertools.product(LENGTHS, REACHING, (2, LARGEST_SAMPLE)):
         x = [n % 2 for n in range(N)]
         for before, behind in ((0, 1), (1, 0), (1, 1), (N, N)):
-            call = Call([outside] * before + x + [outside] * behind, before, N, UNBOUNDED, 0, level, N, N, scratch_words(N))
-            calls.mark("%d samples before and %d behind are %d" % (before, behind, outside), call._replace(cosine_len=N + 1, sine_len=N + 1),
-                       mark=FLAT if N == 1 else PLAIN)
+            call = Call([outside] * before + x + [outside] * behind, before, N, UNBOUNDED, 0, level, N + 1, N + 1, scratch_words(N))
+            name = "%d samples before and %d behind are %d" % (before, behind, outside)
+            calls.mark(name, call, mark=FLAT if N == 1 else PLAIN)
 
 
 # --- both rules ----------------------------------------------------------------------
@@ -236,13 +236,13 @@ def check_random(calls):
 
 
 def check_met(calls):
-    """Every mark, and each of the four ways to meet the two rules, came up at every length; at N = 1 every block was flat."""
+    """Every mark, and each of the four ways to meet the two rules, came up at every length; at N = 1 every block met that of flat."""
     for N in LENGTHS:
         marks = (FLAT, CLIPPED, PLAIN) if N > 1 else (FLAT,)
         ways = itertools.product((True, False) if N > 1 else (True,), (True, False))
         for what in [(N, mark) for mark in {*marks, BOTH}] + [(N, *way) for way in ways]:
             calls.add("N %d" % N, [None if calls.met[what] >= 10 else "%s came up %d times" % (what, calls.met[what])])
-    calls.add("N 1", ["a block is plain, or not flat" for what in calls.met if what[0] == 1 and (what[1:] == (PLAIN,) or what[1] is False)])
+    calls.add("N 1", ["%s came up" % (what,) for what in calls.met if what in ((1, PLAIN), (1, False, True), (1, False, False))])
 
 
 # --- refusals ------------------------------------------------------------------------
@@ -312,38 +312,42 @@ def check_places(calls):
 
 
 def check_edges(calls):
-    """Buffers, scratch, allowance and start at their edges and one beyond; lengths that are none of the eleven."""
-    rng = calls.rng
-    for N, figures in itertools.product(LENGTHS, ((LARGEST, 1), (-1, 1))):
-        recording, listed, products = [0] * N + [1, 2], N // 2 + 1, tallied_counts(N).spectrum_products
-        call = Call(recording, 2, N, products, *figures, listed, listed, 8 * N + 64)
-        calls.mark("just enough", call, 0 if figures[0] >= 0 else 12)
-        for number, change in ((3, {"cosine_len": listed - 1}), (3, {"sine_len": listed - 1}), (4, {"scratch_len": 8 * N + 63}), (4, {"scratch_len": 0}),
-                               (2, {"start": 3}), (2, {"start": 2 ** 32}), (2, {"start": 2 ** 64 - N}), (2, {"start": 2 ** 64 - 1}),
-                               (2, {"recording": []}), (3, {"cosine_len": 0}), (3, {"sine_len": 0})):
-            calls.mark("one beyond: %s" % change, call._replace(**change), number)
-        if products:
-            calls.mark("a product less", call._replace(allowance=products - 1), 5)
-    for length in (*BAD_LENGTHS, *range(130), *(length << 32 for length in LENGTHS), *(length + 2 ** 32 for length in LENGTHS)):
-        call = Call(random_block(rng, 2048), 0, length, UNBOUNDED, 0, LARGEST_SAMPLE, 1025, 1025, 16448)
+    """Buffers, scratch, allowance and start at their edges and one beyond, with good figures and bad ones."""
+    for N, flat_limit in itertools.product(LENGTHS, (LARGEST, -1)):
+        listed, products = N // 2 + 1, tallied_counts(N).spectrum_products
+        call = Call([0] * N + [1, 2], 2, N, products, flat_limit, 1, listed, listed, 8 * N + 64)
+        calls.mark("just enough", call, 0 if flat_limit == LARGEST else 12)
+        changes = [(3, "cosine_len", listed - 1), (3, "cosine_len", 0), (3, "sine_len", listed - 1), (3, "sine_len", 0),
+                   (4, "scratch_len", 8 * N + 63), (4, "scratch_len", 0), (2, "recording", [])]
+        changes += [(2, "start", start) for start in (3, 2 ** 32, 2 ** 64 - N, 2 ** 64 - 1)]
+        changes += [(5, "allowance", products - 1)] if products else []
+        for number, name, value in changes:
+            calls.mark("%s %s" % (name, value), call._replace(**{name: value}), number)
+
+
+def check_lengths(calls):
+    """Every length up to 130 and some far ones: the eleven are accepted."""
+    for length in (*BAD_LENGTHS, *range(131), *LENGTHS[8:], *(length << 32 for length in LENGTHS), *(length + 2 ** 32 for length in LENGTHS)):
+        call = Call(random_block(calls.rng, 2048), 0, length, UNBOUNDED, 0, LARGEST_SAMPLE, 1025, 1025, 16448)
         calls.mark("a length", call, 0 if length in LENGTHS else 1)
 
 
 def check_far(calls):
     """A recording of more than 2^32 words, and a block beyond them: no start and no place is cut to 32 bits."""
-    N, far = 8, 2 ** 32 + 1024
+    far = 2 ** 32 + 1024
     recording = Mapped("the far recording", 4, far + PAGE, 4 * far // PAGE)
-    for x, mark, place in (([5, -3] * 4, PLAIN, None), ([5, -3] * 3 + [5, -30], CLIPPED, None), ([5] * 8, FLAT, None), ([5, -3] * 3 + [5, OUT[0]], None, 7)):
-        recording.hold(in_memory("i", REACHING * 2 + tuple(x) + REACHING))
-        call = Call([*REACHING * 2, *x, *REACHING], 4, N, UNBOUNDED, 7, 30, 5, 5, 128)
-        answer = mark_call(*call)
-        calls.add("far block", [None if answer.mark == mark else "the reference answers mark %s" % answer.mark])
-        answer = answer._replace(place=None if place is None else far + 4 + place)
-        calls.compare_mark("far block %s" % x, call._replace(start=far + 4), recording, answer)
+    for last, mark, place in ((-3, PLAIN, None), (-30, CLIPPED, None), (OUT[0], None, 7)):
+        x = [5, -3, 5, -3, 5, -3, 5, last]
+        near = Call([*REACHING, *x, *REACHING], 2, 8, UNBOUNDED, 7, 30, 5, 5, 128)
+        recording.hold(in_memory("i", near.recording))
+        answer = mark_call(*near)
+        calls.add("near block %s" % x, [None if (answer.mark, answer.place) == (mark, place and 2 + place) else "%s" % (answer,)])
+        answer = answer._replace(place=place and far + 2 + place)
+        calls.compare_mark("far block %s" % x, near._replace(start=far + 2), recording, answer)
 
 
 CHECKS = (check_known, check_each_coefficient, check_equal_samples, check_largest_coefficients, check_each_sample, check_outside, check_random,
-          check_met, check_figures, check_refusals, check_places, check_edges, check_far)
+          check_met, check_figures, check_refusals, check_places, check_edges, check_lengths, check_far)
 
 
 if __name__ == "__main__":
