@@ -17,7 +17,8 @@ import sys
 from typing import NamedTuple
 
 from library import BAD_LENGTHS, OUT, PAGE, Calls, Mapped, in_memory, lent_samples, lent_words, run, single_words
-from reference import CLIPPED, FLAT, LARGEST_SAMPLE, LENGTHS, LOOKED_AT, PLAIN, mark_call, meets, scratch_words, spectrum_call, tallied_counts
+from reference import (CLIPPED, FLAT, LARGEST_SAMPLE, LENGTHS, LOOKED_AT, PLAIN, mark_call, meets, scratch_words, spectrum, spectrum_call,
+                       tallied_counts)
 
 ORDER = (1, 2, 3, 4, 5, 6, 12)      # in which mealbis_mark tests
 LARGEST = 2 ** 31 - 1               # flat limit
@@ -104,9 +105,8 @@ def placed(rng, x, flat_limit, clip_level):
 
 def largest_sizes(x):
     """The largest size of a coefficient of the block from k = 1 on, and that of a sample."""
-    N = len(x)
-    answer = spectrum_call(x, 0, N, UNBOUNDED, N, N, scratch_words(N))
-    return max((abs(y) for words in answer.results for y in words[1:]), default=0), max(map(abs, x))
+    cosine, sine, _, _ = spectrum(x)
+    return max(map(abs, cosine[1:] + sine[1:]), default=0), max(map(abs, x))
 
 
 # --- the rule of a flat block --------------------------------------------------------
@@ -142,7 +142,7 @@ def check_each_coefficient(calls):
             mean = rng.choice((0, rng.choice((1, -1)) * rng.randint(450_000, 600_000)))
             x = [mean + sample for sample in wave(N, k, sign * rng.choice((5, 77, 390_000)), kind)]
             name = "%s of k = %d alone, sign %d, mean %d" % (kind, k, sign, mean)
-            words = dict(zip(("cosine", "sine"), spectrum_call(x, 0, N, UNBOUNDED, N, N, scratch_words(N)).results))
+            words = dict(zip(("cosine", "sine"), spectrum(x)))
             limit = abs(words[kind][k]) - 1
             beyond = [(which, j) for which in words for j in range(1, N // 2 + 1) if abs(words[which][j]) > limit]
             calls.add(name, [None if beyond == [(kind, k)] and sign * words[kind][k] > 0 else "beyond %d are %s" % (limit, beyond)])
