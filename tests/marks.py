@@ -99,7 +99,7 @@ def placed(rng, x, flat_limit, clip_level):
     before, behind = (rng.choices(AROUND, k=rng.choice((0, 1, 1, 2, 3, N + 1))) for _ in range(2))
     products = tallied_counts(N).spectrum_products
     cosine, sine, scratch = (rng.choice((0, 0, 1, 5)) for _ in range(3))
-    return Call([*before, *x, *behind], len(before), N, rng.choice((products, products + 1, products + 2 ** 32, UNBOUNDED)), flat_limit, clip_level,
+    return Call([*before, *x, *behind], len(before), N, rng.choice((products, products + 1, 2 ** 32, UNBOUNDED)), flat_limit, clip_level,
                 N // 2 + 1 + cosine, N // 2 + 1 + sine, scratch_words(N) + scratch)
 
 
