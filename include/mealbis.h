@@ -54,10 +54,11 @@
  *  10  a stored coefficient is beyond length * 1,000,000 + length on either side; *place is the
  *      first such k
  *  11  the two recordings of mealbis_write differ in length
+ *  12  the flat limit of mealbis_mark is negative, or its clip level is outside 1 to 1,000,000
  *
- * After a refusal every buffer is as it was. The single words (products, sums, place, samples,
+ * After a refusal every buffer is as it was. The single words (products, sums, place, mark, samples,
  * length, bytes, the six counts) are written in EVERY answer, so that none keeps an old value:
- *   - counts and sizes hold what the function says when it accepts, and 0 after a refusal;
+ *   - counts, sizes and the mark hold what the function says when it accepts, and 0 after a refusal;
  *   - *place holds the place after refusals 6 and 10, and 0 in every other answer. After 6 it counts
  *     from 0 at the first sample of the recording, not of the block; after 10 it is the coefficient's
  *     k.
@@ -80,8 +81,8 @@
  *     Recordings, stored coefficients and files that are only read may lie in read-only memory.
  *   - While a call runs, nobody else may write its buffers, nor read those that it writes: no other
  *     thread, no interrupt handler, no DMA transfer.
- *   - Pointers are aligned as their type asks: 4 bytes for int32_t, 8 for int64_t, uint64_t and
- *     size_t, 1 for a file.
+ *   - Pointers are aligned as their type asks: 4 bytes for int32_t and uint32_t, 8 for int64_t,
+ *     uint64_t and size_t, 1 for a file.
  *   - What a call writes may hold anything before it. After an accepted call the first
  *     8 * length + 64 words of scratch are 0.
  *   - An empty buffer (count 0) is refused, by 2, 3, 4, 7, 8 or 11 where no earlier condition holds,
@@ -105,8 +106,8 @@
  *
  * Stack: a copy of the cosine table, 4,100 bytes, and frames whose number depends on the length
  * alone. Measured at length 1,024, in bytes: mealbis_cosine 6,504, mealbis_pair 6,360,
- * mealbis_spectrum 6,296, mealbis_inverse_dct 4,168, mealbis_counts 112, mealbis_read 96,
- * mealbis_write 72; shorter blocks take no more.
+ * mealbis_spectrum 6,296, mealbis_mark 6,296, mealbis_inverse_dct 4,168, mealbis_counts 112,
+ * mealbis_read 96, mealbis_write 72; shorter blocks take no more.
  * The proof does not speak of the stack: allow 8 KiB. `self_check --stack` measures it.
  */
 #ifndef MEALBIS_H
@@ -120,7 +121,7 @@ extern "C" {
 #endif
 
 /* The version, 10000 major + 100 minor + patch: of this header, and of the archive that is linked. */
-#define MEALBIS_VERSION 10200u
+#define MEALBIS_VERSION 10300u
 uint32_t mealbis_version(void);
 
 /* The answers. */
@@ -136,6 +137,13 @@ uint32_t mealbis_version(void);
 #define MEALBIS_BAD_FILE_LENGTH 9u
 #define MEALBIS_COEFFICIENT_BEYOND_LIMIT 10u
 #define MEALBIS_RECORDINGS_DIFFER 11u
+#define MEALBIS_BAD_FIGURES 12u /* the flat limit or the clip level */
+
+/* The marks of a block. */
+#define MEALBIS_NO_MARK 0u /* after a refusal */
+#define MEALBIS_FLAT 1u
+#define MEALBIS_CLIPPED 2u
+#define MEALBIS_PLAIN 3u
 
 /* Sizes. */
 #define MEALBIS_LONGEST_BLOCK 1024
@@ -167,6 +175,35 @@ uint32_t mealbis_spectrum(
     int32_t *sine, size_t sine_words,
     int64_t *scratch, size_t scratch_words,
     uint64_t *products, uint64_t *sums, size_t *place);
+
+/*
+ * Mark: the spectrum of a block, and the block's mark by two figures of the owner's:
+ *   MEALBIS_FLAT      every cosine[k] and sine[k] from k = 1 on is at most flat_limit in size;
+ *   MEALBIS_CLIPPED   else, where a sample of the block is at least clip_level in size;
+ *   MEALBIS_PLAIN     else.
+ * So a block that meets both rules is flat. At N = 1 there is no k = 1, and every block is flat. The
+ * mean, k = 0, does not count. The sizes are without sign, and the figures are compared with the
+ * coefficients that the call yields and with the samples as they are, without rounding.
+ *
+ * Tests 1, 2, 3, 4, 5, 6, 12. On acceptance everything is as after mealbis_spectrum with the same
+ * words (coefficients, scratch, *products, *sums), and *mark is the mark. Every refusal of
+ * mealbis_spectrum is one of mealbis_mark, and 12 is one more. After a refusal *mark is
+ * MEALBIS_NO_MARK.
+ *
+ *   flat_limit    0 or more, in the unit of the coefficients: hundredths of a microstrain, summed
+ *                 over the block. A wave of amplitude A gives up to N/2 * A, and N * A at k = N/2.
+ *                 INT32_MAX makes every block flat.
+ *   clip_level    1 to 1,000,000, in the unit of the samples
+ *   mark          the mark; all else as in mealbis_spectrum
+ */
+uint32_t mealbis_mark(
+    const int32_t *recording, size_t recording_words,
+    size_t start, size_t length, uint64_t allowance,
+    int32_t flat_limit, int32_t clip_level,
+    int32_t *cosine, size_t cosine_words,
+    int32_t *sine, size_t sine_words,
+    int64_t *scratch, size_t scratch_words,
+    uint64_t *products, uint64_t *sums, size_t *place, uint32_t *mark);
 
 /*
  * Cosine: the DCT-II of a block, for k = 0 .. N-1, with no factor 2 and no special weight at k = 0:
@@ -235,7 +272,7 @@ uint32_t mealbis_pair(
  * taken for these, they are accepted as an allowance, and nothing tells.
  *
  *   dct_products, dct_sums              of mealbis_cosine
- *   spectrum_products, spectrum_sums    of mealbis_spectrum
+ *   spectrum_products, spectrum_sums    of mealbis_spectrum and of mealbis_mark
  *   pair_products, pair_sums            of mealbis_pair
  */
 uint32_t mealbis_counts(

@@ -1,4 +1,4 @@
-"""Reference implementation of docs/01-scope.md and of requests (i) and (ii) of document 02, for tests only.
+"""Reference implementation of docs/01-scope.md and of requests (i) to (iii) of document 02, for tests only.
 
 This module was written from the papers alone (documents 01 and 02, and source
 document 001 for the equations) and shares no code with the product.  It says
@@ -8,10 +8,12 @@ what every call answers, in whole numbers of any size, with no thought for speed
   the rounding         round30(v), nearest(v, m)
   the transforms       cosine_dft(x), sine_dft(x), dct(x), spectrum(x), pair(a, b)
   the way back         inverse_sum(c, n), inverse_dct(c)
+  the mark             meets(rule, x, C, S, flat_limit, clip_level), mark_of(..)
   the counts           closed_counts(N), tallied_counts(N)
   the exact sums       exact_cosine(x, k) .. exact_imaginary(a, b, k), all times 2^80
   the distances        within_eighth, within_quarter_more, within_quarter
-  the calls            spectrum_call, cosine_call, pair_call, inverse_call, count_query
+  the calls            spectrum_call, mark_call, cosine_call, pair_call,
+                       inverse_call, count_query
   the pair file        read_pair_file(data, a_len, b_len), pairspec(data),
                        write_pair_file(a, b, length, file_len)
   telling blocks       DIFFERS_FROM_DIRECT, TIES, INVERSE_TIES
@@ -330,6 +332,26 @@ def inverse_dct(c):
     return [nearest(inverse_sum(c, n), N * 2 ** 30) for n in range(N)]
 
 
+# --- The mark of a block -------------------------------------------------------
+
+FLAT, CLIPPED, PLAIN = 1, 2, 3
+LOOKED_AT = (FLAT, CLIPPED)     # in this order: a block that meets both rules has the first as its mark
+
+
+def meets(rule, x, C, S, flat_limit, clip_level):
+    """Whether the block x with the coefficients C and S meets the rule FLAT or CLIPPED."""
+    if rule == FLAT:
+        return all(abs(C[k]) <= flat_limit and abs(S[k]) <= flat_limit for k in range(1, len(C)))
+    return any(abs(sample) >= clip_level for sample in x)
+
+
+def mark_of(x, C, S, flat_limit, clip_level):
+    for rule in LOOKED_AT:
+        if meets(rule, x, C, S, flat_limit, clip_level):
+            return rule
+    return PLAIN
+
+
 # --- The counts ----------------------------------------------------------------
 
 class SixCounts(NamedTuple):
@@ -415,14 +437,15 @@ class Answer(NamedTuple):
     """What a call gives back.
 
     refusal is 0 for an accepted call, else the number of the table "When a call
-    is turned down", or 10 or 11 of document 02; place is given with refusals 6
-    and 10 only.  results and counts are those of an accepted call; the way back
-    has no counts.
+    is turned down", or 10, 11 or 12 of document 02; place is given with refusals
+    6 and 10 only.  results and counts are those of an accepted call; the way back
+    has no counts.  mark is that of an accepted mark_call.
     """
     refusal: int
     place: Optional[int] = None
     results: tuple = ()
     counts: tuple = ()
+    mark: Optional[int] = None
 
 
 def first_out_of_range(recording, start, end, largest=LARGEST_SAMPLE):
@@ -478,6 +501,21 @@ def spectrum_call(recording, start, length, allowance, cosine_len, sine_len, scr
         return refused
     cosine, sine, products, sums = spectrum(recording[start:start + length])
     return Answer(0, None, (cosine, sine), (products, sums))
+
+
+def bad_figures(flat_limit, clip_level):
+    return flat_limit < 0 or clip_level < 1 or clip_level > 1_000_000
+
+
+def mark_call(recording, start, length, allowance, flat_limit, clip_level, cosine_len, sine_len,
+              scratch_len):
+    answer = spectrum_call(recording, start, length, allowance, cosine_len, sine_len, scratch_len)
+    if answer.refusal:
+        return answer
+    if bad_figures(flat_limit, clip_level):
+        return Answer(12)
+    block = recording[start:start + length]
+    return answer._replace(mark=mark_of(block, *answer.results, flat_limit, clip_level))
 
 
 def cosine_call(recording, start, length, allowance, result_len, scratch_len):

@@ -257,6 +257,8 @@ START, N = 5, 8                             # of the call that is broken below
 CALLS = {
     ref.spectrum_call: dict(recording=GOOD, start=START, length=N, allowance=2,
                             cosine_len=5, sine_len=5, scratch_len=128),
+    ref.mark_call: dict(recording=GOOD, start=START, length=N, allowance=2, flat_limit=0, clip_level=1,
+                        cosine_len=5, sine_len=5, scratch_len=128),
     ref.cosine_call: dict(recording=GOOD, start=START, length=N, allowance=12,
                           result_len=8, scratch_len=128),
     ref.pair_call: dict(a=GOOD, b=GOOD, start=START, length=N, allowance=4,
@@ -278,18 +280,18 @@ def broken(good, numbers):
             call[key] = BAD
         if 3 in numbers and key in RESULT_LENS:
             call[key] = 0
-    for number, key, value in ((1, "length", 3), (2, "start", 19),
-                               (4, "scratch_len", 0), (5, "allowance", 0)):
+    for number, key, value in ((1, "length", 3), (2, "start", 19), (4, "scratch_len", 0),
+                               (5, "allowance", 0), (12, "flat_limit", -1)):
         if number in numbers:
             call[key] = value
     return call
 
 
 def check_refusals_together():
-    """every set of refusals 1 to 6 in every call: the earliest wins"""
+    """every set of refusals 1 to 6, and 12 of the mark, in every call: the earliest wins"""
     for call, good in CALLS.items():
         assert call(**good).refusal == 0
-        for numbers in subsets((1, 2, 3, 4, 5, 6)):
+        for numbers in subsets((1, 2, 3, 4, 5, 6, 12) if call is ref.mark_call else (1, 2, 3, 4, 5, 6)):
             answer = call(**broken(good, numbers))
             place = START if min(numbers) == 6 else None
             assert answer == ref.Answer(min(numbers), place), (call, numbers)
@@ -338,12 +340,92 @@ def check_places_of_refusal_6():
 def check_shortest_calls():
     """N = 1 needs one word of each result, 72 words of scratch and no products"""
     assert ref.spectrum_call([7], 0, 1, 0, 1, 1, 72) == ref.Answer(0, None, ([7], [0]), (0, 0))
+    assert ref.mark_call([7], 0, 1, 0, 0, 8, 1, 1, 72) == ref.Answer(0, None, ([7], [0]), (0, 0), ref.FLAT)
     assert ref.cosine_call([7], 0, 1, 0, 1, 72) == ref.Answer(0, None, ([7],), (0, 0))
     assert ref.pair_call([7], [9], 0, 1, 0, 1, 1, 72) == ref.Answer(0, None, ([7], [9]), (0, 0))
     assert ref.spectrum_call([7], 0, 1, 0, 0, 1, 72) == ref.Answer(3)
     assert ref.spectrum_call([7], 0, 1, 0, 1, 0, 72) == ref.Answer(3)
     assert ref.cosine_call([7], 0, 1, 0, 1, 71) == ref.Answer(4)
     assert ref.cosine_call([], 0, 1, 0, 1, 72) == ref.Answer(2)
+
+
+# --- The mark of a block -------------------------------------------------------
+
+# Blocks with the largest size of a coefficient from k = 1 on and that of a sample, worked on paper. At N = 2,
+# C(1) = x0 - x1 and S is 0; at N = 4, C(1) = x0 - x2, C(2) = x0 - x1 + x2 - x3, S(1) = x1 - x3 and S(2) = 0.
+SIZES = (
+    ((7,), 0, 7),                                   # no k = 1; 0 is below every limit
+    ((-MOST,), 0, MOST),
+    ((3, 1), 2, 3),                                 # C 4, 2
+    ((-5, 4), 9, 5),                                # C -1, -9
+    ((MOST, -MOST), 2 * MOST, MOST),                # C 0, 2000000
+    ((1, 2, 3, 4), 2, 4),                           # C 10, -2, -2; S 0, -2, 0: P2
+    ((6, 0, -5, 0), 11, 6),                         # C 1, 11, 1; S 0, 0, 0: C(1) alone
+    ((-6, 0, 5, 0), 11, 6),                         # C -1, -11, -1; S 0, 0, 0
+    ((0, -7, 0, 2), 9, 7),                          # C -5, 0, 5; S 0, -9, 0: S(1) alone
+    ((0, 7, 0, -2), 9, 7),                          # C 5, 0, -5; S 0, 9, 0
+    ((3, -3, 3, -4), 13, 4),                        # C -1, 0, 13; S 0, 1, 0: the last k alone
+    ((-3, 3, -3, 4), 13, 4),                        # C 1, 0, -13; S 0, -1, 0
+    ((9, 9, 9, 9), 0, 9),                           # C 36, 0, 0: the mean does not count
+    ((MOST,) + (0,) * 7, MOST, MOST),               # P7
+    ((0, MOST) + (0,) * 6, MOST, MOST),             # P8
+    ((MOST,) * 8, 0, MOST),                         # request (x)
+)
+
+
+def marked(x, flat_limit, clip_level, before=(), behind=()):
+    """The mark of a block in the midst of other samples."""
+    N = len(x)
+    answer = ref.mark_call([*before, *x, *behind], len(before), N, 10 ** 6, flat_limit, clip_level, N, N, 8 * N + 64)
+    assert answer.refusal == 0
+    return answer.mark
+
+
+def figures_around(coefficient, sample):
+    """Allowed figures at the edges of both rules, with the rules that are met; by the largest sizes in the block."""
+    for flat_limit, clip_level in itertools.product((coefficient - 1, coefficient, coefficient + 1), (sample, sample + 1)):
+        if flat_limit >= 0 and 1 <= clip_level <= MOST:
+            met = [ref.FLAT] * (coefficient <= flat_limit) + [ref.CLIPPED] * (sample >= clip_level)
+            yield flat_limit, clip_level, met
+
+
+def first_looked_at(met):
+    return min(met, key=ref.LOOKED_AT.index, default=ref.PLAIN)
+
+
+def check_marks_by_hand():
+    """marks worked on paper: each figure at its edge and one beyond, samples outside of the block not examined"""
+    for x, coefficient, sample in SIZES:
+        for flat_limit, clip_level, met in figures_around(coefficient, sample):
+            for outside in ((), (MOST,), (-MOST,), (TOO_MUCH,)):
+                assert marked(x, flat_limit, clip_level, outside, outside) == first_looked_at(met), (x, flat_limit, clip_level)
+    assert [marked((1, 2, 3, 4), *figures) for figures in ((2, 5), (1, 4), (1, 5))] == [ref.FLAT, ref.CLIPPED, ref.PLAIN] == [1, 2, 3]
+    for N in (1, 8):
+        assert marked((MOST,) * N, 0, MOST) == ref.LOOKED_AT[0]         # both rules are met: request (x)
+
+
+def check_mark_with_spectrum():
+    """blocks of every length, figures at the edges: Spectrum's answer and the mark by the largest sizes; the largest limit makes all flat"""
+    rng = random.Random(33)
+    for N in ref.LENGTHS:
+        lens = [N // 2 + 1, N // 2 + 1, 8 * N + 64]
+        for x in [random_block(rng, N) for _ in range(8 if N < 256 else 1)] + list(extreme_blocks(N))[:6 if N < 256 else 3]:
+            spectrum = ref.spectrum_call(x, 0, N, 10 ** 6, *lens)
+            coefficient = max(map(abs, [0] + spectrum.results[0][1:] + spectrum.results[1][1:]))
+            for flat_limit, clip_level, met in figures_around(coefficient, max(map(abs, x))):
+                answer = ref.mark_call(x, 0, N, 10 ** 6, flat_limit, clip_level, *lens)
+                assert answer == spectrum._replace(mark=first_looked_at(met))
+            assert coefficient <= 2 ** 31 - 1
+
+
+def check_figures():
+    """refusal 12: figures at their ends and beyond them"""
+    for flat_limit, clip_level in itertools.product((-2 ** 31, -1, 0, 1, 2 ** 31 - 1), (-2 ** 31, -1, 0, 1, 2, 999_999, MOST, TOO_MUCH, 2 ** 31 - 1)):
+        answer = ref.mark_call([5, 6], 0, 2, 0, flat_limit, clip_level, 2, 2, 80)
+        if flat_limit in (0, 1, 2 ** 31 - 1) and clip_level in (1, 2, 999_999, MOST):
+            assert answer._replace(mark=None) == ref.Answer(0, None, ([11, -1], [0, 0]), (0, 2))
+        else:
+            assert answer == ref.Answer(12)
 
 
 # --- The way back from stored coefficients -------------------------------------

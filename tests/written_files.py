@@ -3,148 +3,30 @@
 
     python3 tests/written_files.py [--library PATH] [--seed NUMBER]
 
-Builds libmealbis.a and a shared library of it, target/written_files/libmealbis.so; or takes another shared library. Of every call it compares the
+Builds libmealbis.a and a shared library of it, target/shared/libmealbis.so; or takes another shared library. Of every call it compares the
 answer, *bytes, *place, the whole buffer of the file and the recordings, with guards before and behind each. What is written goes through
 mealbis_read, which must return the input; and files of the reference go through mealbis_read and back through mealbis_write.
 
 The last line is 'N passed, 0 failed'. Exit status 1 where something differs.
 """
-import argparse
 import array
-import ctypes
 import itertools
-import mmap
-import random
-import subprocess
 import sys
-from pathlib import Path
 
+from library import BAD_LENGTHS, OUT, Calls, Mapped, in_memory, lent_bytes, lent_samples, lent_words, run, single_words
 from reference import LARGEST_SAMPLE, LENGTHS, MOST_FILE_SAMPLES, file_size, write_pair_file
 
-ROOT = Path(__file__).resolve().parent.parent
-BUILT = ROOT / "target/written_files"
 ORDER = (8, 11, 1, 6, 3)            # in which mealbis_write tests
-OUT = (LARGEST_SAMPLE + 1, -LARGEST_SAMPLE - 1, 2 ** 31 - 1, -2 ** 31)
-GUARD = 64                          # bytes before and behind what is lent, or a few more
-PAGE = 4096
-MOST_SHOWN = 20                     # failures
-
-
-def shared_library():
-    """The library as it is built now, as a shared one."""
-    BUILT.mkdir(parents=True, exist_ok=True)
-    made, archive = BUILT / "libmealbis.so", "target/staticlib/libmealbis.a"
-    for words in (["rt", "staticlib", "mealbis"],
-                  ["cc", "-shared", "-o", made, "-Wl,--whole-archive", archive, "-Wl,--no-whole-archive"]):
-        done = subprocess.run(words, cwd=ROOT, stdin=subprocess.DEVNULL, stdout=subprocess.PIPE, stderr=subprocess.STDOUT, text=True)
-        if done.returncode:
-            sys.exit("%s\n0 passed, 1 failed" % done.stdout)
-    return made
-
-
-# --- memory that is lent ---------------------------------------------------------
-
-class Lent:
-    """Memory lent to a call as so many words, between two guards; all of it is compared afterwards."""
-
-    def __init__(self, name, count, held, guards):
-        self.name, self.count = name, count
-        self.first = len(guards[0])
-        whole = b"".join((guards[0], held, guards[1]))
-        self.memory = (ctypes.c_uint8 * len(whole)).from_buffer_copy(whole)
-        assert ctypes.addressof(self.memory) % 8 == 0
-        self.expected = whole
-
-    def pointer(self):
-        return ctypes.byref(self.memory, self.first)
-
-    def expect(self, written):
-        """These bytes should stand in front after the call, and all else stay."""
-        end = self.first + len(written)
-        self.expected = self.expected[:self.first] + written + self.expected[end:]
-
-    def front(self, size):
-        return bytes(self.memory)[self.first:self.first + size]
-
-    def difference(self):
-        got = bytes(self.memory)
-        if got == self.expected:
-            return None
-        at = next(i for i, (left, right) in enumerate(zip(got, self.expected)) if left != right)
-        return "byte %d of %s (%d lent) is %d and not %d" % (at - self.first, self.name, self.count, got[at], self.expected[at])
-
-
-class Mapped(Lent):
-    """So many words, all 0, in memory of which only the first page can be written; that page is compared."""
-
-    def __init__(self, name, word_size, count):
-        self.name, self.count, self.first = name, count, 0
-        libc = ctypes.CDLL(None, use_errno=True)
-        libc.mmap.restype = ctypes.c_void_p
-        size, readable = ctypes.c_size_t(word_size * count), mmap.PROT_READ
-        address = libc.mmap(None, size, readable, mmap.MAP_PRIVATE | mmap.MAP_ANONYMOUS, -1, ctypes.c_long(0))
-        if address == ctypes.c_void_p(-1).value:
-            raise OSError(ctypes.get_errno(), "no %d bytes of address space for %s" % (size.value, name))
-        libc.mprotect(ctypes.c_void_p(address), ctypes.c_size_t(PAGE), readable | mmap.PROT_WRITE)
-        self.memory = (ctypes.c_uint8 * PAGE).from_address(address)
-        self.expected = bytes(self.memory)
-
-
-def in_memory(code, words):
-    return array.array(code, words).tobytes()
-
-
-def lent_samples(name, samples):
-    """A recording to be read; the words around it are out of range."""
-    guard = in_memory("i", OUT * 4)
-    return Lent(name, len(samples), in_memory("i", samples), (guard, guard))
-
-
-def lent_bytes(rng, name, held):
-    """The bytes of a file, which may begin at any place of memory."""
-    return Lent(name, len(held), held, (rng.randbytes(GUARD + rng.randrange(8)), rng.randbytes(GUARD)))
-
-
-def lent_words(rng, name, word_size, count):
-    """Words to be written, with anything in them."""
-    return Lent(name, count, rng.randbytes(word_size * count), (rng.randbytes(GUARD), rng.randbytes(GUARD)))
 
 
 # --- calls -------------------------------------------------------------------------
 
-class Calls:
-    """Makes calls and counts those that came out as they should."""
+class FileCalls(Calls):
+    """Calls of the writer and the reader."""
 
     def __init__(self, library, rng):
-        self.write_function, self.read_function = library.mealbis_write, library.mealbis_read
-        for function in (self.write_function, self.read_function):
-            function.restype = ctypes.c_uint32
-        self.rng = rng
-        self.passed = self.failed = 0
-
-    def add(self, name, wrong):
-        wrong = [told for told in wrong if told]
-        self.passed += not wrong
-        self.failed += bool(wrong)
-        if wrong and self.failed <= MOST_SHOWN:
-            print("written_files: %s: FAILED\n    %s" % (name, "\n    ".join(wrong)))
-
-    def compare(self, name, function, given, words, number):
-        """One call on lent memory and plain numbers; the words are pairs of lent memory and what should stand there."""
-        arguments = []
-        for one in given:
-            lent = isinstance(one, Lent)
-            arguments += [one.pointer(), ctypes.c_size_t(one.count)] if lent else [ctypes.c_size_t(one)]
-        for word, value in words:
-            word.expect(in_memory("Q", [value]))
-            arguments.append(word.pointer())
-        answer = function(*arguments)
-        told = None if answer == number else "the answer is %d and not %d" % (answer, number)
-        memory = [one for one in given if isinstance(one, Lent)] + [word for word, _ in words]
-        self.add(name, [told, *(one.difference() for one in memory)])
-
-    def size_words(self, names, values):
-        return [(lent_words(self.rng, name, 8, 1), value) for name, value in zip(names, values)]
+        super().__init__(library, rng)
+        self.write_function, self.read_function = self.function("mealbis_write"), self.function("mealbis_read")
 
     def write(self, name, a, b, length, size, number):
         """mealbis_write on a buffer of this size; it must answer as the reference, and the reference by this number. The bytes in front then."""
@@ -155,7 +37,7 @@ class Calls:
         lent_b = lent_a if b is a else lent_samples("b", b)
         file = lent_bytes(self.rng, "the file", self.rng.randbytes(size))
         file.expect(answer.data)
-        words = self.size_words(("*bytes", "*place"), (len(answer.data), answer.place or 0))
+        words = single_words(self.rng, {"*bytes": len(answer.data), "*place": answer.place or 0})
         self.compare(name, self.write_function, (lent_a, lent_b, length, file), words, answer.refusal)
         return file.front(len(answer.data))
 
@@ -166,9 +48,9 @@ class Calls:
         recordings = [lent_words(self.rng, which, 4, m + spare) for which in "ab"]
         for recording, wanted in zip(recordings, (a, b)):
             recording.expect(in_memory("i", wanted))
-        words = self.size_words(("*samples", "*length", "*place"), (m, length, 0))
+        words = single_words(self.rng, {"*samples": m, "*length": length, "*place": 0})
         self.compare(name, self.read_function, (file, *recordings), words, 0)
-        (length,) = array.array("Q", words[1][0].front(8))
+        (length,) = array.array("Q", words[1].front(8))
         return [list(array.array("i", recording.front(4 * m))) for recording in recordings], length
 
     def round_trip(self, name, a, b, length, more):
@@ -231,10 +113,6 @@ def check_read_and_written(calls, count=300):
 
 
 # --- refusals ----------------------------------------------------------------------
-
-BAD_LENGTHS = (0, 3, 5, 6, 7, 9, 1023, 1025, 1536, 2048, 2 ** 31, 2 ** 32, 2 ** 32 + 1, 2 ** 32 + 8, 2 ** 42, 2 ** 63, 2 ** 63 + 8,
-               2 ** 64 - 8, 2 ** 64 - 1)
-
 
 def holding(a, b, length, size):
     """The conditions that hold, whatever the others do, in their order."""
@@ -313,10 +191,10 @@ def check_far_sizes(calls):
     for a, b, number in ((words, words, 8), (words, lent_samples("b", few), 8), (lent_samples("a", few), words, 11)):
         lent = lent_bytes(calls.rng, "the file", calls.rng.randbytes(100))
         name = "recordings of %d and %d" % (a.count, b.count)
-        calls.compare(name, calls.write_function, (a, b, 4, lent), calls.size_words(("*bytes", "*place"), (0, 0)), number)
+        calls.compare(name, calls.write_function, (a, b, 4, lent), single_words(calls.rng, {"*bytes": 0, "*place": 0}), number)
     answer = write_pair_file(few, few, 4, file.count)
     file.expect(answer.data)
-    words = calls.size_words(("*bytes", "*place"), (40, 0))
+    words = single_words(calls.rng, {"*bytes": 40, "*place": 0})
     calls.compare("a file of %d bytes" % file.count, calls.write_function, (lent_samples("a", few), lent_samples("b", few), 4, file), words, 0)
 
 
@@ -324,21 +202,5 @@ CHECKS = (check_known, check_sizes, check_every_sample, check_read_and_written, 
           check_counts, check_far_sizes)
 
 
-def main():
-    words = argparse.ArgumentParser(description=__doc__.split("\n")[0])
-    words.add_argument("--library", metavar="PATH")
-    words.add_argument("--seed", type=int, default=20260911)
-    words = words.parse_args()
-    print("written_files: seed %d" % words.seed)
-    library = ctypes.CDLL(str(words.library or shared_library()))
-    calls = Calls(library, random.Random(words.seed))
-    for check in CHECKS:
-        before = calls.passed
-        check(calls)
-        print("%5d passed: %s" % (calls.passed - before, check.__doc__))
-    print("%d passed, %d failed" % (calls.passed, calls.failed))
-    return 1 if calls.failed else 0
-
-
 if __name__ == "__main__":
-    sys.exit(main())
+    sys.exit(run(FileCalls, CHECKS, __doc__))

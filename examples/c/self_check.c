@@ -10,13 +10,14 @@
 
 #define LONGEST MEALBIS_LONGEST_BLOCK
 #define STACK_PROMISED 8192
+#define BOTH MEALBIS_FLAT /* the mark of a block that meets both rules */
 
 static int32_t x[LONGEST + 8], y[LONGEST + 8], one[LONGEST + 8], two[LONGEST + 8], kept[LONGEST + 8], stored[LONGEST + 8];
 static int64_t scratch[MEALBIS_SCRATCH_WORDS(LONGEST) + 8];
 static uint8_t file[MEALBIS_FILE_BYTES(8)], made[MEALBIS_FILE_BYTES(LONGEST) + 8], kept_bytes[sizeof made];
 static uint64_t products, sums, six[6];
 static size_t place, samples, length, bytes;
-static uint32_t answer;
+static uint32_t answer, mark;
 static int passed, failed;
 
 static void check(int holds, const char *what, size_t with)
@@ -30,7 +31,7 @@ static void check(int holds, const char *what, size_t with)
 }
 
 /* Sets every word that a call may write to something, so that a word left alone is seen. */
-static void mark(void)
+static void fill(void)
 {
     memset(one, 0x55, sizeof one);
     memset(two, 0x55, sizeof two);
@@ -45,6 +46,7 @@ static void mark(void)
     memset(&samples, 0x55, sizeof samples);
     memset(&length, 0x55, sizeof length);
     memset(&bytes, 0x55, sizeof bytes);
+    memset(&mark, 0x55, sizeof mark);
 }
 
 /* A call refused with this number (and place) leaves 0 in the words and the buffers as they were. */
@@ -62,12 +64,13 @@ static void refused(uint32_t number, size_t at, const char *what)
     check(same && !memcmp(one, kept, sizeof one) && !memcmp(two, kept, sizeof two), what, number);
 }
 
-#define SPECTRUM(...) (mark(), answer = mealbis_spectrum(__VA_ARGS__, &products, &sums, &place))
-#define COSINE(...) (mark(), answer = mealbis_cosine(__VA_ARGS__, &products, &sums, &place))
-#define PAIR(...) (mark(), answer = mealbis_pair(__VA_ARGS__, &products, &sums, &place))
-#define INVERSE(...) (mark(), answer = mealbis_inverse_dct(__VA_ARGS__, &place))
-#define READ(...) (mark(), answer = mealbis_read(__VA_ARGS__, &samples, &length, &place))
-#define WRITE(...) (mark(), answer = mealbis_write(__VA_ARGS__, &bytes, &place))
+#define SPECTRUM(...) (fill(), answer = mealbis_spectrum(__VA_ARGS__, &products, &sums, &place))
+#define MARK(...) (fill(), answer = mealbis_mark(__VA_ARGS__, &products, &sums, &place, &mark))
+#define COSINE(...) (fill(), answer = mealbis_cosine(__VA_ARGS__, &products, &sums, &place))
+#define PAIR(...) (fill(), answer = mealbis_pair(__VA_ARGS__, &products, &sums, &place))
+#define INVERSE(...) (fill(), answer = mealbis_inverse_dct(__VA_ARGS__, &place))
+#define READ(...) (fill(), answer = mealbis_read(__VA_ARGS__, &samples, &length, &place))
+#define WRITE(...) (fill(), answer = mealbis_write(__VA_ARGS__, &bytes, &place))
 
 static void calls(void)
 {
@@ -102,7 +105,7 @@ static void calls(void)
 /* The costs of n samples by the query: just that allowance is accepted and is spent, one product less is refused. */
 static void costs(size_t n)
 {
-    uint64_t cost[6]; /* not `six`, which each call marks */
+    uint64_t cost[6]; /* not `six`, which is filled before each call */
     memcpy(cost, six, sizeof cost);
     COSINE(x, LONGEST, 0, n, cost[0], one, LONGEST, scratch, MEALBIS_WORDS(scratch));
     check(answer == 0 && products == cost[0] && sums == cost[1], "Cosine with just its products", n);
@@ -123,7 +126,7 @@ static void counts(void)
     size_t n, i;
     for (n = 0; n <= 2049; n++) {
         int a_length = n && n <= 1024 && !(n & (n - 1));
-        mark();
+        fill();
         answer = mealbis_counts(n, six, six + 1, six + 2, six + 3, six + 4, six + 5);
         if (a_length) {
             check(answer == 0, "counts of a length", n);
@@ -157,6 +160,74 @@ static void meaning(void)
             same = same && cosine[0][k] == one[k] && cosine[1][k] == two[k] && sine[0][k] == 0 && sine[1][k] == 0;
         check(same, "the spectra of a and b from Pair's", n);
     }
+}
+
+static void mark_refused(uint32_t number, size_t at, const char *what)
+{
+    refused(number, at, what);
+    check(mark == MEALBIS_NO_MARK, what, mark);
+}
+
+/* The mark, by these figures, of the block of 8 from start on, which has a sample behind it; words beyond the coefficients and scratch stay. */
+static void marked(const int32_t *recording, size_t start, int32_t flat_limit, int32_t clip_level, uint32_t number, const char *what)
+{
+    MARK(recording, start + 9, start, 8, 2, flat_limit, clip_level, one, 6, two, 6, scratch, 130);
+    check(answer == 0 && mark == number, what, mark);
+    check(products == 2 && sums == 20 && place == 0, what, products);
+    check(one[5] == kept[5] && two[5] == kept[5] && scratch[0] == 0 && scratch[127] == 0 && scratch[128] != 0, what, 8);
+}
+
+/* What mealbis_mark leaves of n samples is what mealbis_spectrum leaves. */
+static void marked_as_spectrum(size_t n)
+{
+    static int32_t cosine[MEALBIS_WORDS(one)], sine[MEALBIS_WORDS(two)];
+    uint64_t cost[2];
+    SPECTRUM(x, LONGEST, 0, n, UINT64_MAX, one, LONGEST, two, LONGEST, scratch, MEALBIS_WORDS(scratch));
+    memcpy(cosine, one, sizeof one);
+    memcpy(sine, two, sizeof two);
+    cost[0] = products;
+    cost[1] = sums;
+    MARK(x, LONGEST, 0, n, cost[0], INT32_MAX, 1000000, one, LONGEST, two, LONGEST, scratch, MEALBIS_WORDS(scratch));
+    check(answer == 0 && place == 0 && products == cost[0] && sums == cost[1], "mark, the counts of Spectrum", n);
+    check(!memcmp(cosine, one, sizeof one) && !memcmp(sine, two, sizeof two), "mark, the coefficients of Spectrum", n);
+    check(mark == BOTH, "mark, the largest flat limit", n); /* x[0] is -1000000 */
+    check(scratch[0] == 0 && scratch[8 * n + 63] == 0 && scratch[8 * n + 64] != 0, "mark, scratch cleared", n);
+}
+
+static void marks(void)
+{
+    /* The sizes of -1,000,000 at place 1 are at most 1,000,000 from k = 1 on: at cosine[4] and sine[2]. The last sample is behind the block. */
+    static const int32_t impulse[9] = {0, -1000000, 0, 0, 0, 0, 0, 0, 5}, stuck[9] = {7, 7, 7, 7, 7, 7, 7, 7, 1000000};
+    static const int32_t alternating[9] = {3, -3, 3, -3, 3, -3, 3, -3, 1000000}; /* cosine[4] is 24, all else 0 */
+    size_t n;
+    for (n = 1; n <= LONGEST; n *= 2)
+        marked_as_spectrum(n);
+    marked(impulse, 0, 999999, 1000000, MEALBIS_CLIPPED, "mark, a sample at the clip level");
+    marked(impulse, 0, 1000000, 1000000, BOTH, "mark, a coefficient at the flat limit");
+    marked(alternating, 0, 24, 4, MEALBIS_FLAT, "mark, the last coefficient at the flat limit");
+    marked(alternating, 0, 23, 4, MEALBIS_PLAIN, "mark, the last coefficient beyond the flat limit");
+    marked(stuck, 0, 0, 8, MEALBIS_FLAT, "mark, the mean does not count");
+    marked(x, 0, 0, 1000000, MEALBIS_CLIPPED, "mark, the first sample at the clip level");
+    marked(x, 1, 0, 1000000, MEALBIS_PLAIN, "mark, samples before and behind the block"); /* x[0] and x[9] are -1000000 */
+    MARK(x, 16, 0, 1, 0, 0, 1000000, one, 1, two, 1, scratch, 72), check(answer == 0 && mark == BOTH, "mark, one sample", mark);
+    MARK(x, 16, 8, 8, 99, 0, 1, one, 5, two, 5, scratch, 128), check(answer == 0 && mark == MEALBIS_CLIPPED, "mark, the least figures", mark);
+}
+
+static void mark_refusals(void)
+{
+    MARK(x, 16, 0, 3, 99, -1, 0, one, 5, two, 5, scratch, 128), mark_refused(1, 0, "mark, length 3");
+    MARK(x, 16, 9, 8, 99, -1, 0, one, 5, two, 5, scratch, 128), mark_refused(2, 0, "mark beyond the recording");
+    MARK(x, 16, SIZE_MAX, 8, 99, -1, 0, one, 5, two, 5, scratch, 128), mark_refused(2, 0, "mark, start + length overflows");
+    MARK(x, 16, 8, 8, 99, -1, 0, one, 4, two, 5, scratch, 128), mark_refused(3, 0, "mark, cosine too short");
+    MARK(x, 16, 8, 8, 99, -1, 0, one, 5, two, 4, scratch, 128), mark_refused(3, 0, "mark, sine too short");
+    MARK(x, 16, 8, 8, 99, -1, 0, one, 5, two, 5, scratch, 127), mark_refused(4, 0, "mark, scratch too short");
+    MARK(x, 16, 8, 8, 1, -1, 0, one, 5, two, 5, scratch, 128), mark_refused(5, 0, "mark, allowance 1");
+    stored[9] = -1000001;
+    MARK(stored, 16, 8, 8, 99, -1, 0, one, 5, two, 5, scratch, 128), mark_refused(6, 9, "mark, sample 9");
+    MARK(x, 16, 8, 8, 99, -1, 1, one, 5, two, 5, scratch, 128), mark_refused(12, 0, "mark, flat limit -1");
+    MARK(x, 16, 8, 8, 99, INT32_MIN, 1, one, 5, two, 5, scratch, 128), mark_refused(12, 0, "mark, the least flat limit");
+    MARK(x, 16, 8, 8, 99, 0, 0, one, 5, two, 5, scratch, 128), mark_refused(12, 0, "mark, clip level 0");
+    MARK(x, 16, 8, 8, 99, 0, 1000001, one, 5, two, 5, scratch, 128), mark_refused(12, 0, "mark, clip level 1000001");
 }
 
 static void inverse_refused(uint32_t number, size_t at, const char *what)
@@ -265,7 +336,7 @@ static void written_and_read(size_t n)
     WRITE(x, n, y, n, 256, made, sizeof made);
     check(answer == 0 && bytes == of_file && place == 0, "a file is written", n);
     check(!memcmp(made + of_file, kept_bytes + of_file, sizeof made - of_file), "and not a byte more", n);
-    memcpy(written, made, of_file); /* not `made`, which each call marks */
+    memcpy(written, made, of_file); /* not `made`, which is filled before each call */
     READ(written, of_file, one, MEALBIS_WORDS(one), two, MEALBIS_WORDS(two));
     check(answer == 0 && samples == n && length == 256 && place == 0, "the file is read", n);
     check(!memcmp(one, x, n * sizeof x[0]) && !memcmp(two, y, n * sizeof y[0]), "it has the samples", n);
@@ -303,6 +374,12 @@ static void empty_buffers(void)
     SPECTRUM(x, 16, 8, 8, 99, one, 5, NULL, 0, scratch, 128), refused(3, 0, "Spectrum, no sine");
     SPECTRUM(x, 16, 8, 8, 99, one, 5, two, 5, NULL, 0), refused(4, 0, "Spectrum, no scratch");
     SPECTRUM(NULL, 0, 0, 1, 0, NULL, 0, NULL, 0, NULL, 0), refused(2, 0, "Spectrum, nothing");
+    MARK(NULL, 0, 0, 8, 99, -1, 0, one, 5, two, 5, scratch, 128), mark_refused(2, 0, "mark, no recording");
+    MARK(NULL, 0, 0, 7, 99, 0, 1, one, 5, two, 5, scratch, 128), mark_refused(1, 0, "mark, no recording, length 7");
+    MARK(x, 16, 8, 8, 99, 0, 1, NULL, 0, two, 5, scratch, 128), mark_refused(3, 0, "mark, no cosine");
+    MARK(x, 16, 8, 8, 99, 0, 1, one, 5, NULL, 0, scratch, 128), mark_refused(3, 0, "mark, no sine");
+    MARK(x, 16, 8, 8, 99, 0, 1, one, 5, two, 5, NULL, 0), mark_refused(4, 0, "mark, no scratch");
+    MARK(NULL, 0, 0, 1, 0, 0, 1, NULL, 0, NULL, 0, NULL, 0), mark_refused(2, 0, "mark, nothing");
     COSINE(NULL, 0, 0, 1, 0, one, 8, scratch, 128), refused(2, 0, "Cosine, no recording");
     COSINE(x, 16, 8, 1, 0, NULL, 0, scratch, 128), refused(3, 0, "Cosine, no coefficients");
     COSINE(x, 16, 8, 1, 0, one, 8, NULL, 0), refused(4, 0, "Cosine, no scratch");
@@ -343,6 +420,7 @@ static void on_stack(void)
     case 5: mealbis_read(file, sizeof file, one, 8, two, 8, &samples, &length, &place); break;
     case 6: mealbis_inverse_dct(x, LONGEST, LONGEST, one, LONGEST, &place); break;
     case 7: mealbis_write(x, LONGEST, y, LONGEST, LONGEST, made, sizeof made, &bytes, &place); break;
+    case 8: mealbis_mark(x, LONGEST, 0, LONGEST, UINT64_MAX, 0, 1000000, one, LONGEST, two, LONGEST, scratch, MEALBIS_WORDS(scratch), &products, &sums, &place, &mark); break;
     }
 }
 
@@ -365,7 +443,7 @@ static size_t stack_used(int call)
 int main(int argc, char **argv)
 {
     static const char *const names[] = {"no call", "mealbis_spectrum", "mealbis_cosine", "mealbis_pair", "mealbis_counts", "mealbis_read",
-                                        "mealbis_inverse_dct", "mealbis_write"};
+                                        "mealbis_inverse_dct", "mealbis_write", "mealbis_mark"};
     size_t i, own;
     for (i = 0; i < MEALBIS_WORDS(x); i++) {
         x[i] = (int32_t)(i * 7919 % 2000001) - 1000000;
@@ -375,6 +453,8 @@ int main(int argc, char **argv)
     calls();
     counts();
     meaning();
+    marks();
+    mark_refusals();
     inverses();
     files();
     written_files();

@@ -2,28 +2,11 @@
 //     write_crossing [FILE]        standard output where there is no FILE
 // Exit status: 0 the file is written; 1 the library refuses the recordings; 2 the file could not be written, or the arguments are wrong.
 // examples/build compiles it; examples/write_crossing.txt is what ./pairspec prints of its file. include/mealbis.h says what the call does.
+mod mealbis;
+
+use mealbis::{write, Refused};
 use std::io::Write;
 use std::process::exit;
-
-#[link(name = "mealbis", kind = "static")]
-extern "C" {
-    fn mealbis_write(
-        a: *const i32, a_words: usize, b: *const i32, b_words: usize, length: usize, file: *mut u8, file_bytes: usize,
-        bytes: &mut usize, place: &mut usize,
-    ) -> u32;
-}
-
-// A refusal: its number, and the place of refusal 6.
-struct Refused(u32, usize);
-
-// The safe call: a `&mut` slice overlaps nothing, so whatever is passed keeps the header's section "Buffers". It gives the bytes of the file.
-fn write(a: &[i32], b: &[i32], length: usize, file: &mut [u8]) -> Result<usize, Refused> {
-    let (mut bytes, mut place) = (0, 0);
-    match unsafe { mealbis_write(a.as_ptr(), a.len(), b.as_ptr(), b.len(), length, file.as_mut_ptr(), file.len(), &mut bytes, &mut place) } {
-        0 => Ok(bytes),
-        number => Err(Refused(number, place)),
-    }
-}
 
 // In hundredths of a microstrain, 8 samples a second: the car rolls onto the bridge at the near abutment, off it at the far one, and the deck rings on.
 const NEAR_ABUTMENT: [i32; 16] = [0, 12, 240, 1310, 2650, 1920, 780, 150, -60, 40, -25, 15, -8, 5, -3, 1];

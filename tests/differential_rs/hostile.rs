@@ -1,6 +1,6 @@
 // Calls that are turned down, and calls with numbers at the ends.
 use crate::blocks::{any_accepted, sample};
-use crate::calls::{Call, Kind, KINDS, LARGEST, LENGTHS};
+use crate::calls::{Call, Kind, Rules, KINDS, LARGEST, LENGTHS};
 use crate::random::Random;
 use crate::run::Run;
 
@@ -13,11 +13,16 @@ pub const SETS: u64 = 64 * 11 * 3;
 // One item: an accepted call, spoilt in each way of a set of the refusals 1 to 6; after all sets, in one way or two.
 pub fn flawed_item(run: &mut Run, index: u64, random: &mut Random) {
     let set = if index < SETS { index % 64 } else { one_or_two(random) };
-    let has = |number: u64| set >> (number - 1) & 1 == 1;
     let n = LENGTHS[(index / 64) as usize % 11];
     let kind = KINDS[(index / 704) as usize % 3];
-    let mut call = any_accepted(kind, n, &run.rules, random);
-    let products = run.rules.counts(n).unwrap().of_kind(kind).products;
+    let call = flawed(kind, n, set, &run.rules, random);
+    run.call(&call, 0, random);
+}
+
+pub fn flawed(kind: Kind, n: usize, set: u64, rules: &Rules, random: &mut Random) -> Call {
+    let has = |number: u64| set >> (number - 1) & 1 == 1;
+    let mut call = any_accepted(kind, n, rules, random);
+    let products = rules.counts(n).unwrap().of_kind(kind).products;
     if has(6) {
         spoil_samples(&mut call, random);
     }
@@ -37,7 +42,7 @@ pub fn flawed_item(run: &mut Run, index: u64, random: &mut Random) {
     if has(1) {
         call.length = bad_length(n, random);
     }
-    run.call(&call, 0, random);
+    call
 }
 
 pub fn one_or_two(random: &mut Random) -> u64 {
@@ -85,10 +90,14 @@ pub fn bad_length(n: usize, random: &mut Random) -> usize {
 
 // One item: lengths, starts, sizes and allowances from lists of awkward ones, in any mix.
 pub fn extreme_item(run: &mut Run, index: u64, random: &mut Random) {
-    let kind = KINDS[index as usize % 3];
+    let call = extreme(KINDS[index as usize % 3], random);
+    run.call(&call, 0, random);
+}
+
+pub fn extreme(kind: Kind, random: &mut Random) -> Call {
     let length = extreme_length(random);
     let longest = random.of(&[0, 1, 2, 7, 8, 9, 64, 100, 1024, 1100]);
-    let call = Call {
+    Call {
         kind,
         recordings: (0..kind.recordings()).map(|_| recording(longest + random.below(2), random)).collect(),
         same_words: false,
@@ -97,8 +106,7 @@ pub fn extreme_item(run: &mut Run, index: u64, random: &mut Random) {
         allowance: random.of(&[0, 0, 1, 2, 4, 11, 12, 3586, 7172, 1 << 32, u64::MAX - 1, u64::MAX]),
         results: (0..kind.results()).map(|_| extreme_words(kind, length, random)).collect(),
         scratch: random.of(&[0, 63, 64, 71, 72, 73, 80, 96, 128, 8255, 8256, 8257, length.min(1100) * 8 + 64]),
-    };
-    run.call(&call, 0, random);
+    }
 }
 
 pub fn extreme_length(random: &mut Random) -> usize {

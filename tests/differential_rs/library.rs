@@ -4,97 +4,47 @@ use crate::random::Random;
 #[link(name = "mealbis", kind = "static")]
 extern "C" {
     pub fn mealbis_spectrum(
-        recording: *const i32,
-        recording_len: usize,
-        start: usize,
-        length: usize,
-        allowance: u64,
-        cosine: *mut i32,
-        cosine_len: usize,
-        sine: *mut i32,
-        sine_len: usize,
-        scratch: *mut i64,
-        scratch_len: usize,
-        products: *mut u64,
-        sums: *mut u64,
-        place: *mut usize,
+        recording: *const i32, recording_len: usize, start: usize, length: usize, allowance: u64,
+        cosine: *mut i32, cosine_len: usize, sine: *mut i32, sine_len: usize, scratch: *mut i64, scratch_len: usize,
+        products: *mut u64, sums: *mut u64, place: *mut usize,
+    ) -> u32;
+
+    pub fn mealbis_mark(
+        recording: *const i32, recording_len: usize, start: usize, length: usize, allowance: u64, flat_limit: i32, clip_level: i32,
+        cosine: *mut i32, cosine_len: usize, sine: *mut i32, sine_len: usize, scratch: *mut i64, scratch_len: usize,
+        products: *mut u64, sums: *mut u64, place: *mut usize, mark: *mut u32,
     ) -> u32;
 
     pub fn mealbis_cosine(
-        recording: *const i32,
-        recording_len: usize,
-        start: usize,
-        length: usize,
-        allowance: u64,
-        coefficients: *mut i32,
-        coefficients_len: usize,
-        scratch: *mut i64,
-        scratch_len: usize,
-        products: *mut u64,
-        sums: *mut u64,
-        place: *mut usize,
+        recording: *const i32, recording_len: usize, start: usize, length: usize, allowance: u64,
+        coefficients: *mut i32, coefficients_len: usize, scratch: *mut i64, scratch_len: usize,
+        products: *mut u64, sums: *mut u64, place: *mut usize,
     ) -> u32;
 
     pub fn mealbis_inverse_dct(
-        coefficients: *const i32,
-        coefficients_len: usize,
-        length: usize,
-        values: *mut i32,
-        values_len: usize,
-        place: *mut usize,
+        coefficients: *const i32, coefficients_len: usize, length: usize,
+        values: *mut i32, values_len: usize, place: *mut usize,
     ) -> u32;
 
     pub fn mealbis_pair(
-        a: *const i32,
-        a_len: usize,
-        b: *const i32,
-        b_len: usize,
-        start: usize,
-        length: usize,
-        allowance: u64,
-        real: *mut i32,
-        real_len: usize,
-        imaginary: *mut i32,
-        imaginary_len: usize,
-        scratch: *mut i64,
-        scratch_len: usize,
-        products: *mut u64,
-        sums: *mut u64,
-        place: *mut usize,
+        a: *const i32, a_len: usize, b: *const i32, b_len: usize, start: usize, length: usize, allowance: u64,
+        real: *mut i32, real_len: usize, imaginary: *mut i32, imaginary_len: usize, scratch: *mut i64, scratch_len: usize,
+        products: *mut u64, sums: *mut u64, place: *mut usize,
     ) -> u32;
 
     pub fn mealbis_counts(
-        length: usize,
-        dct_products: *mut u64,
-        dct_sums: *mut u64,
-        spectrum_products: *mut u64,
-        spectrum_sums: *mut u64,
-        pair_products: *mut u64,
-        pair_sums: *mut u64,
+        length: usize, dct_products: *mut u64, dct_sums: *mut u64, spectrum_products: *mut u64, spectrum_sums: *mut u64,
+        pair_products: *mut u64, pair_sums: *mut u64,
     ) -> u32;
 
     pub fn mealbis_read(
-        file: *const u8,
-        file_len: usize,
-        a: *mut i32,
-        a_len: usize,
-        b: *mut i32,
-        b_len: usize,
-        samples: *mut usize,
-        length: *mut usize,
-        place: *mut usize,
+        file: *const u8, file_len: usize, a: *mut i32, a_len: usize, b: *mut i32, b_len: usize,
+        samples: *mut usize, length: *mut usize, place: *mut usize,
     ) -> u32;
 
     pub fn mealbis_write(
-        a: *const i32,
-        a_len: usize,
-        b: *const i32,
-        b_len: usize,
-        length: usize,
-        file: *mut u8,
-        file_len: usize,
-        bytes: *mut usize,
-        place: *mut usize,
+        a: *const i32, a_len: usize, b: *const i32, b_len: usize, length: usize,
+        file: *mut u8, file_len: usize, bytes: *mut usize, place: *mut usize,
     ) -> u32;
 }
 
@@ -132,6 +82,12 @@ impl Word for usize {
 impl Word for i32 {
     fn filling(i: u64) -> i32 {
         (mixed(i) >> 32) as i32 | 1
+    }
+}
+
+impl Word for u32 {
+    fn filling(i: u64) -> u32 {
+        (mixed(i) >> 32) as u32 | 1
     }
 }
 

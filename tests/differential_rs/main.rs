@@ -2,7 +2,7 @@
 //
 //     tests/differential [--seed S] [--seconds T | --rounds R] [--table FILE] [--item CLASS INDEX]
 //
-// Document 01 and requests (i) and (ii) of document 02 are implemented here once more, and the exact sums are evaluated term by term. The answer of every call, its counts,
+// Document 01 and requests (i) to (iii) of document 02 are implemented here once more, and the exact sums are evaluated term by term. The answer of every call, its counts,
 // its results and the words that it must not touch are compared with them.
 // Each class of calls is gone through once, then in rounds until the time is up or R rounds are made. --table writes docs/DISTANCES.md, --item repeats one item.
 // The last line is 'N passed, 0 failed', N the calls compared.
@@ -15,6 +15,7 @@ mod files;
 mod hostile;
 mod known;
 mod library;
+mod marked;
 mod random;
 mod record;
 mod run;
@@ -24,7 +25,7 @@ mod transforms;
 mod written;
 
 use random::Random;
-use record::{with_commas, FUNCTIONS, INVERSE, READ, WRITE};
+use record::{with_commas, FUNCTIONS, INVERSE, MARK, READ, WRITE};
 use run::Run;
 use std::time::{Duration, Instant};
 
@@ -58,6 +59,9 @@ fn classes() -> Vec<Class> {
         class("written-again", written::again_item, 110, 11),
         class("flawed-written", written::flawed_item, written::SETS, 16),
         class("extreme-written", written::extreme_item, 1000, 20),
+        class("marked", marked::item, (blocks::PATTERNS * 11) as u64 * 2, 11),
+        class("flawed-marked", marked::flawed_item, marked::SETS, 16),
+        class("extreme-marked", marked::extreme_item, 2000, 20),
     ]
 }
 
@@ -78,6 +82,7 @@ fn main() {
     known::self_check(&run.rules);
     stored::self_check(&run.rules.circle);
     written::self_check();
+    marked::self_check(&run.rules);
     let rounds = match &words.item {
         Some((name, index)) => one_item(&mut run, words.seed, name, *index),
         None => whole_run(&mut run, &words),
@@ -99,6 +104,7 @@ fn whole_run(run: &mut Run, words: &Words) -> u64 {
         rounds += 1;
     }
     require_sets(run);
+    require_rules(run);
     rounds
 }
 
@@ -136,22 +142,33 @@ fn one_item(run: &mut Run, seed: u64, name: &str, index: u64) -> u64 {
 
 // Two or three refusals that can hold together must have done so on some call.
 fn require_sets(run: &mut Run) {
-    for function in [0, 1, 2, READ, INVERSE, WRITE] {
+    for function in [0, 1, 2, READ, INVERSE, WRITE, MARK] {
         let (order, impossible) = match function {
             READ => (&files::ORDER[..], &files::IMPOSSIBLE[..]),
             INVERSE => (&stored::ORDER[..], &[][..]),
             WRITE => (&written::ORDER[..], &[][..]),
+            MARK => (&marked::ORDER[..], &[][..]),
             _ => (&[1, 2, 3, 4, 5, 6][..], &[][..]),
         };
         for set in twos_and_threes(order) {
             let possible = !impossible.iter().any(|(first, second)| set.contains(first) && set.contains(second));
             if possible && !run.record.met(function, &set) {
-                let failure = format!("no call of {} met the refusals {set:?} together", FUNCTIONS[function]);
-                println!("DIFFERENT {failure}");
-                run.failures.push(failure);
+                missing(run, format!("no call of {} met the refusals {set:?} together", FUNCTIONS[function]));
             }
         }
     }
+}
+
+// Blocks that meet no rule of a mark, one of the two, and both must have come up.
+fn require_rules(run: &mut Run) {
+    if run.record.rules.contains(&0) {
+        missing(run, format!("marked blocks by the rules that they meet, none, flat, clipped, both: {:?}", run.record.rules));
+    }
+}
+
+fn missing(run: &mut Run, failure: String) {
+    println!("DIFFERENT {failure}");
+    run.failures.push(failure);
 }
 
 fn twos_and_threes(order: &[u32]) -> Vec<Vec<u32>> {

@@ -4,11 +4,12 @@ use crate::exact::{Part, ONE, PARTS};
 use std::collections::BTreeSet;
 
 // The functions of the library, in the order of FUNCTIONS.
-pub const FUNCTIONS: [&str; 7] = ["Spectrum", "Cosine", "Pair", "counts", "read", "inverse DCT", "write"];
+pub const FUNCTIONS: [&str; 8] = ["Spectrum", "Cosine", "Pair", "counts", "read", "inverse DCT", "write", "mark"];
 pub const COUNTS: usize = 3;
 pub const READ: usize = 4;
 pub const INVERSE: usize = 5;
 pub const WRITE: usize = 6;
+pub const MARK: usize = 7;
 
 pub fn function_of(kind: Kind) -> usize {
     match kind {
@@ -21,15 +22,17 @@ pub fn function_of(kind: Kind) -> usize {
 #[derive(Default)]
 pub struct Record {
     // calls by function and by the number answered
-    answers: [[u64; 12]; 7],
+    answers: [[u64; 13]; 8],
     // the sets of refusals whose conditions held on a call, by function
-    together: [BTreeSet<Vec<u32>>; 7],
+    together: [BTreeSet<Vec<u32>>; 8],
     // accepted blocks, and coefficients compared with their exact sums, by level
     pub blocks: [u64; 11],
     pub coefficients: [u64; 11],
     largest: [[u128; 5]; 11],
     // round trips by level: how many, and the largest distance after the last rounding and, times N · 2^30, before it
     trips: [(u64, u32, u128); 11],
+    // marked blocks by the rules that they meet: none, flat, clipped, both
+    pub rules: [u64; 4],
 }
 
 impl Record {
@@ -74,6 +77,8 @@ impl Record {
         lines.push(format!("blocks by length       {}", by_length(&self.blocks)));
         lines.push(format!("held to exact sums     {}", by_length(&self.coefficients)));
         lines.push(format!("sent back              {}", by_length(&self.trips.map(|trips| trips.0))));
+        let [none, flat, clipped, both] = self.rules;
+        lines.push(format!("rules of marks met     none: {none}, flat: {flat}, clipped: {clipped}, both: {both}"));
         for (function, name) in FUNCTIONS.iter().enumerate() {
             let of = &self.answers[function];
             let numbers: Vec<String> = (0..of.len()).filter(|&number| of[number] > 0).map(|number| format!("{}: {}", number, of[number])).collect();

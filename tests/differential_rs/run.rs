@@ -1,10 +1,11 @@
 // Makes a call on the library and holds everything that it leaves behind to documents 01 and 02.
-use crate::calls::{Call, Kind, Rules};
+use crate::calls::{Answer, Call, Kind, Rules};
 use crate::exact::{distance, within, Part};
 use crate::files::File;
 use crate::library::*;
+use crate::marked::Marking;
 use crate::random::Random;
-use crate::record::{function_of, Record, COUNTS, INVERSE, READ, WRITE};
+use crate::record::{function_of, Record, COUNTS, INVERSE, MARK, READ, WRITE};
 use crate::stored::{rounded, Stored, StoredAnswer};
 use crate::written::Writing;
 
@@ -35,13 +36,8 @@ impl Run {
     fn made(&mut self, call: &Call, wanted: usize, random: &mut Random) -> (u128, LentCall) {
         let answer = self.rules.answer(call);
         let mut lent = LentCall::new(call, random);
-        if let Some(outcome) = &answer.outcome {
-            lent.expect_results(&outcome.results, 8 * call.length + 64);
-            lent.counts.expect_counts(&[outcome.tally.products, outcome.tally.sums], 0);
-        } else {
-            lent.counts.expect_counts(&[0, 0], answer.place);
-        }
-        let number = lent.make(call);
+        lent.expect(&answer, call.length);
+        let number = lent.make(call, None);
 
         let mut wrong = lent.differences();
         wrong.extend(wrong_number(number, answer.number));
@@ -77,6 +73,26 @@ impl Run {
             }
         }
         (of_wanted, wrong)
+    }
+
+    // ---- Spectrum with a mark
+
+    pub fn mark(&mut self, marking: &Marking, random: &mut Random) {
+        let (answer, mark) = marking.answer(&self.rules);
+        let mut lent = LentCall::new(&marking.call, random);
+        let mut word = Lent::filled("the mark", 1, random);
+        lent.expect(&answer, marking.call.length);
+        word.expect(&[mark]);
+        let number = lent.make(&marking.call, Some((marking.flat_limit, marking.clip_level, word.pointer())));
+
+        let mut wrong = lent.differences();
+        wrong.extend(word.difference());
+        wrong.extend(wrong_number(number, answer.number));
+        if let Some(outcome) = &answer.outcome {
+            self.record.rules[marking.rules_met(&outcome.results)] += 1;
+        }
+        self.record.answer(MARK, answer.number, &marking.holding(&self.rules));
+        self.fail(wrong, || format!("mark by flat limit {} and clip level {}, of {}", marking.flat_limit, marking.clip_level, described(&marking.call)));
     }
 
     // ---- the inverse DCT
@@ -250,14 +266,20 @@ impl LentCall {
         }
     }
 
-    fn expect_results(&mut self, results: &[Vec<i32>], cleared: usize) {
-        for (lent, words) in self.results.iter_mut().zip(results) {
+    fn expect(&mut self, answer: &Answer, length: usize) {
+        let Some(outcome) = &answer.outcome else {
+            self.counts.expect_counts(&[0, 0], answer.place);
+            return;
+        };
+        for (lent, words) in self.results.iter_mut().zip(&outcome.results) {
             lent.expect(words);
         }
-        self.scratch.expect(&vec![0; cleared]);
+        self.scratch.expect(&vec![0; 8 * length + 64]);
+        self.counts.expect_counts(&[outcome.tally.products, outcome.tally.sums], 0);
     }
 
-    fn make(&mut self, call: &Call) -> u32 {
+    // Spectrum with a mark where there are a flat limit, a clip level and a word for the mark
+    fn make(&mut self, call: &Call, marked: Option<(i32, i32, *mut u32)>) -> u32 {
         let (start, length, allowance) = (call.start, call.length, call.allowance);
         let lent: Vec<(*mut i32, usize)> = self.recordings.iter_mut().map(|r| (r.pointer(), r.len())).collect();
         let out: Vec<(*mut i32, usize)> = self.results.iter_mut().map(|r| (r.pointer(), r.len())).collect();
@@ -268,6 +290,10 @@ impl LentCall {
         let (products, sums, place) = (self.counts.products.pointer(), self.counts.sums.pointer(), self.counts.place.pointer());
         unsafe {
             match call.kind {
+                Kind::Spectrum if marked.is_some() => {
+                    let (flat, clip, mark) = marked.unwrap();
+                    mealbis_mark(a, a_len, start, length, allowance, flat, clip, y, y_len, z, z_len, work, work_len, products, sums, place, mark)
+                }
                 Kind::Spectrum => mealbis_spectrum(a, a_len, start, length, allowance, y, y_len, z, z_len, work, work_len, products, sums, place),
                 Kind::Cosine => mealbis_cosine(a, a_len, start, length, allowance, y, y_len, work, work_len, products, sums, place),
                 Kind::Pair => mealbis_pair(a, a_len, b, b_len, start, length, allowance, y, y_len, z, z_len, work, work_len, products, sums, place),

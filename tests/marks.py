@@ -1,0 +1,354 @@
+#!/usr/bin/env python3
+"""Calls mealbis_mark of the library, over its C interface, and compares each answer with that of tests/reference.py and with mealbis_spectrum's.
+
+    python3 tests/marks.py [--library PATH] [--seed NUMBER]
+
+Builds libmealbis.a and a shared library of it, target/shared/libmealbis.so; or takes another shared library. Of every call it compares the
+answer, *products, *sums, *place, *mark, both buffers of coefficients, scratch and the recording, with guards before and behind each. Each input
+also goes through mealbis_spectrum, which must answer and leave behind the same, but for the mark and refusal 12.
+
+The last line is 'N passed, 0 failed'. Exit status 1 where something differs.
+"""
+import collections
+import ctypes
+import itertools
+import math
+import sys
+from typing import NamedTuple
+
+from library import BAD_LENGTHS, OUT, PAGE, Calls, Mapped, in_memory, lent_samples, lent_words, run, single_words
+from reference import (CLIPPED, FLAT, LARGEST_SAMPLE, LENGTHS, LOOKED_AT, PLAIN, mark_call, meets, scratch_words, spectrum, spectrum_call,
+                       tallied_counts)
+
+ORDER = (1, 2, 3, 4, 5, 6, 12)      # in which mealbis_mark tests
+LARGEST = 2 ** 31 - 1               # flat limit
+UNBOUNDED = 2 ** 64 - 1             # allowance
+BOTH = LOOKED_AT[0]                 # the mark of a block that meets both rules
+REACHING = (LARGEST_SAMPLE, -LARGEST_SAMPLE)
+AROUND = REACHING * 3 + OUT         # samples outside of a block: they reach every clip level, or are out of range
+
+
+# --- calls -------------------------------------------------------------------------
+
+class Call(NamedTuple):
+    """What mealbis_mark is given, in the order of the reference."""
+    recording: list
+    start: int
+    length: int
+    allowance: int
+    flat_limit: int
+    clip_level: int
+    cosine_len: int
+    sine_len: int
+    scratch_len: int
+
+    def for_spectrum(self):
+        return [value for name, value in self._asdict().items() if name not in ("flat_limit", "clip_level")]
+
+    def block(self):
+        return self.recording[self.start:self.start + self.length]
+
+
+class MarkCalls(Calls):
+    """Calls of mealbis_mark; met counts, by length, the marks and the rules that were met."""
+
+    def __init__(self, library, rng):
+        super().__init__(library, rng)
+        self.mark_function, self.spectrum_function = self.function("mealbis_mark"), self.function("mealbis_spectrum")
+        self.met = collections.Counter()
+
+    def mark(self, name, call, number=0, mark=None):
+        """It must answer as the reference, and the reference by this number and, where one is given, this mark. The reference's answer then."""
+        answer = mark_call(*call)
+        if answer.refusal != number or mark not in (None, answer.mark):
+            self.add(name, ["the reference answers %d and mark %s; %d and %s are expected" % (answer.refusal, answer.mark, number, mark)])
+        name += "; N %d, start %d, flat limit %d, clip level %d" % (call.length, call.start, call.flat_limit, call.clip_level)
+        recording = lent_samples("the recording", call.recording)
+        self.compare_mark(name, call, recording, answer)
+        plain = spectrum_call(*call.for_spectrum()) if answer.refusal == 12 else answer
+        buffers, words = self.lend(call, plain)
+        given = recording, call.start, call.length, call.allowance, *buffers
+        self.compare("Spectrum of " + name, self.spectrum_function, given, words, plain.refusal)
+        if answer.refusal == 0:
+            met = [meets(rule, call.block(), *answer.results, call.flat_limit, call.clip_level) for rule in (FLAT, CLIPPED)]
+            self.met.update([(call.length, answer.mark), (call.length, *met)])
+        return answer
+
+    def compare_mark(self, name, call, recording, answer):
+        buffers, words = self.lend(call, answer)
+        words += single_words(self.rng, {"*mark": answer.mark or 0}, "I")
+        figures = ctypes.c_int32(call.flat_limit), ctypes.c_int32(call.clip_level)
+        given = recording, call.start, call.length, call.allowance, *figures, *buffers
+        self.compare(name, self.mark_function, given, words, answer.refusal)
+
+    def lend(self, call, answer):
+        """Buffers of coefficients, scratch and single words, in which this answer should stand."""
+        sizes = {"cosine": (4, call.cosine_len), "sine": (4, call.sine_len), "scratch": (8, call.scratch_len)}
+        buffers = [lent_words(self.rng, name, *size) for name, size in sizes.items()]
+        if answer.refusal == 0:
+            cleared = bytes(8 * scratch_words(call.length))
+            for buffer, written in zip(buffers, (*(in_memory("i", words) for words in answer.results), cleared)):
+                buffer.expect(written)
+        products, sums = answer.counts or (0, 0)
+        return buffers, single_words(self.rng, {"*products": products, "*sums": sums, "*place": answer.place or 0})
+
+
+def placed(rng, x, flat_limit, clip_level):
+    """An accepted call on the block x, which stands amid other samples, with just enough of everything or with something to spare."""
+    N = len(x)
+    before, behind = (rng.choices(AROUND, k=rng.choice((0, 1, 1, 2, 3, N + 1))) for _ in range(2))
+    products = tallied_counts(N).spectrum_products
+    cosine, sine, scratch = (rng.choice((0, 0, 1, 5)) for _ in range(3))
+    return Call([*before, *x, *behind], len(before), N, rng.choice((products, products + 1, 2 ** 32, UNBOUNDED)), flat_limit, clip_level,
+                N // 2 + 1 + cosine, N // 2 + 1 + sine, scratch_words(N) + scratch)
+
+
+def largest_sizes(x):
+    """The largest size of a coefficient of the block from k = 1 on, and that of a sample."""
+    cosine, sine, _, _ = spectrum(x)
+    return max(map(abs, cosine[1:] + sine[1:]), default=0), max(map(abs, x))
+
+
+# --- the rule of a flat block --------------------------------------------------------
+
+def some_k(rng, N):
+    """Each k from 1 on where they are few, else both ends, the middle and some others."""
+    if N <= 16:
+        return range(1, N // 2 + 1)
+    return sorted({1, 2, N // 4, N // 2 - 1, N // 2, *rng.sample(range(1, N // 2), 2)})
+
+
+def wave(N, k, size, kind):
+    """A wave that has coefficient k alone, but for rounding: of the cosine, or of the sine."""
+    turn = {"cosine": math.cos, "sine": math.sin}[kind]
+    return [round(size * turn(2 * math.pi * n * k / N)) for n in range(N)]
+
+
+def try_edges(calls, name, x):
+    """Figures at the edges of both rules, and one beyond; each of the four ways to meet them. The largest sample is below 1,000,000."""
+    coefficient, sample = largest_sizes(x)
+    for flat_limit, clip_level, mark in ((coefficient, sample + 1, FLAT), (coefficient, sample, BOTH),
+                                         (coefficient - 1, sample + 1, PLAIN), (coefficient - 1, sample, CLIPPED)):
+        calls.mark(name, placed(calls.rng, x, flat_limit, clip_level), mark=mark)
+
+
+def check_each_coefficient(calls):
+    """One coefficient beyond the flat limit, all others below it: of the cosine and of the sine, of both signs, the mean small or large."""
+    rng = calls.rng
+    for N, kind, sign in itertools.product(LENGTHS[1:], ("cosine", "sine"), (1, -1)):
+        for k in some_k(rng, N):
+            if kind == "sine" and k == N // 2:
+                continue                                    # it is 0 in every block
+            mean = rng.choice((0, rng.choice((1, -1)) * rng.randint(450_000, 600_000)))
+            x = [mean + sample for sample in wave(N, k, sign * rng.choice((5, 77, 390_000)), kind)]
+            name = "%s of k = %d alone, sign %d, mean %d" % (kind, k, sign, mean)
+            words = dict(zip(("cosine", "sine"), spectrum(x)))
+            limit = abs(words[kind][k]) - 1
+            beyond = [(which, j) for which in words for j in range(1, N // 2 + 1) if abs(words[which][j]) > limit]
+            calls.add(name, [None if beyond == [(kind, k)] and sign * words[kind][k] > 0 else "beyond %d are %s" % (limit, beyond)])
+            try_edges(calls, name, x)
+
+
+def check_equal_samples(calls):
+    """All samples equal, of either sign: flat by limit 0, however large the mean; with N = 1, where every block is flat."""
+    rng = calls.rng
+    for N, size in itertools.product(LENGTHS, (0, 1, 2, 1000, rng.randint(3, 999_998), 999_999, LARGEST_SAMPLE)):
+        for sample, clip_level in itertools.product({size, -size}, sorted({1, max(1, size), min(size + 1, LARGEST_SAMPLE), LARGEST_SAMPLE})):
+            mark = BOTH if size >= clip_level else FLAT
+            calls.mark("all samples %d" % sample, placed(rng, [sample] * N, 0, clip_level), mark=mark)
+
+
+def largest_blocks(N):
+    """Blocks of the ends of the range: alternating, and with the signs of a wave."""
+    yield [REACHING[n % 2] for n in range(N)]
+    for k, kind in itertools.product({1, N // 4, N // 2}, ("cosine", "sine")):
+        yield [REACHING[sample < 0] for sample in wave(N, k, 1000, kind)]
+
+
+def check_largest_coefficients(calls):
+    """The largest coefficients that a block can have, and the largest flat limits: the greatest makes every block flat."""
+    for N in LENGTHS[1:]:
+        for x in largest_blocks(N):
+            coefficient, _ = largest_sizes(x)
+            for flat_limit in (coefficient, coefficient + 1, LARGEST - 1, LARGEST):
+                calls.mark("the ends of the range", placed(calls.rng, x, flat_limit, LARGEST_SAMPLE), mark=BOTH)
+            if coefficient > 0:
+                calls.mark("the ends of the range", placed(calls.rng, x, coefficient - 1, LARGEST_SAMPLE), mark=CLIPPED)
+
+
+# --- the rule of a clipped block -----------------------------------------------------
+
+def check_each_sample(calls):
+    """One sample that reaches the clip level, or stays one below it: of both signs, at the first, the last and a middle place of the block."""
+    rng = calls.rng
+    for N, level, sign in itertools.product(LENGTHS, (1, 2, 1000, 999_999, LARGEST_SAMPLE), (1, -1)):
+        for place in sorted({0, N // 2, N - 1}):
+            x = [rng.choice((0, level - 1, 1 - level)) for _ in range(N)]
+            x[place] = sign * level
+            name = "%d at place %d of the block" % (x[place], place)
+            calls.mark(name, placed(rng, x, 0, level), mark=BOTH if N == 1 else CLIPPED)
+            if level < LARGEST_SAMPLE:
+                calls.mark(name, placed(rng, x, 0, level + 1), mark=FLAT if N == 1 else PLAIN)
+
+
+def check_outside(calls):
+    """Samples just before and just behind the block that reach the clip level, of both signs: they do not count."""
+    for N, outside, level in itertools.product(LENGTHS, REACHING, (2, LARGEST_SAMPLE)):
+        x = [n % 2 for n in range(N)]
+        for before, behind in ((0, 1), (1, 0), (1, 1), (N, N)):
+            call = Call([outside] * before + x + [outside] * behind, before, N, UNBOUNDED, 0, level, N + 1, N + 1, scratch_words(N))
+            name = "%d samples before and %d behind are %d" % (before, behind, outside)
+            calls.mark(name, call, mark=FLAT if N == 1 else PLAIN)
+
+
+# --- both rules ----------------------------------------------------------------------
+
+def check_known(calls):
+    """Blocks worked on paper, and those of request (x)."""
+    top = LARGEST_SAMPLE
+    impulse = [0, top] + [0] * 6                            # P8: the largest sizes of a coefficient and of a sample are 1,000,000
+    for x, flat_limit, clip_level, mark in (
+            ([7], 0, 8, FLAT), ([7], 0, 7, BOTH), ([-top], 0, top, BOTH),
+            ([3, 1], 2, 4, FLAT), ([3, 1], 1, 3, CLIPPED), ([3, 1], 1, 4, PLAIN), ([3, 1], 2, 3, BOTH),     # C 4, 2
+            ([1, 2, 3, 4], 2, 5, FLAT), ([1, 2, 3, 4], 1, 4, CLIPPED), ([1, 2, 3, 4], 1, 5, PLAIN),         # P2: C 10, -2, -2; S 0, -2, 0
+            ([0, -7, 0, 2], 9, 8, FLAT), ([0, -7, 0, 2], 8, 7, CLIPPED), ([0, -7, 0, 2], 8, 8, PLAIN),      # C -5, 0, 5; S 0, -9, 0
+            (impulse, top, top, BOTH), (impulse, top - 1, top, CLIPPED), ([top] + [0] * 7, top - 1, top, CLIPPED),
+            ([top], 0, top, BOTH), ([top] * 8, 0, top, BOTH)):                                              # request (x)
+        calls.mark("block %s" % x, placed(calls.rng, x, flat_limit, clip_level), mark=mark)
+
+
+def random_block(rng, N):
+    size = rng.choice((1, 9, 1000, 300_000, LARGEST_SAMPLE))
+    return [rng.randint(-size, size) for _ in range(N)]
+
+
+def check_random(calls):
+    """Random blocks with figures near the largest coefficient and the largest sample of the block."""
+    rng = calls.rng
+    for N in LENGTHS:
+        for i in range(200 if N < 256 else 60):
+            x = random_block(rng, N)
+            coefficient, sample = largest_sizes(x)
+            limits = (coefficient - 1, coefficient, coefficient + 1, coefficient // 2, rng.randint(0, 2 * coefficient + 1))
+            levels = (sample - 1, sample, sample + 1, sample + 1, rng.randint(1, LARGEST_SAMPLE))
+            flat_limit, clip_level = max(0, rng.choice(limits)), min(max(1, rng.choice(levels)), LARGEST_SAMPLE)
+            calls.mark("random block %d" % i, placed(rng, x, flat_limit, clip_level))
+
+
+def check_met(calls):
+    """Every mark, and each of the four ways to meet the two rules, came up at every length; at N = 1 every block met that of flat."""
+    for N in LENGTHS:
+        marks = (FLAT, CLIPPED, PLAIN) if N > 1 else (FLAT,)
+        ways = itertools.product((True, False) if N > 1 else (True,), (True, False))
+        for what in [(N, mark) for mark in {*marks, BOTH}] + [(N, *way) for way in ways]:
+            calls.add("N %d" % N, [None if calls.met[what] >= 10 else "%s came up %d times" % (what, calls.met[what])])
+    calls.add("N 1", ["%s came up" % (what,) for what in calls.met if what in ((1, PLAIN), (1, False, True), (1, False, False))])
+
+
+# --- refusals ------------------------------------------------------------------------
+
+FLAT_LIMITS = {-2 ** 31: False, -1: False, 0: True, 1: True, LARGEST: True}
+CLIP_LEVELS = {-2 ** 31: False, -1: False, 0: False, 1: True, 2: True, 999_999: True, 1_000_000: True, 1_000_001: False, 2 ** 31 - 1: False}
+BAD_FIGURES = ((-1, 1), (-2 ** 31, 1_000_000), (0, 0), (0, -1), (LARGEST, 1_000_001), (5, 2 ** 31 - 1), (5, -2 ** 31), (-1, 0), (-7, 1_000_001))
+
+
+def check_figures(calls):
+    """Figures at their ends and beyond them, at every length."""
+    rng = calls.rng
+    for N, (flat_limit, flat_good), (clip_level, clip_good) in itertools.product(LENGTHS, FLAT_LIMITS.items(), CLIP_LEVELS.items()):
+        for x in (random_block(rng, N), [rng.choice((0, 1, -2, 999_999, -1_000_000))] * N):
+            calls.mark("figures", placed(rng, x, flat_limit, clip_level), 0 if flat_good and clip_good else 12)
+
+
+def holding(call):
+    """The conditions that hold, whatever the others do, in their order. Of a bad length, which has no products, an allowance of 0 stands for 5."""
+    N = call.length
+    products = tallied_counts(N).spectrum_products if N in LENGTHS else 1
+    holds = {1: N not in LENGTHS, 2: call.start + N > len(call.recording), 3: min(call.cosine_len, call.sine_len) < N // 2 + 1,
+             4: call.scratch_len < 8 * N + 64, 5: call.allowance < products, 6: any(abs(sample) > 1_000_000 for sample in call.block()),
+             12: call.flat_limit < 0 or not 1 <= call.clip_level <= 1_000_000}
+    return tuple(number for number in ORDER if holds[number])
+
+
+def broken(rng, numbers, N):
+    """A call with the numbered conditions made to hold, on a block of N samples from a place on."""
+    start, listed = rng.choice((1, 2, 9)), N // 2 + 1
+    recording = rng.choices(AROUND, k=start) + random_block(rng, N) + rng.choices(AROUND, k=3)
+    if 6 in numbers:
+        recording[start + rng.randrange(max(1, N - 1))] = rng.choice(OUT)
+    if 2 in numbers:
+        recording = recording[:start + N - 1]
+    short = rng.choice(((listed - 1, listed), (listed, listed - 1), (0, 0))) if 3 in numbers else (listed, listed + 1)
+    products = tallied_counts(N).spectrum_products if N in LENGTHS else 1
+    allowance = rng.choice((0, products - 1)) if 5 in numbers else rng.choice((products, UNBOUNDED))
+    figures = rng.choice(BAD_FIGURES) if 12 in numbers else (rng.randint(0, LARGEST), rng.randint(1, LARGEST_SAMPLE))
+    return Call(recording, start, N, allowance, *figures, *short, 8 * N + 64 - (rng.choice((1, 64)) if 4 in numbers else 0))
+
+
+def check_refusals(calls):
+    """Each refusal alone and every set of them together, at many lengths: the earliest wins."""
+    met = set()
+    sets = [numbers for size in range(len(ORDER) + 1) for numbers in itertools.combinations(ORDER, size)]
+    for numbers in sets:
+        for N in (3, 6, 12, 1023, 1025, 2048) if 1 in numbers else LENGTHS[3:] if 5 in numbers else LENGTHS[1:]:
+            call = broken(calls.rng, numbers, N)
+            held = holding(call)
+            met.add(held)
+            calls.mark("refusals %s" % (held,), call, held[0] if held else 0)
+    for numbers in sets:
+        calls.add("refusals %s together" % (numbers,), [None if numbers in met else "no call met them"])
+
+
+def check_places(calls):
+    """A sample out of range at the first, the last and a middle place of the block, and a later one too; with figures that are good and bad."""
+    for N, out, figures in itertools.product(LENGTHS, OUT, ((3, 3), (-1, 0))):
+        for place in sorted({0, N // 2, N - 1}):
+            for later in sorted({place, N - 1}):
+                x = random_block(calls.rng, N)
+                x[place], x[later] = out, out
+                call = placed(calls.rng, x, *figures)
+                answer = calls.mark("%d at places %d and %d of the block" % (out, place, later), call, 6)
+                calls.add("the place", [None if answer.place == call.start + place else "the reference answers place %s" % answer.place])
+
+
+def check_edges(calls):
+    """Buffers, scratch, allowance and start at their edges and one beyond, with good figures and bad ones."""
+    for N, flat_limit in itertools.product(LENGTHS, (LARGEST, -1)):
+        listed, products = N // 2 + 1, tallied_counts(N).spectrum_products
+        call = Call([0] * N + [1, 2], 2, N, products, flat_limit, 1, listed, listed, 8 * N + 64)
+        calls.mark("just enough", call, 0 if flat_limit == LARGEST else 12)
+        changes = [(3, "cosine_len", listed - 1), (3, "cosine_len", 0), (3, "sine_len", listed - 1), (3, "sine_len", 0),
+                   (4, "scratch_len", 8 * N + 63), (4, "scratch_len", 0), (2, "recording", [])]
+        changes += [(2, "start", start) for start in (3, 2 ** 32, 2 ** 64 - N, 2 ** 64 - 1)]
+        changes += [(5, "allowance", products - 1)] if products else []
+        for number, name, value in changes:
+            calls.mark("%s %s" % (name, value), call._replace(**{name: value}), number)
+
+
+def check_lengths(calls):
+    """Every length up to 130 and some far ones: the eleven are accepted."""
+    for length in (*BAD_LENGTHS, *range(131), *LENGTHS[8:], *(length << 32 for length in LENGTHS), *(length + 2 ** 32 for length in LENGTHS)):
+        call = Call(random_block(calls.rng, 2048), 0, length, UNBOUNDED, 0, LARGEST_SAMPLE, 1025, 1025, 16448)
+        calls.mark("a length", call, 0 if length in LENGTHS else 1)
+
+
+def check_far(calls):
+    """A recording of more than 2^32 words, and a block beyond them: no start and no place is cut to 32 bits."""
+    far = 2 ** 32 + 1024
+    recording = Mapped("the far recording", 4, far + PAGE, 4 * far // PAGE)
+    for last, mark, place in ((-3, PLAIN, None), (-30, CLIPPED, None), (OUT[0], None, 7)):
+        x = [5, -3, 5, -3, 5, -3, 5, last]
+        near = Call([*REACHING, *x, *REACHING], 2, 8, UNBOUNDED, 7, 30, 5, 5, 128)
+        recording.hold(in_memory("i", near.recording))
+        answer = mark_call(*near)
+        calls.add("near block %s" % x, [None if (answer.mark, answer.place) == (mark, place and 2 + place) else "%s" % (answer,)])
+        answer = answer._replace(place=place and far + 2 + place)
+        calls.compare_mark("far block %s" % x, near._replace(start=far + 2), recording, answer)
+
+
+CHECKS = (check_known, check_each_coefficient, check_equal_samples, check_largest_coefficients, check_each_sample, check_outside, check_random,
+          check_met, check_figures, check_refusals, check_places, check_edges, check_lengths, check_far)
+
+
+if __name__ == "__main__":
+    sys.exit(run(MarkCalls, CHECKS, __doc__))
