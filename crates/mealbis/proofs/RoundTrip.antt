@@ -6,7 +6,6 @@ use mathlib.Core.Path.{_≡_, sym, subst, _∙_}
 use Prim.Native.Nat.{ℕ, _≤_, _<_}
 use native.Mathlib.Omega.{arith}
 use lib.IntN.{ℤ, natAbs, _-ℤ_}
-use lib.ListN.{length}
 use Rattle.words.specs.Words.{Samples, word}
 use Rattle.words.proofs.Writing.{front}
 use Rattle.ffct.specs.Block.{AcceptedBlock, isLength, level}
@@ -45,7 +44,7 @@ cosine-and-back r start N allowance cs scratch cs′ scratch′ cosine p ok valu
     d : CosineDone N (block r start) allowance cs scratch cs′ scratch′ (spent cosine)
     d = p .done ok
 
-    passed : Passes (cosineCall r start N allowance (length cs) (length scratch))
+    passed : Passes (cosineCall r start N allowance cs scratch)
     passed = passes _ (sym (p .verdict) ∙ ok)
 
     length-ok : isLength N ≡ true

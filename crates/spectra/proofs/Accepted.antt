@@ -87,7 +87,7 @@ put-back {m} {n} {g} {w} {w′} e h p =
 
 -- ---- what an accepted call asks of the functions on a block, and what it has done. m words of scratch are lent, and come back as w′
 module _ (scratch : List ℤ) {N m allowance start : ℕ} (is : m ≡ scratchWords N) where
-  module _ (r coefficients : List ℤ) (passed : Passes (cosineCall r start N allowance (length coefficients) (length scratch))) where
+  module _ (r coefficients : List ℤ) (passed : Passes (cosineCall r start N allowance coefficients scratch)) where
     fit-x : Fit r start N
     fit-x = fit r passed (passed .recordings .0) (passed .range .0)
 
@@ -115,7 +115,7 @@ module _ (scratch : List ℤ) {N m allowance start : ℕ} (is : m ≡ scratchWor
         })
 
   module _ (r cosine sine : List ℤ)
-      (passed : Passes (spectrumCall r start N allowance (length cosine) (length sine) (length scratch))) where
+      (passed : Passes (spectrumCall r start N allowance cosine sine scratch)) where
     fit-r : Fit r start N
     fit-r = fit r passed (passed .recordings .0) (passed .range .0)
 
@@ -153,7 +153,7 @@ module _ (scratch : List ℤ) {N m allowance start : ℕ} (is : m ≡ scratchWor
         })
 
   module _ (a b real imaginary : List ℤ)
-      (passed : Passes (pairCall a b start N allowance (length real) (length imaginary) (length scratch))) where
+      (passed : Passes (pairCall a b start N allowance real imaginary scratch)) where
     fit-a : Fit a start N
     fit-a = fit a passed (passed .recordings .0) (passed .range .0)
 

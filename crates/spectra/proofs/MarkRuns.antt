@@ -57,7 +57,7 @@ figures f c e =
 -- ---- a run
 module _ (r : List ℤ) (start N allowance : ℕ) (flatLimit clipLevel : ℤ) (cosine sine scratch : List ℤ) where
   abbrev call : Call
-  call = spectrumCall r start N allowance (length cosine) (length sine) (length scratch)
+  call = spectrumCall r start N allowance cosine sine scratch
 
   module _ {tested : Tested} (t : Tells call tested) where
     pub tests-refused : {refusal : Refusal} → tested ≡ TestRefused refusal

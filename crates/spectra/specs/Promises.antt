@@ -23,8 +23,8 @@ use Rattle.spectra.specs.Answers.{verdictOf, spent, verdictOfCounts, cou
 use Rattle.spectra.specs.Marks.{mark, markVerdict}
 use Rattle.spectra.specs.MarkAnswers as marked
 
--- ---- Spectrum: the call, with the lengths of its buffers
-abbrev pub spectrumCall : List ℤ → (start N allowance cosine sine scratch : ℕ) → Call
+-- ---- Spectrum
+abbrev pub spectrumCall : List ℤ → (start N allowance : ℕ) → (cosine sine scratch : List ℤ) → Call
 spectrumCall recording start N allowance cosine sine scratch =
     record {
       lengths = length recording ∷ [];
@@ -32,9 +32,9 @@ spectrumCall recording start N allowance cosine sine scratch =
       start = start;
       N = N;
       allowance = allowance;
-      results = cosine ∷ sine ∷ [];
+      results = length cosine ∷ length sine ∷ [];
       yields = N / 2 + 1;
-      scratch = scratch;
+      scratch = length scratch;
       products = spectrumOf (level N) (block recording start) .products;
     }
 
@@ -54,7 +54,7 @@ pub record SpectrumDone (N : ℕ) (x : Samples) (allowance : ℕ)
 
 abbrev pub SpectrumPromise : List ℤ → ℕ → ℕ → ℕ → (cosine sine scratch cosine′ sine′ scratch′ : List ℤ) → Answer → Type 0
 SpectrumPromise recording start N allowance cosine sine scratch cosine′ sine′ scratch′ answer =
-    Promise (verdictOf answer) (verdict (spectrumCall recording start N allowance (length cosine) (length sine) (length scratch)))
+    Promise (verdictOf answer) (verdict (spectrumCall recording start N allowance cosine sine scratch))
     ((cosine′ ≡ cosine) × (sine′ ≡ sine) × (scratch′ ≡ scratch))
     (SpectrumDone N (block recording start) allowance cosine sine scratch cosine′ sine′ scratch′ (spent answer))
 
@@ -69,12 +69,12 @@ abbrev pub MarkPromise : List ℤ → (start N allowance : ℕ) → (flatLimit c
     → (cosine sine scratch cosine′ sine′ scratch′ : List ℤ) → MarkAnswer → Type 0
 MarkPromise recording start N allowance flatLimit clipLevel cosine sine scratch cosine′ sine′ scratch′ answer =
     Promise (marked.verdictOf answer)
-    (markVerdict (spectrumCall recording start N allowance (length cosine) (length sine) (length scratch)) flatLimit clipLevel)
+    (markVerdict (spectrumCall recording start N allowance cosine sine scratch) flatLimit clipLevel)
     ((cosine′ ≡ cosine) × (sine′ ≡ sine) × (scratch′ ≡ scratch))
     (MarkDone flatLimit clipLevel N (block recording start) allowance cosine sine scratch cosine′ sine′ scratch′ answer)
 
 -- ---- Cosine
-abbrev pub cosineCall : List ℤ → (start N allowance coefficients scratch : ℕ) → Call
+abbrev pub cosineCall : List ℤ → (start N allowance : ℕ) → (coefficients scratch : List ℤ) → Call
 cosineCall recording start N allowance coefficients scratch =
     record {
       lengths = length recording ∷ [];
@@ -82,9 +82,9 @@ cosineCall recording start N allowance coefficients scratch =
       start = start;
       N = N;
       allowance = allowance;
-      results = coefficients ∷ [];
+      results = length coefficients ∷ [];
       yields = N;
-      scratch = scratch;
+      scratch = length scratch;
       products = dctOf (level N) (block recording start) .products;
     }
 
@@ -100,12 +100,12 @@ pub record CosineDone (N : ℕ) (x : Samples) (allowance : ℕ)
 
 abbrev pub CosinePromise : List ℤ → ℕ → ℕ → ℕ → (coefficients scratch coefficients′ scratch′ : List ℤ) → Answer → Type 0
 CosinePromise recording start N allowance coefficients scratch coefficients′ scratch′ answer =
-    Promise (verdictOf answer) (verdict (cosineCall recording start N allowance (length coefficients) (length scratch)))
+    Promise (verdictOf answer) (verdict (cosineCall recording start N allowance coefficients scratch))
     ((coefficients′ ≡ coefficients) × (scratch′ ≡ scratch))
     (CosineDone N (block recording start) allowance coefficients scratch coefficients′ scratch′ (spent answer))
 
 -- ---- Pair, recordings a and b
-abbrev pub pairCall : (a b : List ℤ) → (start N allowance real imaginary scratch : ℕ) → Call
+abbrev pub pairCall : (a b : List ℤ) → (start N allowance : ℕ) → (real imaginary scratch : List ℤ) → Call
 pairCall a b start N allowance real imaginary scratch =
     record {
       lengths = length a ∷ length b ∷ [];
@@ -113,9 +113,9 @@ pairCall a b start N allowance real imaginary scratch =
       start = start;
       N = N;
       allowance = allowance;
-      results = real ∷ imaginary ∷ [];
+      results = length real ∷ length imaginary ∷ [];
       yields = N;
-      scratch = scratch;
+      scratch = length scratch;
       products = pairOf (level N) (block a start) (block b start) .products;
     }
 
@@ -135,7 +135,7 @@ pub record PairDone (N : ℕ) (x y : Samples) (allowance : ℕ)
 
 abbrev pub PairPromise : List ℤ → List ℤ → ℕ → ℕ → ℕ → (real imaginary scratch real′ imaginary′ scratch′ : List ℤ) → Answer → Type 0
 PairPromise a b start N allowance real imaginary scratch real′ imaginary′ scratch′ answer =
-    Promise (verdictOf answer) (verdict (pairCall a b start N allowance (length real) (length imaginary) (length scratch)))
+    Promise (verdictOf answer) (verdict (pairCall a b start N allowance real imaginary scratch))
     ((real′ ≡ real) × (imaginary′ ≡ imaginary) × (scratch′ ≡ scratch))
     (PairDone N (block a start) (block b start) allowance real imaginary scratch real′ imaginary′ scratch′ (spent answer))
 

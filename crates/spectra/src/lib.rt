@@ -51,20 +51,21 @@ fn counts_at(length: usize) -> Counts
     }
 }
 
-// The tests of Spectrum, on the words of its buffers.
+// The tests of Spectrum.
 fn test_spectrum(
     recording: &[i32],
     start: usize,
     length: usize,
     allowance: u64,
-    cosine: usize,
-    sine: usize,
-    scratch: usize,
+    cosine: &[i32],
+    sine: &[i32],
+    scratch: &[i64],
 ) -> Tested
-    ensures { λ r. ⌜ Tells (spectrumCall (now (recording .entry)) start length allowance cosine sine scratch) r ⌝ }
+    ensures { λ r. ⌜ Tells (spectrumCall (now (recording .entry)) start length allowance
+        (now (cosine .entry)) (now (sine .entry)) (now (scratch .entry))) r ⌝ }
 {
     let counts = counts_at(length);
-    let room = shorter(cosine, sine);
+    let room = shorter(cosine.len(), sine.len());
     test(
         recording,
         recording.len(),
@@ -73,7 +74,7 @@ fn test_spectrum(
         allowance,
         room,
         length / 2 + 1,
-        scratch,
+        scratch.len(),
         counts.spectrum.products,
     )
 }
@@ -85,15 +86,16 @@ fn test_pair(
     start: usize,
     length: usize,
     allowance: u64,
-    real: usize,
-    imaginary: usize,
-    scratch: usize,
+    real: &[i32],
+    imaginary: &[i32],
+    scratch: &[i64],
 ) -> Tested
-    ensures { λ r. ⌜ Tells (pairCall (now (a .entry)) (now (b .entry)) start length allowance real imaginary scratch) r ⌝ }
+    ensures { λ r. ⌜ Tells (pairCall (now (a .entry)) (now (b .entry)) start length allowance
+        (now (real .entry)) (now (imaginary .entry)) (now (scratch .entry))) r ⌝ }
 {
     let counts = counts_at(length);
     let shortest = shorter(a.len(), b.len());
-    let room = shorter(real, imaginary);
+    let room = shorter(real.len(), imaginary.len());
     let tested = test(
         a,
         shortest,
@@ -102,7 +104,7 @@ fn test_pair(
         allowance,
         room,
         length,
-        scratch,
+        scratch.len(),
         counts.pair.products,
     );
     if let Tested::Refused(refusal) = tested {
@@ -130,15 +132,7 @@ pub fn spectrum(
         (now (cosine .entry)) (now (sine .entry)) (now (scratch .entry))
         (now (cosine .exit)) (now (sine .exit)) (now (scratch .exit)) r ⌝ }
 {
-    let tested = test_spectrum(
-        recording,
-        start,
-        length,
-        allowance,
-        cosine.len(),
-        sine.len(),
-        scratch.len(),
-    );
+    let tested = test_spectrum(recording, start, length, allowance, cosine, sine, scratch);
     if let Tested::Refused(refusal) = tested {
         return Answer::Refused(refusal);
     }
@@ -193,16 +187,7 @@ pub fn pair(
         (now (real .entry)) (now (imaginary .entry)) (now (scratch .entry))
         (now (real .exit)) (now (imaginary .exit)) (now (scratch .exit)) r ⌝ }
 {
-    let tested = test_pair(
-        a,
-        b,
-        start,
-        length,
-        allowance,
-        real.len(),
-        imaginary.len(),
-        scratch.len(),
-    );
+    let tested = test_pair(a, b, start, length, allowance, real, imaginary, scratch);
     if let Tested::Refused(refusal) = tested {
         return Answer::Refused(refusal);
     }

@@ -92,7 +92,7 @@ fn mark_by(
 
 // ---- the call
 
-// Spectrum, and the mark of its block. The figures are tested behind all that Spectrum tests.
+// Spectrum, and the mark of its block. Figures that are refused are refused behind all that Spectrum tests.
 pub fn mark_block(
     recording: &[i32],
     start: usize,
@@ -109,15 +109,7 @@ pub fn mark_block(
         (now (cosine .exit)) (now (sine .exit)) (now (scratch .exit)) r ⌝ }
 {
     if bad_figures(flat_limit, clip_level) {
-        let tested = test_spectrum(
-            recording,
-            start,
-            length,
-            allowance,
-            cosine.len(),
-            sine.len(),
-            scratch.len(),
-        );
+        let tested = test_spectrum(recording, start, length, allowance, cosine, sine, scratch);
         return match tested {
             Tested::Refused(refusal) => MarkAnswer::Refused(refusal),
             Tested::Passed => MarkAnswer::BadFigures,
@@ -127,15 +119,9 @@ pub fn mark_block(
     match answer {
         Answer::Refused(refusal) => MarkAnswer::Refused(refusal),
         Answer::Done(tally) => {
-            let mark = mark_by(
-                flat_limit as u32,
-                clip_level as u32,
-                recording,
-                start,
-                length,
-                cosine,
-                sine,
-            );
+            let limit = flat_limit as u32;
+            let level = clip_level as u32;
+            let mark = mark_by(limit, level, recording, start, length, cosine, sine);
             MarkAnswer::Marked(mark, tally)
         }
     }

@@ -16,7 +16,7 @@ use Rattle.spectra.proofs.cosine.Tie as tie
 abbrev call : tie.After-test → Call
 call c =
     let a = c .before .before .args in
-    cosineCall (a .recording .now) (a .start) (a .length) (a .allowance) (length (a .coefficients .now)) (length (a .scratch .now))
+    cosineCall (a .recording .now) (a .start) (a .length) (a .allowance) (a .coefficients .now) (a .scratch .now)
 
 tells : (c : tie.After-test) → Tells (call c) (c .test .result)
 tells c = record {

@@ -14,9 +14,9 @@ use Rattle.spectra.proofs.pair.Tie as tie
 
 abbrev call : tie.After-test-pair → Call
 call c =
-    let a = c .before .args in
+    let a = c .before .before .before .before .args in
     pairCall (a .a .now) (a .b .now) (a .start) (a .length) (a .allowance)
-    (length (a .real .now)) (length (a .imaginary .now)) (length (a .scratch .now))
+    (a .real .now) (a .imaginary .now) (a .scratch .now)
 
 passed : (c : tie.After-enum-told) → Passes (call (c .before .before))
 passed c = passes _ (passed-by (c .before .before .test-pair .ensures) accepted (c .enum-told .given .1))
@@ -27,6 +27,9 @@ pair-spec =
     (tie.spec
     (λ c κs. search needs)  -- test-pair-requires
     (λ c. search needs)  -- enum-known-tested
+    (λ c. search needs)  -- same-length
+    (λ c. search needs)  -- same-length-2
+    (λ c. search needs)  -- same-length-3
     (λ c. let t = c .before .before .before in
     refused-by (t .test-pair .ensures) accepted (refl, refl, refl) (c .before .tested .given .1))  -- returns
     (λ c. search needs)  -- enum-told
@@ -43,9 +46,9 @@ pair-spec =
     (λ c. omega (arith, passed (c .before .before .before .before .before) .scratch))  -- slice-relend-prefix-pair-of
     (λ c. taken _ _ (omega (arith, passed (c .before .before .before .before .before .before) .scratch)))  -- slice-aggregate-pair-of
     (λ c κs. let m = c .before .before .before .before .before in
-    let a = m .before .before .before .before .args in
+    let a = m .before .before .before .before .before .before .before .args in
     pair-ready _ (m .scratch-words .ensures) _ _ (a .real .now) (a .imaginary .now) (passed (m .before)))  -- pair-of-requires
-    (λ c. search needs)  -- same-length
-    (λ c. search needs)  -- same-length-2
-    (λ c. search needs)  -- same-length-3
+    (λ c. search needs)  -- same-length-4
+    (λ c. search needs)  -- same-length-5
+    (λ c. search needs)  -- same-length-6
     (λ c. search (needs, pair-done, passed)))  -- returns-2

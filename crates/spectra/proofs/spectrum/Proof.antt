@@ -14,9 +14,9 @@ use Rattle.spectra.proofs.spectrum.Tie as tie
 
 abbrev call : tie.After-test-spectrum → Call
 call c =
-    let a = c .before .args in
+    let a = c .before .before .before .before .args in
     spectrumCall (a .recording .now) (a .start) (a .length) (a .allowance)
-    (length (a .cosine .now)) (length (a .sine .now)) (length (a .scratch .now))
+    (a .cosine .now) (a .sine .now) (a .scratch .now)
 
 passed : (c : tie.After-enum-told) → Passes (call (c .before .before))
 passed c = passes _ (passed-by (c .before .before .test-spectrum .ensures) accepted (c .enum-told .given .1))
@@ -27,6 +27,9 @@ spectrum-spec =
     (tie.spec
     (λ c κs. search needs)  -- test-spectrum-requires
     (λ c. search needs)  -- enum-known-tested
+    (λ c. search needs)  -- same-length
+    (λ c. search needs)  -- same-length-2
+    (λ c. search needs)  -- same-length-3
     (λ c. let t = c .before .before .before in
     refused-by (t .test-spectrum .ensures) accepted (refl, refl, refl) (c .before .tested .given .1))  -- returns
     (λ c. search needs)  -- enum-told
@@ -39,9 +42,9 @@ spectrum-spec =
     (λ c. omega (arith, passed (c .before .before .before .before) .scratch))  -- slice-relend-prefix-spectrum-of
     (λ c. taken _ _ (omega (arith, passed (c .before .before .before .before .before) .scratch)))  -- slice-aggregate-spectrum-of
     (λ c κs. let m = c .before .before .before .before in
-    let a = m .before .before .before .before .args in
+    let a = m .before .before .before .before .before .before .before .args in
     spectrum-ready _ (m .scratch-words .ensures) _ (a .cosine .now) (a .sine .now) (passed (m .before)))  -- spectrum-of-requires
-    (λ c. search needs)  -- same-length
-    (λ c. search needs)  -- same-length-2
-    (λ c. search needs)  -- same-length-3
+    (λ c. search needs)  -- same-length-4
+    (λ c. search needs)  -- same-length-5
+    (λ c. search needs)  -- same-length-6
     (λ c. search (needs, spectrum-done, passed)))  -- returns-2

@@ -19,7 +19,7 @@ use Rattle.spectra.proofs.test_pair.Tie as tie
 abbrev call : tie.After-test → Call
 call c =
     let a = c .before .before .before .before .args in
-    pairCall (a .a .now) (a .b .now) (a .start) (a .length) (a .allowance) (a .real) (a .imaginary) (a .scratch)
+    pairCall (a .a .now) (a .b .now) (a .start) (a .length) (a .allowance) (a .real .now) (a .imaginary .now) (a .scratch .now)
 
 told : (c : tie.After-test) {tested : Tested} → c .test .result ≡ tested → (rest : Verdict)
     → let a = c .before .before .before .before .args in

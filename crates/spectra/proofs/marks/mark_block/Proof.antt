@@ -43,33 +43,39 @@ mark-block-spec =
     (λ c κs. search needs)  -- test-spectrum-requires
     (λ c. search needs)  -- enum-known-tested
     (λ c. search needs)  -- enum-told
+    (λ c. search needs)  -- same-length
+    (λ c. search needs)  -- same-length-2
+    (λ c. search needs)  -- same-length-3
     (λ c. let t = c .before .before .before in
-    tests-refused (t .before .before .before .args .recording .now) _ _ _ _ _ _ _ _
+    tests-refused (t .before .before .before .before .before .before .args .recording .now) _ _ _ _ _ _ _ _
     (t .test-spectrum .ensures) (c .before .tested .given .1))  -- returns
+    (λ c. search needs)  -- same-length-4
+    (λ c. search needs)  -- same-length-5
+    (λ c. search needs)  -- same-length-6
     (λ c. let t = c .before .before in
-    figures-refused (t .before .before .before .args .recording .now) _ _ _ _ _ _ _ _
-    (t .test-spectrum .ensures) (bad (t .before)) (c .enum-told .given .1))  -- returns-2
+    figures-refused (t .before .before .before .before .before .before .args .recording .now) _ _ _ _ _ _ _ _
+    (t .test-spectrum .ensures) (bad (t .before .before .before .before)) (c .enum-told .given .1))  -- returns-2
     (λ c κs. search needs)  -- spectrum-requires
     (λ c. search needs)  -- enum-known-answer
     (λ c. search needs)  -- enum-known-answer-2
     (λ c. let t = tested (c .before .before .before .before .before .before) in
-    natural-word (t .before .before .fits .flat-limit) (accepted t .flat-limit))  -- cast-mark-by
+    natural-word (t .before .before .fits .flat-limit) (accepted t .flat-limit))  -- cast-limit
     (λ c. let t = tested (c .before .before .before .before .before .before) in
-    natural-word (t .before .before .fits .clip-level) (accepted t .clip-level))  -- cast-mark-by-2
+    natural-word (t .before .before .fits .clip-level) (accepted t .clip-level))  -- cast-level
     (λ c κs. let s = c .before .before .before .before .before .before .before .before in
     let e = tested s .before .before in
     rw (toZ-ofZ (e .fits .flat-limit), toZ-ofZ (e .fits .clip-level))
     (spectrum-ready (e .args .recording .now) _ _ _ _ _ _ _ _ (good (tested s)) (s .spectrum .ensures)
     (e .fits .flat-limit) (e .fits .clip-level) (c .before .before .before .answer2 .given .1)))  -- mark-by-requires
-    (λ c. search needs)  -- same-length
-    (λ c. search needs)  -- same-length-2
-    (λ c. search needs)  -- same-length-3
+    (λ c. search needs)  -- same-length-7
+    (λ c. search needs)  -- same-length-8
+    (λ c. search needs)  -- same-length-9
     (λ c. let s = c .before .before .before .before .before .before in
     spectrum-refused (tested s .before .before .args .recording .now) _ _ _ _ _ _ _ _ (good (tested s)) (s .spectrum .ensures)
     (c .before .answer .given .1))  -- returns-3
-    (λ c. search needs)  -- same-length-4
-    (λ c. search needs)  -- same-length-5
-    (λ c. search needs)  -- same-length-6
+    (λ c. search needs)  -- same-length-10
+    (λ c. search needs)  -- same-length-11
+    (λ c. search needs)  -- same-length-12
     (λ c. let s = c .before .before .before .before .before .before .before .before .before in
     let e = tested s .before .before in
     spectrum-marked (e .args .recording .now) _ _ _ _ _ _ _ _ (good (tested s)) (s .spectrum .ensures)
