@@ -138,9 +138,9 @@ pub extern "C" fn mealbis_mark(
         sine,
         scratch,
     );
-    let spent = marks::spent_of(answer);
-    *products = spent.products;
-    *sums = spent.sums;
+    let tally = marks::spent_of(answer);
+    *products = tally.products;
+    *sums = tally.sums;
     *place = marks::place_of(answer);
     *mark = marks::mark_of(answer);
     marks::number_of(answer)
