@@ -31,5 +31,6 @@ abbrev pub outcome : Tested → Verdict → Verdict
 outcome (Refused refusal) rest = verdictOf refusal
 outcome Passed rest = rest
 
+-- what the tests of a call tell: its verdict
 pub record Tells (call : Call) (tested : Tested) : Type 0 where
   pub verdict : (rest : Verdict) → tests call rest ≡ outcome tested rest

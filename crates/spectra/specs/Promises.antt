@@ -58,21 +58,6 @@ SpectrumPromise recording start N allowance cosine sine scratch cosine′ sine�
     ((cosine′ ≡ cosine) × (sine′ ≡ sine) × (scratch′ ≡ scratch))
     (SpectrumDone N (block recording start) allowance cosine sine scratch cosine′ sine′ scratch′ (spent answer))
 
--- ---- the mark of a block: the call is Spectrum's. "returns the mark with Spectrum's full answer"
-pub record MarkDone (flatLimit clipLevel : ℤ) (N : ℕ) (x : Samples) (allowance : ℕ)
-    (cosine sine scratch cosine′ sine′ scratch′ : List ℤ) (answer : MarkAnswer) : Type 0 where
-  pub spectrum : SpectrumDone N x allowance cosine sine scratch cosine′ sine′ scratch′ (marked.spent answer)
-  pub marked : answer ≡ Marked (mark flatLimit clipLevel N x (spectrumOf (level N) x .cosine) (spectrumOf (level N) x .sine))
-      (marked.spent answer)
-
-abbrev pub MarkPromise : List ℤ → (start N allowance : ℕ) → (flatLimit clipLevel : ℤ)
-    → (cosine sine scratch cosine′ sine′ scratch′ : List ℤ) → MarkAnswer → Type 0
-MarkPromise recording start N allowance flatLimit clipLevel cosine sine scratch cosine′ sine′ scratch′ answer =
-    Promise (marked.verdictOf answer)
-    (markVerdict (spectrumCall recording start N allowance cosine sine scratch) flatLimit clipLevel)
-    ((cosine′ ≡ cosine) × (sine′ ≡ sine) × (scratch′ ≡ scratch))
-    (MarkDone flatLimit clipLevel N (block recording start) allowance cosine sine scratch cosine′ sine′ scratch′ answer)
-
 -- ---- Cosine
 abbrev pub cosineCall : List ℤ → (start N allowance : ℕ) → (coefficients scratch : List ℤ) → Call
 cosineCall recording start N allowance coefficients scratch =
@@ -143,3 +128,19 @@ PairPromise a b start N allowance real imaginary scratch real′ imaginary′ sc
 pub record CountsPromise (N : ℕ) (answer : CountsAnswer) : Type 0 where
   pub verdict : verdictOfCounts answer ≡ cond (not (isLength N)) (refused 1) accepted
   pub counted : verdictOfCounts answer ≡ accepted → SixCounts (level N) (countsOf answer) × SixPublished N (countsOf answer)
+
+-- ---- the mark of a block. "A new call takes these two signed 32-bit figures beside all that Spectrum takes, and returns the mark with
+-- Spectrum's full answer."
+pub record MarkDone (flatLimit clipLevel : ℤ) (N : ℕ) (x : Samples) (allowance : ℕ)
+    (cosine sine scratch cosine′ sine′ scratch′ : List ℤ) (answer : MarkAnswer) : Type 0 where
+  pub spectrum : SpectrumDone N x allowance cosine sine scratch cosine′ sine′ scratch′ (marked.spent answer)
+  pub marked : answer ≡ Marked (mark flatLimit clipLevel N x (spectrumOf (level N) x .cosine) (spectrumOf (level N) x .sine))
+      (marked.spent answer)
+
+abbrev pub MarkPromise : List ℤ → (start N allowance : ℕ) → (flatLimit clipLevel : ℤ)
+    → (cosine sine scratch cosine′ sine′ scratch′ : List ℤ) → MarkAnswer → Type 0
+MarkPromise recording start N allowance flatLimit clipLevel cosine sine scratch cosine′ sine′ scratch′ answer =
+    Promise (marked.verdictOf answer)
+    (markVerdict (spectrumCall recording start N allowance cosine sine scratch) flatLimit clipLevel)
+    ((cosine′ ≡ cosine) × (sine′ ≡ sine) × (scratch′ ≡ scratch))
+    (MarkDone flatLimit clipLevel N (block recording start) allowance cosine sine scratch cosine′ sine′ scratch′ answer)
