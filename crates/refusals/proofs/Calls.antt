@@ -1,5 +1,5 @@
--- The tests of a call: what they say of a call that passes them; that those of several recordings are those of the first, and the rest; and
--- that a refusal accepts nothing.
+-- The tests of a call: what is known of a call that passes them, and back; those on several recordings, from those on the first; and the
+-- promise of a call that they turn down.
 -- Assumes nothing.
 use mathlib.Core.Path.{_≡_, refl, subst, _∙_}
 use mathlib.Core.Bool.{Bool, true, false, not, cond}

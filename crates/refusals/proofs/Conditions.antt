@@ -64,7 +64,7 @@ module _ (number limit : ℕ) (x : Samples) (s N : ℕ) (rest : Verdict) where
   first-beyond e l = rw (lt-ltb (firstBeyond limit x s N) (s + N) (omega (arith, e, l))) (ap (refusedAt number) (sym e))
 
   -- a verdict that accepts has passed the test
-  pub past-beyond : firstBeyondOr number limit x s N rest ≡ accepted → 0 < number → (firstBeyond limit x s N ≡ s + N) × (rest ≡ accepted)
+  past-beyond : firstBeyondOr number limit x s N rest ≡ accepted → 0 < number → (firstBeyond limit x s N ≡ s + N) × (rest ≡ accepted)
   past-beyond e l = ⊎-elim within out (le-or-lt (s + N) (firstBeyond limit x s N))
     where
       within : s + N ≤ firstBeyond limit x s N → (firstBeyond limit x s N ≡ s + N) × (rest ≡ accepted)

@@ -14,7 +14,6 @@ use Rattle.whole.proofs.Cases.{le-or-lt}
 use Rattle.words.specs.Words.{Samples, word}
 use Rattle.refusals.specs.Refusals.{block, atMost, firstBeyond}
 use Rattle.refusals.proofs.Ranges.{first-shift}
-use Rattle.spectra.specs.declared.marks.Mark.the-variants.{Flat, Clipped, Plain}
 use Rattle.spectra.specs.Marks.{size, all, some, flat, clipped, mark}
 
 -- ---- all are within the limit m where the search comes to the end, and some are not where it stops before: a turn of the search, which
@@ -85,7 +84,7 @@ module _ (flatLimit clipLevel : ℤ) (N : ℕ) (x : Samples) {cosine sine cosine
   pub mark-same : ((k : ℕ) → k < N / 2 + 1 → cosine k ≡ cosine′ k) → ((k : ℕ) → k < N / 2 + 1 → sine k ≡ sine′ k)
       → mark flatLimit clipLevel N x cosine sine ≡ mark flatLimit clipLevel N x cosine′ sine′
   unfolding mark
-  mark-same c s = ap (λ b. cond b Flat (cond (clipped clipLevel N x) Clipped Plain)) (ap₂ _&&_ (same c) (same s))
+  mark-same c s = rw (same c, same s)
     where
       same : {y z : Samples} → ((k : ℕ) → k < N / 2 + 1 → y k ≡ z k)
           → all (λ k. leZ (size (y k)) flatLimit) 1 (N / 2) ≡ all (λ k. leZ (size (z k)) flatLimit) 1 (N / 2)

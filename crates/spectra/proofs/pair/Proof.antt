@@ -1,7 +1,6 @@
 -- `spectra::pair` meets its contract. Assumes nothing.
 use mathlib.Core.Path.{refl}
 use native.Mathlib.Omega.{arith}
-use lib.ListN.{length}
 use borrow.Author.Needs.{needs}
 use Rattle.ffct.proofs.ElevenLengths.{length-le}
 use Rattle.refusals.specs.Refusals.{accepted}
