@@ -10,9 +10,11 @@ use lib.Dec.{ltb}
 use borrow.Author.Tests.{lt-ltb, le-ltb, ltb-false}
 use Rattle.whole.proofs.Cases.{le-or-lt}
 use Rattle.words.specs.Words.{Samples}
-use Rattle.refusals.specs.Refusals.{someBelow, firstBeyond, firstOut, firstBeyondOr, firstOutIn, Verdict, refusedAt, accepted}
+use Rattle.ffct.specs.Block.{largestSample}
+use Rattle.refusals.specs.Refusals.{someBelow, firstBeyond, firstBeyondOr, firstOutIn, Verdict, refusedAt, accepted}
 use Rattle.refusals.specs.Refusals.{number as numberOf}
-use Rattle.refusals.proofs.Ranges.{first-end}
+use Rattle.refusals.specs.Passes.{AllWithin, FirstAt}
+use Rattle.refusals.proofs.Ranges.{first-end, first-place, all-within}
 
 -- ---- lengths: all reach n, or some are below it
 abbrev pub AllReach : ℕ → List ℕ → Type 0
@@ -56,41 +58,31 @@ two-below a b {m} e n = ⊎-elim
 
 -- ---- numbers with a limit: all are within it, or the first that is not stands at a place
 module _ (number limit : ℕ) (x : Samples) (s N : ℕ) (rest : Verdict) where
-  pub none-beyond : firstBeyond limit x s N ≡ s + N → firstBeyondOr number limit x s N rest ≡ rest
-  none-beyond e = rw (le-ltb (firstBeyond limit x s N) (s + N) (omega (arith, e)))
+  pub none-beyond : AllWithin limit x s (s + N) → firstBeyondOr number limit x s N rest ≡ rest
+  none-beyond h = rw (le-ltb (firstBeyond limit x s N) (s + N) (omega (arith, first-end limit x s N h)))
 
-  pub first-beyond : {place : ℕ} → place ≡ firstBeyond limit x s N → place < s + N
-      → firstBeyondOr number limit x s N rest ≡ refusedAt number place
-  first-beyond e l = rw (lt-ltb (firstBeyond limit x s N) (s + N) (omega (arith, e, l))) (ap (refusedAt number) (sym e))
+  pub first-beyond : {place : ℕ} → FirstAt limit x s N place → firstBeyondOr number limit x s N rest ≡ refusedAt number place
+  first-beyond f = rw (first-place limit x s N f, lt-ltb _ (s + N) (f .to))
 
   -- a verdict that accepts has passed the test
-  past-beyond : firstBeyondOr number limit x s N rest ≡ accepted → 0 < number → (firstBeyond limit x s N ≡ s + N) × (rest ≡ accepted)
+  past-beyond : firstBeyondOr number limit x s N rest ≡ accepted → 0 < number → AllWithin limit x s (s + N) × (rest ≡ accepted)
   past-beyond e l = ⊎-elim within out (le-or-lt (s + N) (firstBeyond limit x s N))
     where
-      within : s + N ≤ firstBeyond limit x s N → (firstBeyond limit x s N ≡ s + N) × (rest ≡ accepted)
-      within h = let end = first-end limit x s N refl h in (end, sym (none-beyond end) ∙ e)
+      within : s + N ≤ firstBeyond limit x s N → AllWithin limit x s (s + N) × (rest ≡ accepted)
+      within h = let all = all-within limit x s N h in (all, sym (none-beyond all) ∙ e)
 
-      out : firstBeyond limit x s N < s + N → (firstBeyond limit x s N ≡ s + N) × (rest ≡ accepted)
-      out h = absurd (omega (arith, l, ap numberOf (sym (first-beyond refl h) ∙ e)))
+      out : firstBeyond limit x s N < s + N → AllWithin limit x s (s + N) × (rest ≡ accepted)
+      out h = absurd (omega (arith, l, ap numberOf (rw (lt-ltb _ (s + N) h) at e)))
 
--- ---- samples: all are in range, or the first that is not stands at a place
+-- ---- samples: all are in range, in each of some recordings
 abbrev pub AllIn : List Samples → ℕ → ℕ → Type 0
 AllIn [] s N = Unit {0}
-AllIn (x ∷ xs) s N = (firstOut x s N ≡ s + N) × AllIn xs s N
-
-abbrev pub OutAt : List Samples → ℕ → ℕ → ℕ → Type 0
-OutAt [] s N place = ⊥
-OutAt (x ∷ xs) s N place = ((place ≡ firstOut x s N) × (place < s + N)) ⊎ ((firstOut x s N ≡ s + N) × OutAt xs s N place)
+AllIn (x ∷ xs) s N = AllWithin largestSample x s (s + N) × AllIn xs s N
 
 module _ (s N : ℕ) (rest : Verdict) where
   pub in-verdict : (xs : List Samples) → AllIn xs s N → firstOutIn xs s N rest ≡ rest
   in-verdict [] h = refl
   in-verdict (x ∷ xs) (e, h) = none-beyond 6 _ x s N _ e ∙ in-verdict xs h
-
-  pub out-verdict : (xs : List Samples) (place : ℕ) → OutAt xs s N place → firstOutIn xs s N rest ≡ refusedAt 6 place
-  out-verdict [] place h = absurd h
-  out-verdict (x ∷ xs) place (inl (e, l)) = first-beyond 6 _ x s N _ e l
-  out-verdict (x ∷ xs) place (inr (e, h)) = none-beyond 6 _ x s N _ e ∙ out-verdict xs place h
 
   -- a verdict that accepts has passed the tests
   pub past-in : (xs : List Samples) → firstOutIn xs s N rest ≡ accepted → AllIn xs s N × (rest ≡ accepted)

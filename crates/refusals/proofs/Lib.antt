@@ -1,4 +1,5 @@
 pub mod Ranges
+pub mod Passes
 pub mod Conditions
 pub mod Promises
 pub mod Calls

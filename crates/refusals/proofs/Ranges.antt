@@ -1,95 +1,56 @@
--- `firstBeyond`, the search for the first number beyond a limit, as a sample out of range: its turns, and where it ends.
+-- `firstBeyond`, the first number beyond a limit, as a sample out of range: what it is where all are within the limit, and where one is
+-- the first that is not.
 -- Assumes nothing.
-use mathlib.Core.Path.{_≡_, refl, sym, ap, _∙_}
+use mathlib.Core.Path.{_≡_, refl, ap, _∙_}
 use mathlib.Core.Logic.{_⊎_, inl, inr, ⊎-elim}
 use mathlib.Core.Bool.{Bool, true, false}
-use Prim.Native.Nat.{ℕ, zero, suc, _+_, _-_, _≤_, _<_}
-use native.Mathlib.Nat.{add-suc, add-zero}
-use native.Mathlib.Numerals.{add-one}
+use Prim.Native.Nat.{ℕ, zero, suc, _+_, _≤_, _<_}
 use native.Mathlib.Omega.{arith}
 use lib.IntN.{natAbs}
-use borrow.Author.Tests.{leb-true, le-leb}
+use borrow.Author.Tests.{leb-true, le-leb, lt-leb}
 use Rattle.whole.proofs.Cases.{le-or-lt}
 use Rattle.words.specs.Words.{Samples}
-use Rattle.refusals.specs.Refusals.{atMost, firstBeyond}
-
-outcome : (b : Bool) → (b ≡ true) ⊎ (b ≡ false)
-outcome true = inl refl
-outcome false = inr refl
+use Rattle.refusals.specs.Refusals.{firstBeyond}
+use Rattle.refusals.specs.Passes.{AllWithin, FirstAt}
 
 module _ (m : ℕ) (x : Samples) where
   -- ---- a turn goes on, or ends the search
-  first-on : (i d : ℕ) → atMost m (x i) ≡ true → firstBeyond m x i (suc d) ≡ firstBeyond m x (suc i) d
+  first-on : (i d : ℕ) → natAbs (x i) ≤ m → firstBeyond m x i (suc d) ≡ firstBeyond m x (suc i) d
   unfolding firstBeyond
-  first-on i d t = rw t
+  first-on i d h = rw (le-leb _ _ h)
 
-  first-here : (i d : ℕ) → atMost m (x i) ≡ false → firstBeyond m x i (suc d) ≡ i
+  first-here : (i d : ℕ) → m < natAbs (x i) → firstBeyond m x i (suc d) ≡ i
   unfolding firstBeyond
-  first-here i d f = rw f
+  first-here i d h = rw (lt-leb _ _ h)
 
   first-none : (i : ℕ) → firstBeyond m x i 0 ≡ i
   unfolding firstBeyond
   first-none i = refl
 
-  -- ---- the place found is at most i + d
-  pub first-to : (i d : ℕ) → firstBeyond m x i d ≤ i + d
-  first-to i zero = omega (arith, first-none i)
-  first-to i (suc d) = ⊎-elim
-      (λ t. omega (arith, first-on i d t, first-to (suc i) d))
-      (λ f. omega (arith, first-here i d f))
-      (outcome (atMost m (x i)))
+  -- ---- where all are within the limit it is the end
+  pub first-end : (i d : ℕ) → AllWithin m x i (i + d) → firstBeyond m x i d ≡ i + d
+  first-end i zero h = first-none i ∙ omega arith
+  first-end i (suc d) h =
+      first-on i d (h i (omega arith) (omega arith)) ∙ first-end (suc i) d (λ j l k. h j (omega arith) (omega arith)) ∙ omega arith
 
-  pub first-end : (i d : ℕ) {out : ℕ} → out ≡ firstBeyond m x i d → i + d ≤ out → firstBeyond m x i d ≡ i + d
-  first-end i d e h = omega (arith, e, h, first-to i d)
+  -- ---- else the place of the first
+  pub first-place : (i d : ℕ) {place : ℕ} → FirstAt m x i d place → firstBeyond m x i d ≡ place
+  first-place i zero f = absurd (omega arith)
+  first-place i (suc d) {place} f = ⊎-elim
+      (λ h. first-on i d (f .before i (omega arith) h) ∙ first-place (suc i) d (later f h))
+      (λ h. let same : place ≡ i = omega (arith, h, f .from) in rw same (first-here i d (rw same at (f .beyond))))
+      (le-or-lt (suc i) place)
+    where
+      later : {i d place : ℕ} → FirstAt m x i (suc d) place → suc i ≤ place → FirstAt m x (suc i) d place
+      later f h = record { from = h; to = omega (arith, f .to); before = λ j l k. f .before j (omega arith) k; beyond = f .beyond }
 
-  -- ---- where it is i + d, every sample was in range
-  passes : (i d : ℕ) → firstBeyond m x i (suc d) ≡ i + suc d → atMost m (x i) ≡ true
-  passes i d e = ⊎-elim (λ t. t) (λ f. absurd (omega (arith, first-here i d f))) (outcome (atMost m (x i)))
-
-  pub passed : (i d : ℕ) → firstBeyond m x i d ≡ i + d → (j : ℕ) → i ≤ j → j < i + d → natAbs (x j) ≤ m
-  passed i zero e j h l = absurd (omega arith)
-  passed i (suc d) e j h l =
-      let t = passes i d e in
-      ⊎-elim
-      (λ k. passed (suc i) d (omega (arith, first-on i d t)) j k (omega arith))
-      (λ k. leb-true _ _ (ap (λ n. atMost m (x n)) {x = j} {y = i} (omega arith) ∙ t))
-      (le-or-lt (suc i) j)
-
-  pub all-in : (i d : ℕ) → firstBeyond m x i d ≡ i + d → (n : ℕ) → n < d → natAbs (x (i + n)) ≤ m
-  all-in i d e n l = passed i d e (i + n) (omega arith) (omega arith)
-
-  -- ---- and the converse
-  pub none-out : (i d : ℕ) → ((j : ℕ) → i ≤ j → j < i + d → natAbs (x j) ≤ m) → firstBeyond m x i d ≡ i + d
-  none-out i zero h = first-none i ∙ omega arith
-  none-out i (suc d) h =
-      first-on i d (le-leb _ _ (h i (omega arith) (omega arith)))
-      ∙ none-out (suc i) d (λ j l k. h j (omega arith) (omega arith))
-      ∙ omega arith
-
-  -- ---- from the start s of a block
-  shift : (s i d : ℕ) → s + firstBeyond m (λ n. x (s + n)) i d ≡ firstBeyond m x (s + i) d
-  unfolding firstBeyond
-  shift s i zero = refl
-  shift s i (suc d) = ⊎-elim (λ t. rw t (rw add-suc at (shift s (suc i) d))) (λ f. rw f) (outcome (atMost m (x (s + i))))
-
-  pub first-shift : (s d : ℕ) {i : ℕ} → i ≡ firstBeyond m (λ n. x (s + n)) 0 d → s + i ≡ firstBeyond m x s d
-  first-shift s d e = rw e (rw add-zero at (shift s 0 d))
-
--- ---- a loop that searches the first n numbers, when it comes to i
-pub record Searched (m : ℕ) (x : Samples) (n i : ℕ) : Type 0 where
-  pub to : i ≤ n
-  pub rest : (d : ℕ) → i + d ≡ n → firstBeyond m x i d ≡ firstBeyond m x 0 n
-
-pub searched-none : {m : ℕ} {x : Samples} {n : ℕ} → Searched m x n 0
-searched-none {m} {x} = record { to = omega arith; rest = λ d e. ap (firstBeyond m x 0) (omega arith) }
-
-module _ {m : ℕ} {x : Samples} {n i : ℕ} (s : Searched m x n i) where
-  pub searched-on : i < n → atMost m (x i) ≡ true → Searched m x n (i + 1)
-  searched-on h t =
-      record { to = omega arith; rest = λ d e. rw add-one (sym (first-on m x i d t) ∙ s .rest (suc d) (omega arith)) }
-
-  pub searched-out : i < n → atMost m (x i) ≡ false → i ≡ firstBeyond m x 0 n
-  searched-out h f = sym (first-here m x i (n - (i + 1)) f) ∙ s .rest (suc (n - (i + 1))) (omega arith)
-
-  pub searched-all : n ≤ i → i ≡ firstBeyond m x 0 n
-  searched-all h = sym (first-none m x i) ∙ s .rest 0 (omega arith)
+  -- ---- and the converse: where it comes to the end, all are within the limit
+  pub all-within : (i d : ℕ) → i + d ≤ firstBeyond m x i d → AllWithin m x i (i + d)
+  all-within i zero h j l k = absurd (omega arith)
+  all-within i (suc d) h j l k = ⊎-elim
+      (λ (w : natAbs (x i) ≤ m). ⊎-elim
+      (λ e. all-within (suc i) d (omega (arith, h, first-on i d w)) j e (omega arith))
+      (λ e. let same : i ≡ j = omega arith in rw same at w)
+      (le-or-lt (suc i) j))
+      (λ b. absurd (omega (arith, h, first-here i d b)))
+      (le-or-lt (natAbs (x i)) m)

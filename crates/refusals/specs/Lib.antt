@@ -1,3 +1,4 @@
 pub mod Refusals
+pub mod Passes
 pub mod Calls
 pub mod Tests

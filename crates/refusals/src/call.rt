@@ -2,6 +2,7 @@
 use crate::length::is_length;
 use crate::length::reaches_beyond;
 use crate::length::scratch_words;
+use crate::range::Pass;
 use crate::range::first_out;
 ghost use mathlib.Core.Path.{_≡_};
 ghost use Prim.Native.Nat.{_≤_};
@@ -57,9 +58,8 @@ pub fn test(
     if allowance < products {
         return Tested::Refused(Refusal::AllowanceTooSmall);
     }
-    let out = first_out(recording, start, length);
-    if out < start + length {
-        return Tested::Refused(Refusal::OutOfRange(out));
+    if let Pass::At { place, looks: _ } = first_out(recording, start, length) {
+        return Tested::Refused(Refusal::OutOfRange(place));
     }
     Tested::Passed
 }

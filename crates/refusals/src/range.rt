@@ -3,7 +3,15 @@ ghost use mathlib.Core.Path.{_≡_};
 ghost use Prim.Native.Nat.{_+_, _^_, _≤_, _<_};
 ghost use lib.ListN.{length};
 ghost use Rattle.words.specs.Words.{word};
-ghost use Rattle.refusals.specs.Refusals.{atMost, inRange, firstBeyond, firstOut};
+ghost use Rattle.ffct.specs.Block.{largestSample};
+ghost use Rattle.refusals.specs.Refusals.{atMost, inRange};
+ghost use Rattle.refusals.specs.Passes.{OnePass};
+
+// What a pass over numbers finds: none beyond the limit, or the place of the first; and its looks, a look at each number up to there.
+pub enum Pass {
+    None { looks: usize },
+    At { place: usize, looks: usize },
+}
 
 // Whether x is at most limit in size.
 fn at_most(limit: u32, x: i32) -> bool
@@ -23,25 +31,30 @@ pub fn in_range(x: i32) -> bool
     at_most(1000000, x)
 }
 
-// The place of the first of the n words from start on that is beyond limit on either side, or start + n.
-pub fn first_beyond(limit: u32, words: &[i32], start: usize, n: usize) -> usize
+// One pass over the n words from start on, up to the first that is beyond limit on either side. Each word is looked at once, low and high
+// together, and each look is tallied as it is made.
+pub fn first_beyond(limit: u32, words: &[i32], start: usize, n: usize) -> Pass
     requires { ⌜ (limit < 2 ^ 31) × (start + n ≤ length (now words)) ⌝ }
-    ensures { λ r. ⌜ r ≡ firstBeyond limit (word (now (words .entry))) start n ⌝ }
+    ensures { λ r. ⌜ OnePass limit (word (now (words .entry))) start n r ⌝ }
 {
-    let mut i = 0;
-    while i < n {
-        if !at_most(limit, words[start + i]) {
-            return start + i;
+    let end = start + n;
+    let mut looks = 0;
+    let mut i = start;
+    while i < end {
+        let x = words[i];
+        looks += 1;
+        if !at_most(limit, x) {
+            return Pass::At { place: i, looks };
         }
         i += 1;
     }
-    start + i
+    Pass::None { looks }
 }
 
-// The place of the first of the n samples from start on that is out of range, or start + n.
-pub fn first_out(recording: &[i32], start: usize, n: usize) -> usize
+// The pass over the n samples of a recording from start on, up to the first that is out of range.
+pub fn first_out(recording: &[i32], start: usize, n: usize) -> Pass
     requires { ⌜ start + n ≤ length (now recording) ⌝ }
-    ensures { λ r. ⌜ r ≡ firstOut (word (now (recording .entry))) start n ⌝ }
+    ensures { λ r. ⌜ OnePass largestSample (word (now (recording .entry))) start n r ⌝ }
 {
     first_beyond(1000000, recording, start, n)
 }

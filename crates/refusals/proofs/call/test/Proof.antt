@@ -6,11 +6,14 @@ use native.Mathlib.Omega.{arith}
 use borrow.Author.Needs.{needs}
 use borrow.Author.Tests.{ltb-false, lt-ltb, le-ltb, not-false}
 use Rattle.words.specs.Words.{Samples}
-use Rattle.ffct.specs.Block.{isLength}
+use Rattle.ffct.specs.Block.{isLength, largestSample}
 use Rattle.ffct.proofs.ElevenLengths.{length-le}
-use Rattle.refusals.specs.Refusals.{scratchWords, Verdict, refused, refusedAt, firstOut, firstOutOr}
+use Rattle.refusals.specs.declared.range.Pass.{Pass}
+use Rattle.refusals.specs.declared.range.Pass.the-variants.{None, At}
+use Rattle.refusals.specs.Refusals.{scratchWords, Verdict, refused, refusedAt, firstOutOr}
+use Rattle.refusals.specs.Passes.{OnePass}
 use Rattle.refusals.specs.Calls.{Call, tests, oneRecording}
-use Rattle.refusals.proofs.Ranges.{first-end}
+use Rattle.refusals.proofs.Passes.{all-in, first-at}
 use Rattle.refusals.proofs.Conditions.{none-beyond, first-beyond}
 use Rattle.refusals.proofs.call.test.Statement.{statement}
 use Rattle.refusals.proofs.call.test.Tie as tie
@@ -34,16 +37,16 @@ module _ (x : Samples) (m s N a r y w p : ℕ) (rest : Verdict) (ok : isLength N
       unfolding tests
       refused-5 h = rw (ok, le-ltb _ _ inside, le-ltb _ _ results, ← is, le-ltb _ _ words, lt-ltb _ _ h)
 
-      module _ (allowed : p ≤ a) {out : ℕ} (e : out ≡ firstOut x s N) where
+      module _ (allowed : p ≤ a) {pass : Pass} (found : OnePass largestSample x s N pass) where
         past-5 : tests call rest ≡ firstOutOr x s N rest
         unfolding tests
         past-5 = rw (ok, le-ltb _ _ inside, le-ltb _ _ results, ← is, le-ltb _ _ words, le-ltb _ _ allowed)
 
-        refused-6 : out < s + N → tests call rest ≡ refusedAt 6 out
-        refused-6 h = past-5 ∙ first-beyond 6 _ x s N rest e h
+        refused-6 : {place looks : ℕ} → pass ≡ At place looks → tests call rest ≡ refusedAt 6 place
+        refused-6 e = past-5 ∙ first-beyond 6 _ x s N rest (first-at found e)
 
-        past-6 : s + N ≤ out → tests call rest ≡ rest
-        past-6 h = past-5 ∙ none-beyond 6 _ x s N rest (first-end _ _ s N e h)
+        past-6 : {looks : ℕ} → pass ≡ None looks → tests call rest ≡ rest
+        past-6 e = past-5 ∙ none-beyond 6 _ x s N rest (all-in found e)
 
 -- ---- what the code has tested
 passed-1 : (c : tie.Else1) → isLength (c .before .before .args .length) ≡ true
@@ -66,6 +69,7 @@ test-spec =
     (λ c. record { verdict = λ rest. search (needs, refused-4, passed-1, passed-2) })  -- returns-4
     (λ c. record { verdict = λ rest. search (needs, refused-5, passed-1, passed-2) })  -- returns-5
     (λ c κs. omega (arith, passed-2 (c .before .before .before .before)))  -- first-out-requires
-    (λ c. record { fits = omega (arith, passed-2 (c .before .before .before .before .before)) })  -- add-if6
+    (λ c. search needs)  -- enum-known-first-out
     (λ c. record { verdict = λ rest. search (needs, refused-6, passed-1, passed-2) })  -- returns-6
+    (λ c. search needs)  -- enum-told
     (λ c. record { verdict = λ rest. search (needs, past-6, passed-1, passed-2) }))  -- returns-7
