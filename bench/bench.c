@@ -1,4 +1,5 @@
-/* Times Spectrum, Cosine, Pair and the inverse DCT beside a plain C version, kissfft, FFTW and direct sums, on the same input in one run.
+/* Times Spectrum, Cosine, Pair, the inverse DCT and refusal 6 beside a plain C version, an earlier version of the library, kissfft, FFTW and
+   direct sums, on the same input in one run.
 
      bench                          a table for N = 8 .. 1,024, in Markdown
      bench CALL CONTENDER N REPEATS      that many blocks of one contender and nothing else, to count instructions
@@ -28,6 +29,7 @@
 #define ROUND_NS 300000.0
 
 static int32_t a[RECORDING], b[RECORDING];
+static int32_t out_first[RECORDING], out_last[RECORDING]; /* a, with the first or the last sample of the block out of range */
 static int32_t first[LONGEST], second[LONGEST], stored[LONGEST];
 static int64_t scratch[8 * LONGEST + 64];
 static volatile uint64_t sink;
@@ -40,50 +42,102 @@ static void need(int good, const char *what)
     }
 }
 
-/* ---- ours: the whole call, with its checks; the first 8 N + 64 words of scratch are cleared */
+/* ---- the library: the whole call, with its checks; the first 8 N + 64 words of scratch are cleared. An earlier version is linked beside ours
+   where bench/run is given one; it renames the symbols */
 
-static void our_spectrum(size_t n)
+struct library {
+    __typeof__(mealbis_spectrum) *spectrum;
+    __typeof__(mealbis_cosine) *cosine;
+    __typeof__(mealbis_pair) *pair;
+    __typeof__(mealbis_inverse_dct) *inverse_dct;
+};
+
+static const struct library ours = {mealbis_spectrum, mealbis_cosine, mealbis_pair, mealbis_inverse_dct};
+static const struct library *library = &ours; /* the one that is timed */
+
+#ifdef HAVE_BEFORE
+extern __typeof__(mealbis_spectrum) before_mealbis_spectrum;
+extern __typeof__(mealbis_cosine) before_mealbis_cosine;
+extern __typeof__(mealbis_pair) before_mealbis_pair;
+extern __typeof__(mealbis_inverse_dct) before_mealbis_inverse_dct;
+static const struct library before = {before_mealbis_spectrum, before_mealbis_cosine, before_mealbis_pair, before_mealbis_inverse_dct};
+#endif
+
+static uint32_t spectrum_of(const int32_t *recording, size_t n)
 {
     uint64_t products, sums;
     size_t place;
-    need(mealbis_spectrum(a, RECORDING, START, n, 1 << 20, first, LONGEST, second, LONGEST,
-                          scratch, 8 * LONGEST + 64, &products, &sums, &place) == 0, "refused");
-    sink += products;
+    uint32_t answer = library->spectrum(recording, RECORDING, START, n, 1 << 20, first, LONGEST, second, LONGEST,
+                                        scratch, 8 * LONGEST + 64, &products, &sums, &place);
+    sink += products + place;
+    return answer;
 }
 
-static void our_cosine(size_t n)
+static void spectrum(size_t n)
+{
+    need(spectrum_of(a, n) == 0, "refused");
+}
+
+/* refusal 6 makes the tests before it and a look at each sample up to the one out of range, and nothing else */
+static void refused_first(size_t n)
+{
+    need(spectrum_of(out_first, n) == 6, "not refused");
+}
+
+static void refused_last(size_t n)
+{
+    need(spectrum_of(out_last, n) == 6, "not refused");
+}
+
+static void cosine(size_t n)
 {
     uint64_t products, sums;
     size_t place;
-    need(mealbis_cosine(a, RECORDING, START, n, 1 << 20, first, LONGEST,
-                        scratch, 8 * LONGEST + 64, &products, &sums, &place) == 0, "refused");
+    need(library->cosine(a, RECORDING, START, n, 1 << 20, first, LONGEST,
+                         scratch, 8 * LONGEST + 64, &products, &sums, &place) == 0, "refused");
     sink += products;
 }
 
-static void our_pair(size_t n)
+static void pair(size_t n)
 {
     uint64_t products, sums;
     size_t place;
-    need(mealbis_pair(a, RECORDING, b, RECORDING, START, n, 1 << 20, first, LONGEST, second, LONGEST,
-                      scratch, 8 * LONGEST + 64, &products, &sums, &place) == 0, "refused");
+    need(library->pair(a, RECORDING, b, RECORDING, START, n, 1 << 20, first, LONGEST, second, LONGEST,
+                       scratch, 8 * LONGEST + 64, &products, &sums, &place) == 0, "refused");
     sink += products;
 }
 
-static void our_inverse(size_t n)
+static void inverse(size_t n)
 {
     size_t place;
-    need(mealbis_inverse_dct(stored, LONGEST, n, first, LONGEST, &place) == 0, "refused");
+    need(library->inverse_dct(stored, LONGEST, n, first, LONGEST, &place) == 0, "refused");
     sink += (uint64_t)first[0];
 }
 
 /* ---- plain C: the same whole call, bench/plain.c */
 
+static int plain_spectrum_of(const int32_t *recording, size_t n)
+{
+    uint64_t counts[2] = {0, 0}, place = 0;
+    int answer = plain_spectrum(recording, RECORDING, START, n, 1 << 20, first, LONGEST, second, LONGEST,
+                                scratch, 8 * LONGEST + 64, counts, &place);
+    sink += counts[0] + place;
+    return answer;
+}
+
 static void plain_s(size_t n)
 {
-    uint64_t counts[2], place;
-    need(plain_spectrum(a, RECORDING, START, n, 1 << 20, first, LONGEST, second, LONGEST,
-                        scratch, 8 * LONGEST + 64, counts, &place) == 0, "refused");
-    sink += counts[0];
+    need(plain_spectrum_of(a, n) == 0, "refused");
+}
+
+static void plain_first(size_t n)
+{
+    need(plain_spectrum_of(out_first, n) == 6, "not refused");
+}
+
+static void plain_last(size_t n)
+{
+    need(plain_spectrum_of(out_last, n) == 6, "not refused");
 }
 
 static void plain_c(size_t n)
@@ -192,36 +246,53 @@ static void fftw_inverse(size_t n)
 }
 #endif
 
-/* ---- the contenders of each call; the first is ours, the second the plain version */
+/* ---- the contenders of each call; the first is ours, the second the plain version. `library` says which version of the library is called */
 
 struct contender {
     const char *call, *name;
     void (*block)(size_t n);
+    const struct library *library;
 };
 
+#ifdef HAVE_BEFORE
+#define LIBRARY_BEFORE(call, block) {call, "before", block, &before},
+#else
+#define LIBRARY_BEFORE(call, block)
+#endif
+
 static const struct contender contenders[] = {
-    {"Spectrum", "ours", our_spectrum},
-    {"Spectrum", "plain C", plain_s},
+    {"Spectrum", "ours", spectrum, &ours},
+    {"Spectrum", "plain C", plain_s, 0},
+    LIBRARY_BEFORE("Spectrum", spectrum)
 #ifdef HAVE_KISSFFT
-    {"Spectrum", "kissfft", kiss_spectrum},
+    {"Spectrum", "kissfft", kiss_spectrum, 0},
 #endif
 #ifdef HAVE_FFTW
-    {"Spectrum", "FFTW r2c", fftw_spectrum},
+    {"Spectrum", "FFTW r2c", fftw_spectrum, 0},
 #endif
-    {"Spectrum", "direct sum", direct_spectrum},
-    {"Cosine", "ours", our_cosine},
-    {"Cosine", "plain C", plain_c},
+    {"Spectrum", "direct sum", direct_spectrum, 0},
+    {"Cosine", "ours", cosine, &ours},
+    {"Cosine", "plain C", plain_c, 0},
+    LIBRARY_BEFORE("Cosine", cosine)
 #ifdef HAVE_FFTW
-    {"Cosine", "FFTW REDFT10", fftw_cosine},
+    {"Cosine", "FFTW REDFT10", fftw_cosine, 0},
 #endif
-    {"Cosine", "direct sum", direct_cosine},
-    {"Pair", "ours", our_pair},
-    {"Pair", "plain C", plain_p},
-    {"Inverse DCT", "ours", our_inverse},
-    {"Inverse DCT", "plain C", plain_i},
+    {"Cosine", "direct sum", direct_cosine, 0},
+    {"Pair", "ours", pair, &ours},
+    {"Pair", "plain C", plain_p, 0},
+    LIBRARY_BEFORE("Pair", pair)
+    {"Inverse DCT", "ours", inverse, &ours},
+    {"Inverse DCT", "plain C", plain_i, 0},
+    LIBRARY_BEFORE("Inverse DCT", inverse)
 #ifdef HAVE_FFTW
-    {"Inverse DCT", "FFTW REDFT01", fftw_inverse},
+    {"Inverse DCT", "FFTW REDFT01", fftw_inverse, 0},
 #endif
+    {"Refusal 6, the first sample", "ours", refused_first, &ours},
+    {"Refusal 6, the first sample", "plain C", plain_first, 0},
+    LIBRARY_BEFORE("Refusal 6, the first sample", refused_first)
+    {"Refusal 6, the last sample", "ours", refused_last, &ours},
+    {"Refusal 6, the last sample", "plain C", plain_last, 0},
+    LIBRARY_BEFORE("Refusal 6, the last sample", refused_last)
 };
 
 #define CONTENDERS (sizeof contenders / sizeof contenders[0])
@@ -235,6 +306,8 @@ static void make_input(void)
         state = state * 1664525 + 1013904223;
         b[i] = -((int32_t)(state >> 8) % 1000001);
     }
+    memcpy(out_first, a, sizeof a);
+    out_first[START] = 1000001;
     make_wave();
 #ifdef HAVE_KISSFFT
     for (size_t i = 0; i < LONGEST; i++)
@@ -250,10 +323,13 @@ static void make_input(void)
 #endif
 }
 
-/* what the inverse DCT takes: the coefficients that Cosine gives of the block */
+/* what refusal 6 and the inverse DCT take: a block whose last sample is out of range; the coefficients that Cosine gives of a block */
 static void store(size_t n)
 {
-    our_cosine(n);
+    memcpy(out_last, a, sizeof a);
+    out_last[START + n - 1] = 1000001;
+    library = &ours;
+    cosine(n);
     memcpy(stored, first, sizeof stored);
 #ifdef HAVE_FFTW
     for (size_t i = 0; i < n; i++)
@@ -270,7 +346,9 @@ static double now(void)
 
 static double timed(const struct contender *c, size_t n, long repeats)
 {
-    double begin = now();
+    double begin;
+    library = c->library;
+    begin = now();
     for (long i = 0; i < repeats; i++)
         c->block(n);
     return (now() - begin) / repeats;

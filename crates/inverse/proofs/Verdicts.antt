@@ -10,10 +10,13 @@ use lib.ListN.{length}
 use borrow.Author.Tests.{lt-ltb, le-ltb, not-false}
 use Rattle.words.specs.Words.{word, Written}
 use Rattle.ffct.specs.Block.{isLength}
-use Rattle.refusals.specs.Refusals.{accepted, firstBeyond, firstBeyondOr}
+use Rattle.refusals.specs.declared.range.Pass.{Pass}
+use Rattle.refusals.specs.declared.range.Pass.the-variants.{None, At}
+use Rattle.refusals.specs.Refusals.{accepted, firstBeyondOr}
+use Rattle.refusals.specs.Passes.{OnePass}
+use Rattle.refusals.proofs.Passes.{all-in, first-at}
 use Rattle.refusals.proofs.Conditions.{first-beyond, none-beyond}
 use Rattle.refusals.proofs.Promises.{turned-down, carried-out}
-use Rattle.refusals.proofs.Ranges.{first-end, passed, none-out}
 use Rattle.inverse.specs.declared.InverseAnswer.the-variants.{BadLength, TooFewStored, ResultTooShort, BeyondLimit, Done}
 use Rattle.inverse.specs.Inverse.{inverseDct, largestCoefficient, inverseVerdict}
 use Rattle.inverse.specs.Promises.{InversePromise}
@@ -41,26 +44,27 @@ module _ (cs vs : List ℤ) (N : ℕ) (ok : Bool) (is : ok ≡ isLength N) where
       unfolding inverseVerdict
       too-short h = turned-down refl (omega arith) (rw (← is, good, le-ltb _ _ enough, lt-ltb _ _ h))
 
-      module _ (room : N ≤ length vs) (k limit : ℕ) (o : k ≡ firstBeyond limit (word cs) 0 N) (l : limit ≡ largestCoefficient N) where
-        past : inverseVerdict cs N vs ≡ firstBeyondOr 10 limit (word cs) 0 N accepted
-        unfolding inverseVerdict
-        past = rw (l, ← is, good, le-ltb _ _ enough, le-ltb _ _ room)
+      module _ (room : N ≤ length vs) (limit : ℕ) (pass : Pass) (found : OnePass limit (word cs) 0 N pass) (l : limit ≡ largestCoefficient N)
+        where
+          past : inverseVerdict cs N vs ≡ firstBeyondOr 10 limit (word cs) 0 N accepted
+          unfolding inverseVerdict
+          past = rw (l, ← is, good, le-ltb _ _ enough, le-ltb _ _ room)
 
-        pub beyond-limit : k < N → InversePromise cs N vs vs (BeyondLimit k)
-        beyond-limit h = turned-down refl (omega arith) (past ∙ first-beyond 10 _ (word cs) 0 N accepted o (omega arith))
+          pub beyond-limit : {place looks : ℕ} → pass ≡ At place looks → InversePromise cs N vs vs (BeyondLimit place)
+          beyond-limit e = turned-down refl (omega arith) (past ∙ first-beyond 10 _ (word cs) 0 N accepted (first-at found e))
 
-        pub all-within : N ≤ k → Accepted cs vs N
-        all-within h =
-            let within = first-end _ (word cs) 0 N o (omega arith) in
-            let length-ok = sym is ∙ not-false ok good in
-            let range : (n : ℕ) → n < N → natAbs (word cs n) ≤ largestCoefficient N
-            = λ n h. omega (arith, passed _ (word cs) 0 N within n (omega arith) (omega arith), l) in
-            record {
-              stored = record { length-ok = length-ok; enough = enough; range = range };
-              room = room;
-              writes = λ w. carried-out refl (past ∙ none-beyond 10 _ (word cs) 0 N accepted within)
-                  (record { words = w; length-ok = length-ok; range = range });
-            }
+          pub all-within : {looks : ℕ} → pass ≡ None looks → Accepted cs vs N
+          all-within e =
+              let within = all-in found e in
+              let length-ok = sym is ∙ not-false ok good in
+              let range : (n : ℕ) → n < N → natAbs (word cs n) ≤ largestCoefficient N
+              = λ n h. omega (arith, within n (omega arith) (omega arith), l) in
+              record {
+                stored = record { length-ok = length-ok; enough = enough; range = range };
+                room = room;
+                writes = λ w. carried-out refl (past ∙ none-beyond 10 _ (word cs) 0 N accepted within)
+                    (record { words = w; length-ok = length-ok; range = range });
+              }
 
 -- ---- the whole verdict where nothing is amiss
 pub accepts : (cs vs : List ℤ) (N : ℕ) → isLength N ≡ true → N ≤ length cs → N ≤ length vs
@@ -68,4 +72,4 @@ pub accepts : (cs vs : List ℤ) (N : ℕ) → isLength N ≡ true → N ≤ len
 unfolding inverseVerdict
 accepts cs vs N ok enough room range =
     rw (ok, le-ltb _ _ enough, le-ltb _ _ room)
-    (none-beyond 10 _ (word cs) 0 N accepted (none-out _ (word cs) 0 N (λ j _ l. range j (omega arith))))
+    (none-beyond 10 _ (word cs) 0 N accepted (λ j _ l. range j (omega arith)))

@@ -4,6 +4,7 @@ mod sum;
 mod value;
 
 use refusals::length::is_length;
+use refusals::range::Pass;
 use refusals::range::first_beyond;
 use value::put_values;
 ghost use mathlib.Core.Path.{_≡_};
@@ -33,9 +34,8 @@ pub fn inverse_dct(coefficients: &[i32], length: usize, values: &mut [i32]) -> I
         return InverseAnswer::ResultTooShort;
     }
     let limit = (length * 1000000 + length) as u32;
-    let beyond = first_beyond(limit, coefficients, 0, length);
-    if beyond < length {
-        return InverseAnswer::BeyondLimit(beyond);
+    if let Pass::At { place, looks: _ } = first_beyond(limit, coefficients, 0, length) {
+        return InverseAnswer::BeyondLimit(place);
     }
     put_values(coefficients, length, values);
     InverseAnswer::Done

@@ -14,10 +14,13 @@ use lib.ListN.{length}
 use borrow.Author.Tests.{lt-ltb, le-ltb, ltb-false, eq-eqb, ne-eqb, eqb-true, eqb-false, not-false}
 use Rattle.words.specs.Words.{Samples, Written}
 use Rattle.ffct.specs.Block.{isLength, largestSample}
-use Rattle.refusals.specs.Refusals.{someBelow, firstOut, firstOutIn, refused, accepted}
-use Rattle.refusals.proofs.Ranges.{first-end, passed, none-out}
+use Rattle.refusals.specs.declared.range.Pass.{Pass}
+use Rattle.refusals.specs.declared.range.Pass.the-variants.{None, At}
+use Rattle.refusals.specs.Refusals.{someBelow, firstOutOr, firstOutIn, refused, accepted}
+use Rattle.refusals.specs.Passes.{AllWithin, OnePass}
+use Rattle.refusals.proofs.Passes.{all-in, first-at}
 use Rattle.refusals.proofs.Promises.{turned-down, carried-out, past-test}
-use Rattle.refusals.proofs.Conditions.{all-reach, some-below, none-of, in-verdict, out-verdict}
+use Rattle.refusals.proofs.Conditions.{all-reach, some-below, none-of, none-beyond, first-beyond, in-verdict}
 use Rattle.pairfile.specs.declared.reader.FileAnswer.the-variants.{BelowHeader, BadCount, BadFileLength, BadLength}
 use Rattle.pairfile.specs.declared.reader.FileAnswer.the-variants.{RecordingTooShort, OutOfRange, Read}
 use Rattle.pairfile.specs.File.{sampleCount, blockLength, samplesAt, startOfA, startOfB, samplesOfA, samplesOfB}
@@ -88,8 +91,8 @@ module _ (file lent : List ℕ) where
       let q = p .past in
       rw (le-ltb _ _ (q .past .header), q .past .count, eq-eqb _ _ (q .bytes), p .length-ok, p .reach)
       (in-verdict 0 (sampleCount file) accepted (samplesOfA file ∷ samplesOfB file ∷ []) (
-        none-out _ (samplesOfA file) 0 (sampleCount file) (λ n _ h. range-a n (omega arith)),
-        (none-out _ (samplesOfB file) 0 (sampleCount file) (λ n _ h. range-b n (omega arith)), tt),
+        (λ n _ h. range-a n (omega arith)),
+        ((λ n _ h. range-b n (omega arith)), tt),
       ))
 
 -- ---- a file of m samples that was accepted, with blocks of N: what is promised once the samples are written
@@ -138,39 +141,41 @@ module _ (file : List ℕ) (a b : List ℤ) where
           pub b-short : length b < m → ReadPromise file a b a b RecordingTooShort
           b-short h = turned-down (refl, refl) (omega arith) (past-9 ∙ rw (good, some-below m lent (inr (inl h))))
 
-          module _ (for-a : m ≤ length a) (for-b : m ≤ length b) (out : ℕ) (o : out ≡ firstOut (samplesAt file startOfA) 0 m) where
-            past-3 : fileVerdict file lent ≡ firstOutIn recordings 0 m accepted
-            past-3 = past-9 ∙ rw (good, all-reach m lent (for-a, (for-b, tt)))
+          module _ (for-a : m ≤ length a) (for-b : m ≤ length b) (of-a : Pass) (found-a : OnePass largestSample (samplesAt file startOfA) 0 m of-a)
+            where
+              past-3 : fileVerdict file lent ≡ firstOutIn recordings 0 m accepted
+              past-3 = past-9 ∙ rw (good, all-reach m lent (for-a, (for-b, tt)))
 
-            pub a-out : out < m → ReadPromise file a b a b (OutOfRange out)
-            a-out h = turned-down (refl, refl) (omega arith) (past-3 ∙ out-verdict 0 m accepted recordings out (inl (o, omega arith)))
+              pub a-out : {place looks : ℕ} → of-a ≡ At place looks → ReadPromise file a b a b (OutOfRange place)
+              a-out e = turned-down (refl, refl) (omega arith) (past-3 ∙ first-beyond 6 _ (samplesAt file startOfA) 0 m _ (first-at found-a e))
 
-            module _ (beyond : ℕ) (in-a : m ≤ out) (o₂ : beyond ≡ firstOut (samplesAt file (startOfB m)) 0 m) where
-              range-a : firstOut (samplesAt file startOfA) 0 m ≡ 0 + m
-              range-a = first-end _ _ 0 m o (omega arith)
+              module _ (of-b : Pass) (looks-a : ℕ) (none-a : of-a ≡ None looks-a)
+                  (found-b : OnePass largestSample (samplesAt file (startOfB m)) 0 m of-b) where
+                range-a : AllWithin largestSample (samplesAt file startOfA) 0 (0 + m)
+                range-a = all-in found-a none-a
 
-              pub b-out : beyond < m → ReadPromise file a b a b (OutOfRange beyond)
-              b-out h =
-                  turned-down (refl, refl) (omega arith)
-                  (past-3 ∙ out-verdict 0 m accepted recordings beyond (inr (range-a, inl (o₂, omega arith))))
+                past-a : fileVerdict file lent ≡ firstOutOr (samplesAt file (startOfB m)) 0 m accepted
+                past-a = past-3 ∙ none-beyond 6 _ (samplesAt file startOfA) 0 m _ range-a
 
-              pub all-in-range : m ≤ beyond → Readable file a b m N
-              all-in-range in-b =
-                  let range-b = first-end _ (samplesAt file (startOfB m)) 0 m o₂ (omega arith) in
-                  record {
-                    reads = λ v w. carried-out refl (past-3 ∙ in-verdict 0 m accepted recordings (range-a, (range-b, tt)))
-                        (record {
-                          samples-is = count;
-                          length-is = blocks;
-                          wordsOfA = v;
-                          wordsOfB = rw (← count) w;
-                          sound = record {
-                            some = good-count m (sym is-bad ∙ few) .0;
-                            most = good-count m (sym is-bad ∙ few) .1;
-                            length-ok = sym is ∙ not-false ok good;
-                            rangeOfA = λ n h. passed _ (samplesAt file startOfA) 0 m range-a n (omega arith) (omega arith);
-                            rangeOfB = rw (← count)
-                                (λ n h. passed _ (samplesAt file (startOfB m)) 0 m range-b n (omega arith) (omega arith));
-                          };
-                        });
-                  }
+                pub b-out : {place looks : ℕ} → of-b ≡ At place looks → ReadPromise file a b a b (OutOfRange place)
+                b-out e = turned-down (refl, refl) (omega arith) (past-a ∙ first-beyond 6 _ (samplesAt file (startOfB m)) 0 m _ (first-at found-b e))
+
+                pub all-in-range : {looks : ℕ} → of-b ≡ None looks → Readable file a b m N
+                all-in-range e =
+                    let range-b = all-in found-b e in
+                    record {
+                      reads = λ v w. carried-out refl (past-a ∙ none-beyond 6 _ (samplesAt file (startOfB m)) 0 m _ range-b)
+                          (record {
+                            samples-is = count;
+                            length-is = blocks;
+                            wordsOfA = v;
+                            wordsOfB = rw (← count) w;
+                            sound = record {
+                              some = good-count m (sym is-bad ∙ few) .0;
+                              most = good-count m (sym is-bad ∙ few) .1;
+                              length-ok = sym is ∙ not-false ok good;
+                              rangeOfA = λ n h. range-a n (omega arith) (omega arith);
+                              rangeOfB = rw (← count) (λ n h. range-b n (omega arith) (omega arith));
+                            };
+                          });
+                    }

@@ -2,7 +2,6 @@
 -- Assumes nothing.
 use mathlib.Core.Path.{_≡_, refl, sym, _∙_}
 use mathlib.Core.Bool.{Bool, true, false, not, cond}
-use mathlib.Core.Logic.{inl, inr}
 use mathlib.Core.List.{List, [], _∷_}
 use Prim.Native.Nat.{ℕ, _+_, _≤_, _<_}
 use native.Mathlib.Omega.{arith}
@@ -10,14 +9,17 @@ use lib.Dec.{eqb, ltb}
 use lib.IntN.{ℤ}
 use lib.ListN.{length}
 use borrow.Author.Tests.{lt-ltb, le-ltb, ltb-false, eq-eqb, ne-eqb, eqb-true, not-false}
-use Rattle.words.specs.Words.{Samples, word}
+use Rattle.words.specs.Words.{word}
 use Rattle.words.specs.Put.{Put}
-use Rattle.ffct.specs.Block.{isLength}
+use Rattle.ffct.specs.Block.{isLength, largestSample}
 use Rattle.ffct.proofs.ElevenLengths.{length-le}
-use Rattle.refusals.specs.Refusals.{firstOut, firstOutIn, Verdict, refused, accepted}
-use Rattle.refusals.proofs.Ranges.{first-end, passed, none-out}
+use Rattle.refusals.specs.declared.range.Pass.{Pass}
+use Rattle.refusals.specs.declared.range.Pass.the-variants.{None, At}
+use Rattle.refusals.specs.Refusals.{firstOutOr, firstOutIn, Verdict, refused, accepted}
+use Rattle.refusals.specs.Passes.{AllWithin, OnePass}
+use Rattle.refusals.proofs.Passes.{all-in, first-at}
 use Rattle.refusals.proofs.Promises.{turned-down, carried-out, past-test}
-use Rattle.refusals.proofs.Conditions.{in-verdict, out-verdict, past-in}
+use Rattle.refusals.proofs.Conditions.{none-beyond, first-beyond, in-verdict, past-in}
 use Rattle.pairfile.specs.declared.writer.WriteAnswer.the-variants.{BadCount, RecordingsDiffer, BadLength}
 use Rattle.pairfile.specs.declared.writer.WriteAnswer.the-variants.{OutOfRange, BufferTooShort, Written}
 use Rattle.pairfile.specs.File.{badCount, fileBytes}
@@ -33,14 +35,14 @@ pub record Passed (a b : List ℤ) (N room : ℕ) : Type 0 where
   pub fits : fileBytes (length a) ≤ room
 
 -- what the tests before the last leave
-in-range : (a b : List ℤ) (N : ℕ) → badCount (length a) ≡ false → isLength N ≡ true → firstOut (word a) 0 (length a) ≡ 0 + length a
-    → firstOut (word b) 0 (length a) ≡ 0 + length a → Sound (length a) N (word a) (word b)
+in-range : (a b : List ℤ) (N : ℕ) → badCount (length a) ≡ false → isLength N ≡ true → AllWithin largestSample (word a) 0 (0 + length a)
+    → AllWithin largestSample (word b) 0 (0 + length a) → Sound (length a) N (word a) (word b)
 in-range a b N few ok range-a range-b = record {
   some = good-count (length a) few .0;
   most = good-count (length a) few .1;
   length-ok = ok;
-  rangeOfA = λ n h. passed _ (word a) 0 (length a) range-a n (omega arith) (omega arith);
-  rangeOfB = λ n h. passed _ (word b) 0 (length a) range-b n (omega arith) (omega arith);
+  rangeOfA = λ n h. range-a n (omega arith) (omega arith);
+  rangeOfB = λ n h. range-b n (omega arith) (omega arith);
 }
 
 module _ (a b : List ℤ) (N room : ℕ) where
@@ -58,8 +60,8 @@ module _ (a b : List ℤ) (N room : ℕ) where
   pub input-accepted : Passed a b N room → writeVerdict a b N room ≡ accepted
   unfolding writeVerdict
   input-accepted s =
-      let in-a = none-out _ (word a) 0 (length a) (λ n _ h. s .sound .rangeOfA n (omega arith)) in
-      let in-b = none-out _ (word b) 0 (length a) (λ n _ h. s .sound .rangeOfB n (omega arith)) in
+      let in-a : AllWithin largestSample (word a) 0 (0 + length a) = λ n _ h. s .sound .rangeOfA n (omega arith) in
+      let in-b : AllWithin largestSample (word b) 0 (0 + length a) = λ n _ h. s .sound .rangeOfB n (omega arith) in
       rw (count-good (length a) (s .sound .some) (s .sound .most), eq-eqb _ _ (s .same), s .sound .length-ok)
       (in-verdict 0 (length a) _ (word a ∷ word b ∷ []) (in-a, (in-b, tt)) ∙ rw (le-ltb _ _ (s .fits)))
 
@@ -85,35 +87,27 @@ module _ (a b : List ℤ) (N : ℕ) (buffer : List ℕ) (bad : Bool) (is-bad : b
       unfolding writeVerdict
       bad-length h = turned-down refl (omega arith) (rw (← is-bad, few, eq-eqb _ _ same, ← is, h))
 
-      module _ (good : not ok ≡ false) (out : ℕ) (o : out ≡ firstOut (word a) 0 (length a)) where
+      module _ (good : not ok ≡ false) (of-a : Pass) (found-a : OnePass largestSample (word a) 0 (length a) of-a) where
         abbrev last : Verdict
         last = cond (ltb (length buffer) (fileBytes (length a))) (refused 3) accepted
 
-        abbrev recordings : List Samples
-        recordings = word a ∷ word b ∷ []
-
-        past-1 : writeVerdict a b N (length buffer) ≡ firstOutIn recordings 0 (length a) last
+        past-1 : writeVerdict a b N (length buffer) ≡ firstOutIn (word a ∷ word b ∷ []) 0 (length a) last
         unfolding writeVerdict
         past-1 = rw (← is-bad, few, eq-eqb _ _ same, ← is, good)
 
-        pub a-out : out < length a → WritePromise a b N buffer buffer (OutOfRange out)
-        a-out h = turned-down refl (omega arith) (past-1 ∙ out-verdict 0 (length a) last recordings out (inl (o, omega arith)))
+        pub a-out : {place looks : ℕ} → of-a ≡ At place looks → WritePromise a b N buffer buffer (OutOfRange place)
+        a-out e = turned-down refl (omega arith) (past-1 ∙ first-beyond 6 _ (word a) 0 (length a) _ (first-at found-a e))
 
-        module _ (beyond : ℕ) (in-a : length a ≤ out) (o₂ : beyond ≡ firstOut (word b) 0 (length a)) where
-          range-a : firstOut (word a) 0 (length a) ≡ 0 + length a
-          range-a = first-end _ _ 0 (length a) o (omega arith)
+        module _ (of-b : Pass) (looks-a : ℕ) (none-a : of-a ≡ None looks-a) (found-b : OnePass largestSample (word b) 0 (length a) of-b) where
+          past-a : writeVerdict a b N (length buffer) ≡ firstOutOr (word b) 0 (length a) last
+          past-a = past-1 ∙ none-beyond 6 _ (word a) 0 (length a) _ (all-in found-a none-a)
 
-          pub b-out : beyond < length a → WritePromise a b N buffer buffer (OutOfRange beyond)
-          b-out h =
-              turned-down refl (omega arith)
-              (past-1 ∙ out-verdict 0 (length a) last recordings beyond (inr (range-a, inl (o₂, omega arith))))
+          pub b-out : {place looks : ℕ} → of-b ≡ At place looks → WritePromise a b N buffer buffer (OutOfRange place)
+          b-out e = turned-down refl (omega arith) (past-a ∙ first-beyond 6 _ (word b) 0 (length a) _ (first-at found-b e))
 
-          module _ (in-b : length a ≤ beyond) where
-            range-b : firstOut (word b) 0 (length a) ≡ 0 + length a
-            range-b = first-end _ _ 0 (length a) o₂ (omega arith)
-
+          module _ (looks-b : ℕ) (none-b : of-b ≡ None looks-b) where
             past-6 : writeVerdict a b N (length buffer) ≡ last
-            past-6 = past-1 ∙ in-verdict 0 (length a) last recordings (range-a, (range-b, tt))
+            past-6 = past-a ∙ none-beyond 6 _ (word b) 0 (length a) _ (all-in found-b none-b)
 
             pub too-short : length buffer < fileBytes (length a) → WritePromise a b N buffer buffer BufferTooShort
             too-short h = turned-down refl (omega arith) (past-6 ∙ rw (lt-ltb _ _ h))
@@ -121,7 +115,7 @@ module _ (a b : List ℤ) (N : ℕ) (buffer : List ℕ) (bad : Bool) (is-bad : b
             pub all-passed : fileBytes (length a) ≤ length buffer → Writable a b N buffer
             all-passed h =
                 let length-ok = sym is ∙ not-false ok good in
-                let sound = in-range a b N (sym is-bad ∙ few) length-ok range-a range-b in
+                let sound = in-range a b N (sym is-bad ∙ few) length-ok (all-in found-a none-a) (all-in found-b none-b) in
                 record {
                   ready = (sound .most, same, length-le N length-ok, h);
                   writes = λ p. carried-out refl (past-6 ∙ rw (le-ltb _ _ h))

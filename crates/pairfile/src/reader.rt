@@ -3,12 +3,15 @@ use crate::count::bad_count;
 use little_endian::signed_at;
 use little_endian::unsigned_at;
 use refusals::length::is_length;
+use refusals::range::Pass;
 use refusals::range::in_range;
 ghost use mathlib.Core.Path.{_≡_};
 ghost use Prim.Native.Nat.{_+_, _*_, _≤_};
 ghost use lib.ListN.{length};
 ghost use Rattle.words.specs.Words.{Written};
-ghost use Rattle.refusals.specs.Refusals.{firstOut, number};
+ghost use Rattle.ffct.specs.Block.{largestSample};
+ghost use Rattle.refusals.specs.Refusals.{number};
+ghost use Rattle.refusals.specs.Passes.{OnePass};
 ghost use Rattle.pairfile.specs.File.{samplesAt};
 ghost use Rattle.pairfile.specs.ReadAnswers.{verdictOf, sampleCountOf, blockLengthOf, placeOf};
 ghost use Rattle.pairfile.specs.Promises.{ReadPromise};
@@ -30,20 +33,22 @@ pub enum FileAnswer {
     Read(Sizes),
 }
 
-// The place of the first of the m samples from byte `start` on that is out of range, or m.
-fn first_out(file: &[u8], start: usize, m: usize) -> usize
+// The pass over the m samples that stand in bytes, from byte `start` on: up to the first that is out of range, with a look at each.
+fn first_out(file: &[u8], start: usize, m: usize) -> Pass
     requires { ⌜ start + 4 * m ≤ length (now file) ⌝ }
-    ensures { λ r. ⌜ r ≡ firstOut (samplesAt (now (file .entry)) start) 0 m ⌝ }
+    ensures { λ r. ⌜ OnePass largestSample (samplesAt (now (file .entry)) start) 0 m r ⌝ }
 {
+    let mut looks = 0;
     let mut i = 0;
     while i < m {
         let x = signed_at(file, start + 4 * i);
+        looks += 1;
         if !in_range(x) {
-            return i;
+            return Pass::At { place: i, looks };
         }
         i += 1;
     }
-    i
+    Pass::None { looks }
 }
 
 // The m samples from byte `start` on, to the front of a recording.
@@ -84,13 +89,11 @@ pub fn read(file: &[u8], a: &mut [i32], b: &mut [i32]) -> FileAnswer
         return FileAnswer::RecordingTooShort;
     }
     let of_b = 8 + 4 * m;
-    let out = first_out(file, 8, m);
-    if out < m {
-        return FileAnswer::OutOfRange(out);
+    if let Pass::At { place, looks: _ } = first_out(file, 8, m) {
+        return FileAnswer::OutOfRange(place);
     }
-    let beyond = first_out(file, of_b, m);
-    if beyond < m {
-        return FileAnswer::OutOfRange(beyond);
+    if let Pass::At { place, looks: _ } = first_out(file, of_b, m) {
+        return FileAnswer::OutOfRange(place);
     }
     fill(file, 8, m, a);
     fill(file, of_b, m, b);

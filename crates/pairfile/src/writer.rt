@@ -3,6 +3,7 @@ use crate::count::bad_count;
 use little_endian::put_signed;
 use little_endian::put_unsigned;
 use refusals::length::is_length;
+use refusals::range::Pass;
 use refusals::range::first_out;
 ghost use mathlib.Core.List.{flatMap};
 ghost use mathlib.Core.Path.{_≡_};
@@ -65,13 +66,11 @@ pub fn write(a: &[i32], b: &[i32], length: usize, file: &mut [u8]) -> WriteAnswe
     if !is_length(length) {
         return WriteAnswer::BadLength;
     }
-    let out = first_out(a, 0, m);
-    if out < m {
-        return WriteAnswer::OutOfRange(out);
+    if let Pass::At { place, looks: _ } = first_out(a, 0, m) {
+        return WriteAnswer::OutOfRange(place);
     }
-    let beyond = first_out(b, 0, m);
-    if beyond < m {
-        return WriteAnswer::OutOfRange(beyond);
+    if let Pass::At { place, looks: _ } = first_out(b, 0, m) {
+        return WriteAnswer::OutOfRange(place);
     }
     if file.len() < 8 + 8 * m {
         return WriteAnswer::BufferTooShort;

@@ -17,7 +17,6 @@ use Rattle.ffct.specs.Block.{isLength, level}
 use Rattle.ffct.specs.Transforms.{pair as pairOf}
 use Rattle.ffct.proofs.ElevenLengths.{is-power}
 use Rattle.refusals.specs.Refusals.{block, accepted}
-use Rattle.refusals.proofs.Ranges.{none-out}
 use Rattle.refusals.proofs.Calls.{is-accepted}
 use Rattle.spectra.specs.declared.Answer.{Answer}
 use Rattle.spectra.specs.Answers.{spent}
@@ -39,7 +38,7 @@ module _ (i : ℕ) {N allowance : ℕ} {a b real imaginary scratch real′ imagi
     results = (p .realWords, (p .imaginaryWords, tt));
     scratch = p .scratchFits;
     allowance = omega (arith, e (block a (i * N)) (block b (i * N)));
-    range = (none-out _ (word a) (i * N) N (λ j _ l. p .rangeOfA j l), (none-out _ (word b) (i * N) N (λ j _ l. p .rangeOfB j l), tt));
+    range = ((λ j _ l. p .rangeOfA j l), ((λ j _ l. p .rangeOfB j l), tt));
   }) accepted)
 
 -- ---- equal coefficients have equal lines

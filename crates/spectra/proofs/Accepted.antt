@@ -5,12 +5,12 @@ use mathlib.Core.Bool.{true}
 use mathlib.Core.List.{List, _++_}
 use Prim.Native.Nat.{ℕ, _+_, _-_, _/_, _≤_, _<_}
 use native.Mathlib.Omega.{arith}
-use lib.IntN.{ℤ, pos}
+use lib.IntN.{ℤ, pos, natAbs}
 use lib.ListN.{length, take, drop, length-drop, List·getD-append}
 use lib.Seq.{length-take-le, length-front, getD-take, getD-drop, getD-append-add}
 use Rattle.words.specs.Words.{word, Written}
 use Rattle.words.proofs.Writing.{front}
-use Rattle.ffct.specs.Block.{AcceptedBlock, isLength, level}
+use Rattle.ffct.specs.Block.{AcceptedBlock, isLength, level, largestSample}
 use Rattle.ffct.specs.Transforms.{dct, spectrum, pair}
 use Rattle.ffct.proofs.ElevenLengths.{is-power, as-len, some-level, one-level}
 use Rattle.ffct.proofs.Blocks.{Same, dct-same, spectrum-same, pair-same}
@@ -19,9 +19,9 @@ use Rattle.ffct.proofs.Limits.{limits, pair-limits}
 use Rattle.counts.specs.declared.tally.Tally.{Tally}
 use Rattle.blocks.specs.Blocks.{Workable, CosineMade, SpectrumMade, PairMade}
 use Rattle.blocks.proofs.BlockRuns.{accepted}
-use Rattle.refusals.specs.Refusals.{scratchWords, block, firstOut}
+use Rattle.refusals.specs.Refusals.{scratchWords, block}
+use Rattle.refusals.specs.Passes.{AllWithin}
 use Rattle.refusals.specs.Calls.{Call}
-use Rattle.refusals.proofs.Ranges.{all-in}
 use Rattle.refusals.proofs.Promises.{carried-out}
 use Rattle.refusals.proofs.Calls.{Passes, is-accepted}
 use Rattle.spectra.specs.declared.Answer.the-variants.{Done}
@@ -35,15 +35,18 @@ lent r s N = take (s + N - s) (drop s r)
 pub record Fit (recording : List ℤ) (start N : ℕ) : Type 0 where
   pub length-ok : isLength N ≡ true
   pub inside : start + N ≤ length recording
-  pub range : firstOut (word recording) start N ≡ start + N
+  pub range : AllWithin largestSample (word recording) start (start + N)
 
 pub fit : {call : Call} (recording : List ℤ) → Passes call → call .start + call .N ≤ length recording
-    → firstOut (word recording) (call .start) (call .N) ≡ call .start + call .N → Fit recording (call .start) (call .N)
+    → AllWithin largestSample (word recording) (call .start) (call .start + call .N) → Fit recording (call .start) (call .N)
 fit recording p inside range = record { length-ok = p .length-ok; inside = inside; range = range }
 
 module _ {recording : List ℤ} {start N : ℕ} (f : Fit recording start N) where
+  in-range : (n : ℕ) → n < N → natAbs (word recording (start + n)) ≤ largestSample
+  in-range n h = f .range (start + n) (omega arith) (omega arith)
+
   fit-block : AcceptedBlock (level N) (block recording start)
-  fit-block = accepted (record { length-ok = f .length-ok; range = all-in _ (word recording) start N (f .range) })
+  fit-block = accepted (record { length-ok = f .length-ok; range = in-range })
 
   pub fit-length : length (lent recording start N) ≡ N
   fit-length =
@@ -61,7 +64,7 @@ module _ {recording : List ℤ} {start N : ℕ} (f : Fit recording start N) wher
     whole = omega (arith, fit-length);
     block-ok = record {
       length-ok = f .length-ok;
-      range = λ k h. rw (fit-word k h) (all-in _ (word recording) start N (f .range) k h);
+      range = λ k h. rw (fit-word k h) (in-range k h);
     };
     room = omega (arith, is, length-take-le m scratch (omega arith));
   })

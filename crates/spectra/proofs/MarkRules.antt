@@ -5,74 +5,69 @@ use mathlib.Core.Logic.{⊎-elim}
 use mathlib.Core.Bool.{Bool, true, false, not, cond, _&&_, _||_}
 use mathlib.Core.List.{List}
 use Prim.Native.Nat.{ℕ, zero, suc, _+_, _-_, _/_, _≤_, _<_}
+use native.Mathlib.Nat.{add-suc, add-zero}
 use native.Mathlib.Omega.{arith}
-use lib.Dec.{leb, ltb}
+use lib.Dec.{leb}
 use lib.IntN.{ℤ, pos, natAbs}
 use lib.Signed.{leZ}
-use borrow.Author.Tests.{le-leb, lt-leb, lt-ltb, le-ltb}
+use borrow.Author.Tests.{le-leb, lt-leb}
 use Rattle.whole.proofs.Cases.{le-or-lt}
 use Rattle.words.specs.Words.{Samples, word}
+use Rattle.refusals.specs.declared.range.Pass.{Pass}
+use Rattle.refusals.specs.declared.range.Pass.the-variants.{None, At}
 use Rattle.refusals.specs.Refusals.{block, atMost, firstBeyond}
-use Rattle.refusals.proofs.Ranges.{first-shift}
-use Rattle.spectra.specs.Marks.{size, all, some, flat, clipped, mark}
+use Rattle.refusals.specs.Passes.{OnePass}
+use Rattle.refusals.proofs.Ranges.{first-end, first-place}
+use Rattle.refusals.proofs.Passes.{all-in, first-at}
+use Rattle.spectra.specs.Marks.{size, all, some, clipped, mark}
 
--- ---- all are within the limit m where the search comes to the end, and some are not where it stops before: a turn of the search, which
--- ends at i or goes on, to come to f
-module _ (i d f : ℕ) where
-  all-turn : (b : Bool) {rest : Bool} → rest ≡ leb (suc i + d) f → (b && rest) ≡ leb (i + suc d) (cond b f i)
-  all-turn true on = on ∙ ap (λ e. leb e f) (omega arith)
-  all-turn false on = sym (lt-leb (i + suc d) i (omega arith))
-
-  some-turn : (b : Bool) {rest : Bool} → rest ≡ ltb f (suc i + d) → (not b || rest) ≡ ltb (cond b f i) (i + suc d)
-  some-turn true on = on ∙ ap (ltb f) (omega arith)
-  some-turn false on = sym (lt-ltb i (i + suc d) (omega arith))
+-- ---- all are within the limit m where a pass finds none beyond it, and not all where it finds one: a turn of the search, which ends at i
+-- or goes on, to come to f
+all-turn : (i d f : ℕ) (b : Bool) {rest : Bool} → rest ≡ leb (suc i + d) f → (b && rest) ≡ leb (i + suc d) (cond b f i)
+all-turn i d f true on = on ∙ ap (λ e. leb e f) (omega arith)
+all-turn i d f false on = sym (lt-leb (i + suc d) i (omega arith))
 
 module _ (m : ℕ) (x : Samples) where
-  within : (i d : ℕ) → all (λ k. leZ (size (x k)) (pos m)) i d ≡ leb (i + d) (firstBeyond m x i d)
+  abbrev within : ℕ → Bool
+  within k = leZ (size (x k)) (pos m)
+
+  by-search : (i d : ℕ) → all within i d ≡ leb (i + d) (firstBeyond m x i d)
   unfolding all firstBeyond
-  within i zero = sym (le-leb (i + 0) i (omega arith))
-  within i (suc d) = all-turn i d (firstBeyond m x (suc i) d) (atMost m (x i)) (within (suc i) d)
+  by-search i zero = sym (le-leb (i + 0) i (omega arith))
+  by-search i (suc d) = all-turn i d (firstBeyond m x (suc i) d) (atMost m (x i)) (by-search (suc i) d)
 
-  at-least : (n : ℕ) → leb (suc m) n ≡ not (leb n m)
-  at-least n = ⊎-elim
-      (λ h. rw (lt-leb (suc m) n (omega arith), le-leb n m h))
-      (λ h. rw (le-leb (suc m) n (omega arith), lt-leb n m h))
-      (le-or-lt n m)
+  module _ {i d : ℕ} {pass : Pass} (found : OnePass m x i d pass) where
+    pub all-by : {looks : ℕ} → pass ≡ None looks → true ≡ all within i d
+    all-by e = sym (by-search i d ∙ le-leb (i + d) _ (omega (arith, first-end m x i d (all-in found e))))
 
-  beyond : (i d : ℕ) → some (λ k. leZ (pos (suc m)) (size (x k))) i d ≡ ltb (firstBeyond m x i d) (i + d)
-  unfolding some firstBeyond
-  beyond i zero = sym (le-ltb i (i + 0) (omega arith))
-  beyond i (suc d) =
-      rw (at-least (natAbs (x i))) (some-turn i d (firstBeyond m x (suc i) d) (atMost m (x i)) (beyond (suc i) d))
+    pub not-all-by : {place looks : ℕ} → pass ≡ At place looks → false ≡ all within i d
+    not-all-by e =
+        let f = first-at found e in
+        sym (by-search i d ∙ lt-leb (i + d) _ (omega (arith, f .to, first-place m x i d f)))
 
--- ---- the two rules, as they are tested
-module _ (limit N : ℕ) where
-  from-1 : (x : Samples) → all (λ k. leZ (size (x k)) (pos limit)) 1 (N / 2) ≡ ltb (N / 2) (firstBeyond limit x 1 (N / 2))
-  from-1 x = within limit x 1 (N / 2) ∙ ap (λ e. leb e (firstBeyond limit x 1 (N / 2))) (omega arith)
+-- ---- a sample is at least m + 1 in size where not all are at most m; s is the start of a block
+at-least : (m n : ℕ) → leb (suc m) n ≡ not (leb n m)
+at-least m n = ⊎-elim
+    (λ h. rw (lt-leb (suc m) n (omega arith), le-leb n m h))
+    (λ h. rw (le-leb (suc m) n (omega arith), lt-leb n m h))
+    (le-or-lt n m)
 
-  pub not-flat : (cosine sine : Samples) {out : ℕ} → out ≡ firstBeyond limit cosine 1 (N / 2) → out ≤ N / 2
-      → flat (pos limit) N cosine sine ≡ false
-  not-flat cosine sine e h = rw (from-1 cosine, ← e, le-ltb _ _ h)
+not-both : (a b : Bool) → (not a || not b) ≡ not (a && b)
+not-both true b = refl
+not-both false b = refl
 
-  pub flat-by : (cosine sine : Samples) {out beyond : ℕ} → out ≡ firstBeyond limit cosine 1 (N / 2) → N / 2 < out
-      → beyond ≡ firstBeyond limit sine 1 (N / 2) → flat (pos limit) N cosine sine ≡ ltb (N / 2) beyond
-  flat-by cosine sine e h o = rw (from-1 cosine, from-1 sine, ← e, ← o, lt-ltb _ _ h)
+some-by : (m s : ℕ) (x : Samples) (i d : ℕ) → some (λ n. leZ (pos (suc m)) (size (x (s + n)))) i d ≡ not (all (within m x) (s + i) d)
+unfolding all some
+some-by m s x i zero = refl
+some-by m s x i (suc d) =
+    rw (at-least m (natAbs (x (s + i))), some-by m s x (suc i) d, add-suc) (not-both (atMost m (x (s + i))) (all (within m x) (suc (s + i)) d))
 
-shifted : (s a b c : ℕ) → c ≡ s + a → ltb a b ≡ ltb c (s + b)
-shifted s a b c e = ⊎-elim
-    (λ (h : b ≤ a). rw (le-ltb a b h, le-ltb c (s + b) (omega arith)))
-    (λ (h : a < b). rw (lt-ltb a b h, lt-ltb c (s + b) (omega arith)))
-    (le-or-lt b a)
-
-pub clipped-by : (level N s : ℕ) (r : List ℤ) {out : ℕ} → 1 ≤ level → out ≡ firstBeyond (level - 1) (word r) s N
-    → clipped (pos level) N (block r s) ≡ ltb out (s + N)
-clipped-by zero N s r h o = absurd (omega arith)
-clipped-by (suc m) N s r {out} h o =
-    let place = firstBeyond m (block r s) 0 N in
+pub clipped-by : (level N s : ℕ) (r : List ℤ) {b : Bool} → 1 ≤ level
+    → b ≡ all (within (level - 1) (word r)) s N → not b ≡ clipped (pos level) N (block r s)
+clipped-by zero N s r h e = absurd (omega arith)
+clipped-by (suc m) N s r h e =
     let same : suc m - 1 ≡ m = omega arith in
-    beyond m (block r s) 0 N
-    ∙ ap (ltb place) (omega arith)
-    ∙ shifted s place N out (o ∙ ap (λ l. firstBeyond l (word r) s N) same ∙ sym (first-shift m (word r) s N refl))
+    rw e (rw same (rw add-zero at (sym (some-by m s (word r) 0 N))))
 
 -- ---- of the coefficients the mark takes those from k = 1 to N / 2 alone
 all-same : (p q : ℕ → Bool) (i d : ℕ) → ((k : ℕ) → k < i + d → p k ≡ q k) → all p i d ≡ all q i d

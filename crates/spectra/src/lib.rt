@@ -15,6 +15,7 @@ use refusals::call::test;
 use refusals::length::is_length;
 use refusals::length::scratch_words;
 use refusals::length::shorter;
+use refusals::range::Pass;
 use refusals::range::first_out;
 ghost use mathlib.Core.Bool.{true};
 ghost use mathlib.Core.Path.{_≡_};
@@ -110,9 +111,8 @@ fn test_pair(
     if let Tested::Refused(refusal) = tested {
         return Tested::Refused(refusal);
     }
-    let out = first_out(b, start, length);
-    if out < start + length {
-        return Tested::Refused(Refusal::OutOfRange(out));
+    if let Pass::At { place, looks: _ } = first_out(b, start, length) {
+        return Tested::Refused(Refusal::OutOfRange(place));
     }
     Tested::Passed
 }

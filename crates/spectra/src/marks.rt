@@ -6,14 +6,16 @@ use counts::tally::Tally;
 use refusals::call;
 use refusals::call::Refusal;
 use refusals::call::Tested;
+use refusals::range::Pass;
 use refusals::range::first_beyond;
 ghost use mathlib.Core.Path.{_≡_};
 ghost use Prim.Native.Nat.{_+_, _/_, _^_, _≤_, _<_};
 ghost use lib.IntN.{pos};
 ghost use lib.ListN.{length as List·length};
+ghost use lib.Signed.{leZ};
 ghost use Rattle.words.specs.Words.{word};
 ghost use Rattle.refusals.specs.Refusals.{block, number};
-ghost use Rattle.spectra.specs.Marks.{flat, clipped, mark, badFigures};
+ghost use Rattle.spectra.specs.Marks.{size, all, flat, clipped, mark, badFigures};
 ghost use Rattle.spectra.specs.MarkAnswers.{verdictOf, spent, place, markNumber};
 ghost use Rattle.spectra.specs.Promises.{MarkPromise};
 
@@ -45,24 +47,35 @@ fn bad_figures(flat_limit: i32, clip_level: i32) -> bool
     1000000 < clip_level
 }
 
+// Whether the n words from start on are all at most limit in size.
+fn all_within(limit: u32, words: &[i32], start: usize, n: usize) -> bool
+    requires { ⌜ (limit < 2 ^ 31) × (start + n ≤ List·length (now words)) ⌝ }
+    ensures { λ r. ⌜ r ≡ all (λ k. leZ (size (word (now (words .entry)) k)) (pos limit)) start n ⌝ }
+{
+    match first_beyond(limit, words, start, n) {
+        Pass::None { looks: _ } => true,
+        Pass::At { place: _, looks: _ } => false,
+    }
+}
+
 // Whether all coefficients from k = 1 are at most the flat limit in size.
 fn is_flat(limit: u32, length: usize, cosine: &[i32], sine: &[i32]) -> bool
     requires { ⌜ (limit < 2 ^ 31) × (length / 2 + 1 ≤ List·length (now cosine)) × (length / 2 + 1 ≤ List·length (now sine)) ⌝ }
     ensures { λ r. ⌜ r ≡ flat (pos limit) length (word (now (cosine .entry))) (word (now (sine .entry))) ⌝ }
 {
     let last = length / 2;
-    if first_beyond(limit, cosine, 1, last) <= last {
+    if !all_within(limit, cosine, 1, last) {
         return false;
     }
-    last < first_beyond(limit, sine, 1, last)
+    all_within(limit, sine, 1, last)
 }
 
-// Whether a sample is at least the clip level in size: beyond the number before it.
+// Whether a sample is at least the clip level in size: not all are at most the number before it.
 fn is_clipped(level: u32, recording: &[i32], start: usize, length: usize) -> bool
     requires { ⌜ (1 ≤ level) × (level < 2 ^ 31) × (start + length ≤ List·length (now recording)) ⌝ }
     ensures { λ r. ⌜ r ≡ clipped (pos level) length (block (now (recording .entry)) start) ⌝ }
 {
-    first_beyond(level - 1, recording, start, length) < start + length
+    !all_within(level - 1, recording, start, length)
 }
 
 // The mark of a block, from its coefficients. Flat is looked at first.

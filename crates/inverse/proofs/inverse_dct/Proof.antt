@@ -19,9 +19,9 @@ short c =
 limit-is : (c : tie.Else3) → let n = c .before .before .before .before .args .length in n * 1000000 + n ≡ largestCoefficient n
 limit-is c = omega arith
 
-is-accepted : (c : tie.Else4) → let a = c .before .before .before .before .before .before .args in
+is-accepted : (c : tie.After-enum-told) → let a = c .before .before .before .before .before .before .before .args in
     Accepted (a .coefficients .now) (a .values .now) (a .length)
-is-accepted c = search (needs, all-within, limit-is (c .before .before))
+is-accepted c = search (needs, all-within, limit-is (c .before .before .before))
 
 pub inverse-dct-spec : {M : Type 1} → statement M
 inverse-dct-spec =
@@ -35,7 +35,9 @@ inverse-dct-spec =
     (λ c. record { fits = omega (arith, short c) })  -- add-limit
     (λ c. record { fits = omega (arith, short c) })  -- cast-limit
     (λ c κs. omega (arith, short c))  -- first-beyond-requires
-    (λ c. search (needs, beyond-limit, limit-is (c .before .before)))  -- returns-4
+    (λ c. search needs)  -- enum-known-first-beyond
+    (λ c. search (needs, beyond-limit, limit-is (c .before .before .before .before)))  -- returns-4
+    (λ c. search needs)  -- enum-told
     (λ c κs. let a = is-accepted (c .before) in (a .stored, a .room))  -- put-values-requires
     (λ c. search needs)  -- same-length
     (λ c. is-accepted (c .before .before .before) .writes (c .before .put-values .ensures)))  -- returns-5

@@ -9,7 +9,7 @@ use Rattle.refusals.specs.Refusals.{Verdict, accepted, firstOutOr}
 use Rattle.refusals.specs.declared.call.Tested.{Tested}
 use Rattle.refusals.specs.Calls.{Call, tests}
 use Rattle.refusals.specs.Tests.{outcome}
-use Rattle.refusals.proofs.Ranges.{first-end}
+use Rattle.refusals.proofs.Passes.{all-in, first-at}
 use Rattle.refusals.proofs.Conditions.{two-below, first-beyond, none-beyond}
 use Rattle.refusals.proofs.Calls.{passes, by-first, passed-by}
 use Rattle.spectra.specs.Promises.{pairCall}
@@ -51,14 +51,15 @@ test-pair-spec =
     (λ c. record { verdict = told (c .before .before .before) (c .before .tested .given .1) })  -- returns
     (λ c. search needs)  -- enum-told
     (λ c κs. inside c)  -- first-out-requires
-    (λ c. record { fits = omega (arith, inside (c .before)) })  -- add-if1
-    (λ c. let d = c .before .before in
+    (λ c. search needs)  -- enum-known-first-out
+    (λ c. let p = c .before .before in
     record {
-      verdict = λ rest. told (d .before .before) (d .enum-told .given .1) rest
-          ∙ first-beyond 6 _ _ _ _ rest (c .before .first-out .ensures) (c .if1 .taken);
+      verdict = λ rest. told (p .before .before .before .before) (p .before .before .enum-told .given .1) rest
+          ∙ first-beyond 6 _ _ _ _ rest (first-at (p .before .first-out .ensures) (c .before .place .given .1));
     })  -- returns-2
-    (λ c. let d = c .before .before in
+    (λ c. search needs)  -- enum-told-2
+    (λ c. let p = c .before in
     record {
-      verdict = λ rest. told (d .before .before) (d .enum-told .given .1) rest
-          ∙ none-beyond 6 _ _ _ _ rest (first-end _ _ _ _ (c .before .first-out .ensures) (c .if1 .left));
+      verdict = λ rest. told (p .before .before .before .before) (p .before .before .enum-told .given .1) rest
+          ∙ none-beyond 6 _ _ _ _ rest (all-in (p .before .first-out .ensures) (c .enum-told2 .given .1));
     }))  -- returns-3

@@ -13,8 +13,8 @@ counted : (c : tie.Else2) → let m = c .before .before .unsigned-at .result in 
 counted c = good-count _ (sym (c .before .bad-count .ensures) ∙ c .if2 .left)
 
 -- behind the last test, where less is at hand to search than behind the stores
-is-accepted : (c : tie.Else8) →
-    let n = c .before .before .before .before .before .before .before .before in
+is-accepted : (c : tie.After-enum-told2) →
+    let n = c .before .before .before .before .before .before .before .before .before .before in
     let m = n .before .before .before .before in
     let s = m .before .before .before .args in
     Readable (s .file .now) (s .a .now) (s .b .now) (m .unsigned-at .result) (n .unsigned-at2 .result)
@@ -46,9 +46,13 @@ read-spec =
     (λ c. search needs)  -- mul-of-b
     (λ c. search needs)  -- add-of-b
     (λ c κs. search needs)  -- first-out-requires
+    (λ c. search needs)  -- enum-known-first-out
     (λ c. search (needs, a-out))  -- returns-7
+    (λ c. search needs)  -- enum-told
     (λ c κs. search needs)  -- first-out-requires-2
+    (λ c. search needs)  -- enum-known-first-out-2
     (λ c. search (needs, b-out))  -- returns-8
+    (λ c. search needs)  -- enum-told-2
     (λ c κs. search needs)  -- fill-requires
     (λ c κs. search needs)  -- fill-requires-2
     (λ c. search needs)  -- same-length

@@ -14,8 +14,8 @@ counted : (c : tie.Else1) → let m = length (c .before .before .before .args .a
 counted c = good-count _ (sym (c .before .bad-count .ensures) ∙ c .if1 .left)
 
 -- behind the last test, where less is at hand to search than behind the stores
-is-writable : (c : tie.Else6) →
-    let s = c .before .before .before .before .before .before .before .before .before .before .before .args in
+is-writable : (c : tie.Else4) →
+    let s = c .before .before .before .before .before .before .before .before .before .before .before .before .before .args in
     Writable (s .a .now) (s .b .now) (s .length) (s .file .now)
 is-writable c = search (needs, all-passed)
 
@@ -29,11 +29,15 @@ write-spec =
     (λ c κs. search needs)  -- is-length-requires
     (λ c. search (needs, bad-length))  -- returns-3
     (λ c κs. search needs)  -- first-out-requires
+    (λ c. search needs)  -- enum-known-first-out
     (λ c. search (needs, a-out))  -- returns-4
+    (λ c. search needs)  -- enum-told
     (λ c κs. search needs)  -- first-out-requires-2
+    (λ c. search needs)  -- enum-known-first-out-2
     (λ c. search (needs, b-out))  -- returns-5
-    (λ c. record { fits = omega (arith, counted (c .before .before .before .before .before .before .before)) })  -- mul-if6
-    (λ c. record { fits = omega (arith, counted (c .before .before .before .before .before .before .before)) })  -- add-if6
+    (λ c. search needs)  -- enum-told-2
+    (λ c. record { fits = omega (arith, counted (c .before .before .before .before .before .before .before .before .before)) })  -- mul-if4
+    (λ c. record { fits = omega (arith, counted (c .before .before .before .before .before .before .before .before .before)) })  -- add-if4
     (λ c. search (needs, too-short))  -- returns-6
     (λ c κs. is-writable (c .before) .ready)  -- put-file-requires
     (λ c. search needs)  -- same-length

@@ -1,5 +1,4 @@
 -- `spectra::marks::is_clipped` meets its contract. Assumes nothing.
-use mathlib.Core.Path.{sym}
 use borrow.Author.Needs.{needs}
 use Rattle.spectra.proofs.MarkRules.{clipped-by}
 use Rattle.spectra.proofs.marks.is_clipped.Statement.{statement}
@@ -9,7 +8,6 @@ pub is-clipped-spec : {M : Type 1} → statement M
 is-clipped-spec =
     tie.close
     (tie.spec
-    (λ c. search needs)  -- sub-first-beyond
-    (λ c κs. search needs)  -- first-beyond-requires
-    (λ c. search needs)  -- add-result
-    (λ c. sym (clipped-by _ _ _ (c .before .args .recording .now) (c .before .pre .0) (c .first-beyond .ensures))))  -- returns
+    (λ c. search needs)  -- sub-all-within
+    (λ c κs. search needs)  -- all-within-requires
+    (λ c. clipped-by _ _ _ (c .before .args .recording .now) (c .before .pre .0) (c .all-within .ensures)))  -- returns
