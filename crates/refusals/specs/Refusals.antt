@@ -36,9 +36,6 @@ firstBeyond limit x i (suc d) = cond (atMost limit (x i)) (firstBeyond limit x (
 abbrev pub inRange : ℤ → Bool
 inRange z = atMost largestSample z
 
-abbrev pub firstOut : Samples → ℕ → ℕ → ℕ
-firstOut x i d = firstBeyond largestSample x i d
-
 -- ---- the verdict: the number of the first condition that holds, for 6 with "the place in the recording"
 pub data Verdict : Type 0 where
   refused : (number : ℕ) → Verdict

@@ -7,6 +7,9 @@ ghost use Rattle.ffct.specs.Block.{largestSample};
 ghost use Rattle.refusals.specs.Refusals.{atMost, inRange};
 ghost use Rattle.refusals.specs.Passes.{OnePass};
 
+// A sample is at most this in size.
+const LARGEST_SAMPLE: u32 = 1000000;
+
 // What a pass over numbers finds: none beyond the limit, or the place of the first; and its looks, a look at each number up to there.
 pub enum Pass {
     None { looks: usize },
@@ -19,16 +22,13 @@ fn at_most(limit: u32, x: i32) -> bool
     ensures { λ r. ⌜ r ≡ atMost limit x ⌝ }
 {
     let high = limit as i32;
-    if x < -high {
-        return false;
-    }
-    x <= high
+    -high <= x && x <= high
 }
 
 pub fn in_range(x: i32) -> bool
     ensures { λ r. ⌜ r ≡ inRange x ⌝ }
 {
-    at_most(1000000, x)
+    at_most(LARGEST_SAMPLE, x)
 }
 
 // One pass over the n words from start on, up to the first that is beyond limit on either side. Each word is looked at once, low and high
@@ -56,5 +56,5 @@ pub fn first_out(recording: &[i32], start: usize, n: usize) -> Pass
     requires { ⌜ start + n ≤ length (now recording) ⌝ }
     ensures { λ r. ⌜ OnePass largestSample (word (now (recording .entry))) start n r ⌝ }
 {
-    first_beyond(1000000, recording, start, n)
+    first_beyond(LARGEST_SAMPLE, recording, start, n)
 }

@@ -1,4 +1,4 @@
--- The rules of a mark by the search for the first number beyond a limit, and on coefficients as they stand in their buffers.
+-- The rules of a mark by what a pass over numbers finds, and on coefficients as they stand in their buffers.
 -- Assumes nothing.
 use mathlib.Core.Path.{_≡_, refl, sym, ap, ap₂, _∙_}
 use mathlib.Core.Logic.{⊎-elim}

@@ -1,10 +1,9 @@
 -- `pairfile::reader::first_out` meets its contract: the loop is the pass of refusals/proofs/Passes. Assumes nothing.
-use mathlib.Core.Path.{_≡_, sym, ap, _∙_}
+use mathlib.Core.Path.{_≡_, ap, _∙_}
 use Prim.Native.Nat.{_-_, _≤_}
 use native.Mathlib.Omega.{arith}
 use mir.Facts.{toZ-ofZ}
 use borrow.Author.Needs.{needs, sfits-of}
-use borrow.Author.Tests.{leb-true, leb-false, not-true, not-false}
 use Rattle.ffct.specs.Block.{largestSample}
 use Rattle.refusals.specs.Refusals.{inRange}
 use Rattle.refusals.proofs.Passes.{Looked, looked-none, looked-on, looked-out, looked-all}
@@ -18,21 +17,10 @@ Inv-loop file start m looks₀ i₀ looks i = (i ≤ m) × Looked largestSample 
 abbrev μ-loop : tie.MeasureT-loop
 μ-loop file start m looks₀ i₀ looks i = m - i
 
--- what a turn tests is whether its sample is in range
-tested : (c : tie.After-in-range Inv-loop μ-loop) →
-    let args = c .before .before .before .before .before .args in
-    inRange (samplesAt (args .file .now) (args .start) (c .before .before .before .loop .i)) ≡ c .in-range .result
-tested c = sym (c .in-range .ensures ∙ ap inRange (toZ-ofZ (sfits-of (c .before .signed-at .ok)) ∙ c .before .signed-at .ensures))
-
-returns : tie.Need-returns Inv-loop μ-loop
-returns c =
-    let l = c .before .before .before .before in
-    looked-out (l .loop .inv .1) (omega arith) (leb-false _ _ (tested (c .before) ∙ not-true _ (c .if1 .taken)))
-
-loop-again : tie.Need-loop-again Inv-loop μ-loop
-loop-again c =
-    let l = c .before .before .before .before in
-    (omega arith, looked-on (l .loop .inv .1) (leb-true _ _ (tested (c .before) ∙ not-false _ (c .if1 .left))))
+-- what a turn's look tells of its sample
+looked : (c : tie.After-in-range Inv-loop μ-loop) → let args = c .before .before .before .before .before .args in
+    c .in-range .result ≡ inRange (samplesAt (args .file .now) (args .start) (c .before .before .before .loop .i))
+looked c = c .in-range .ensures ∙ ap inRange (toZ-ofZ (sfits-of (c .before .signed-at .ok)) ∙ c .before .signed-at .ensures)
 
 pub first-out-spec : {M : Type 1} → statement M
 first-out-spec =
@@ -46,8 +34,10 @@ first-out-spec =
     (λ c κs. search needs)  -- signed-at-requires
     (λ c. search needs)  -- add-looks
     (λ c κs. search needs)  -- in-range-requires
-    returns
+    (λ c. let l = c .before .before .before .before in
+    looked-out (l .loop .inv .1) (omega arith) (omega arith) (omega arith) (looked (c .before)) (c .if1 .taken))  -- returns
     (λ c. search needs)  -- add-i
     (λ c. search needs)  -- loop-less
-    loop-again
+    (λ c. let l = c .before .before .before .before in
+    (omega arith, looked-on (l .loop .inv .1) (omega arith) (looked (c .before)) (c .if1 .left)))  -- loop-again
     (λ c. looked-all (c .before .loop .inv .1) (omega arith)))  -- returns-2
