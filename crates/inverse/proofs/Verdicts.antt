@@ -14,8 +14,8 @@ use Rattle.refusals.specs.declared.range.Pass.{Pass}
 use Rattle.refusals.specs.declared.range.Pass.the-variants.{None, At}
 use Rattle.refusals.specs.Refusals.{accepted, firstBeyondOr}
 use Rattle.refusals.specs.Passes.{OnePass}
-use Rattle.refusals.proofs.Passes.{all-in, first-at}
-use Rattle.refusals.proofs.Conditions.{first-beyond, none-beyond}
+use Rattle.refusals.proofs.Passes.{all-in}
+use Rattle.refusals.proofs.Conditions.{none-beyond, found-none, found-at}
 use Rattle.refusals.proofs.Promises.{turned-down, carried-out}
 use Rattle.inverse.specs.declared.InverseAnswer.the-variants.{BadLength, TooFewStored, ResultTooShort, BeyondLimit, Done}
 use Rattle.inverse.specs.Inverse.{inverseDct, largestCoefficient, inverseVerdict}
@@ -44,27 +44,26 @@ module _ (cs vs : List ℤ) (N : ℕ) (ok : Bool) (is : ok ≡ isLength N) where
       unfolding inverseVerdict
       too-short h = turned-down refl (omega arith) (rw (← is, good, le-ltb _ _ enough, lt-ltb _ _ h))
 
-      module _ (room : N ≤ length vs) (limit : ℕ) (pass : Pass) (found : OnePass limit (word cs) 0 N pass) (l : limit ≡ largestCoefficient N)
-        where
-          past : inverseVerdict cs N vs ≡ firstBeyondOr 10 limit (word cs) 0 N accepted
-          unfolding inverseVerdict
-          past = rw (l, ← is, good, le-ltb _ _ enough, le-ltb _ _ room)
+      module _ (room : N ≤ length vs) (limit : ℕ) (pass : Pass) (found : OnePass limit (word cs) 0 N pass)
+          (l : limit ≡ largestCoefficient N) where
+        past : inverseVerdict cs N vs ≡ firstBeyondOr 10 limit (word cs) 0 N accepted
+        unfolding inverseVerdict
+        past = rw (l, ← is, good, le-ltb _ _ enough, le-ltb _ _ room)
 
-          pub beyond-limit : {place looks : ℕ} → pass ≡ At place looks → InversePromise cs N vs vs (BeyondLimit place)
-          beyond-limit e = turned-down refl (omega arith) (past ∙ first-beyond 10 _ (word cs) 0 N accepted (first-at found e))
+        pub beyond-limit : {place looks : ℕ} → pass ≡ At place looks → InversePromise cs N vs vs (BeyondLimit place)
+        beyond-limit e = turned-down refl (omega arith) (past ∙ found-at 10 accepted found e)
 
-          pub all-within : {looks : ℕ} → pass ≡ None looks → Accepted cs vs N
-          all-within e =
-              let within = all-in found e in
-              let length-ok = sym is ∙ not-false ok good in
-              let range : (n : ℕ) → n < N → natAbs (word cs n) ≤ largestCoefficient N
-              = λ n h. omega (arith, within n (omega arith) (omega arith), l) in
-              record {
-                stored = record { length-ok = length-ok; enough = enough; range = range };
-                room = room;
-                writes = λ w. carried-out refl (past ∙ none-beyond 10 _ (word cs) 0 N accepted within)
-                    (record { words = w; length-ok = length-ok; range = range });
-              }
+        pub all-within : {looks : ℕ} → pass ≡ None looks → Accepted cs vs N
+        all-within e =
+            let length-ok = sym is ∙ not-false ok good in
+            let range : (n : ℕ) → n < N → natAbs (word cs n) ≤ largestCoefficient N
+            = λ n h. omega (arith, all-in found e n (omega arith) (omega arith), l) in
+            record {
+              stored = record { length-ok = length-ok; enough = enough; range = range };
+              room = room;
+              writes = λ w. carried-out refl (past ∙ found-none 10 accepted found e)
+                  (record { words = w; length-ok = length-ok; range = range });
+            }
 
 -- ---- the whole verdict where nothing is amiss
 pub accepts : (cs vs : List ℤ) (N : ℕ) → isLength N ≡ true → N ≤ length cs → N ≤ length vs

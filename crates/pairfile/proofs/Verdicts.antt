@@ -6,7 +6,7 @@ use mathlib.Core.Path.{_≡_, refl, sym, _∙_}
 use mathlib.Core.Logic.{inl, inr}
 use mathlib.Core.Bool.{Bool, true, false, not, cond}
 use mathlib.Core.List.{List, [], _∷_}
-use Prim.Native.Nat.{ℕ, _+_, _≤_, _<_}
+use Prim.Native.Nat.{ℕ, _≤_, _<_}
 use native.Mathlib.Omega.{arith}
 use lib.Dec.{eqb, ltb}
 use lib.IntN.{ℤ, natAbs}
@@ -17,10 +17,10 @@ use Rattle.ffct.specs.Block.{isLength, largestSample}
 use Rattle.refusals.specs.declared.range.Pass.{Pass}
 use Rattle.refusals.specs.declared.range.Pass.the-variants.{None, At}
 use Rattle.refusals.specs.Refusals.{someBelow, firstOutOr, firstOutIn, refused, accepted}
-use Rattle.refusals.specs.Passes.{AllWithin, OnePass}
-use Rattle.refusals.proofs.Passes.{all-in, first-at}
+use Rattle.refusals.specs.Passes.{OnePass}
+use Rattle.refusals.proofs.Passes.{all-in}
 use Rattle.refusals.proofs.Promises.{turned-down, carried-out, past-test}
-use Rattle.refusals.proofs.Conditions.{all-reach, some-below, none-of, none-beyond, first-beyond, in-verdict}
+use Rattle.refusals.proofs.Conditions.{all-reach, some-below, none-of, found-none, found-at, in-verdict}
 use Rattle.pairfile.specs.declared.reader.FileAnswer.the-variants.{BelowHeader, BadCount, BadFileLength, BadLength}
 use Rattle.pairfile.specs.declared.reader.FileAnswer.the-variants.{RecordingTooShort, OutOfRange, Read}
 use Rattle.pairfile.specs.File.{sampleCount, blockLength, samplesAt, startOfA, startOfB, samplesOfA, samplesOfB}
@@ -141,41 +141,37 @@ module _ (file : List ℕ) (a b : List ℤ) where
           pub b-short : length b < m → ReadPromise file a b a b RecordingTooShort
           b-short h = turned-down (refl, refl) (omega arith) (past-9 ∙ rw (good, some-below m lent (inr (inl h))))
 
-          module _ (for-a : m ≤ length a) (for-b : m ≤ length b) (of-a : Pass) (found-a : OnePass largestSample (samplesAt file startOfA) 0 m of-a)
-            where
-              past-3 : fileVerdict file lent ≡ firstOutIn recordings 0 m accepted
-              past-3 = past-9 ∙ rw (good, all-reach m lent (for-a, (for-b, tt)))
+          module _ (for-a : m ≤ length a) (for-b : m ≤ length b) (of-a : Pass)
+              (found-a : OnePass largestSample (samplesAt file startOfA) 0 m of-a) where
+            past-3 : fileVerdict file lent ≡ firstOutIn recordings 0 m accepted
+            past-3 = past-9 ∙ rw (good, all-reach m lent (for-a, (for-b, tt)))
 
-              pub a-out : {place looks : ℕ} → of-a ≡ At place looks → ReadPromise file a b a b (OutOfRange place)
-              a-out e = turned-down (refl, refl) (omega arith) (past-3 ∙ first-beyond 6 _ (samplesAt file startOfA) 0 m _ (first-at found-a e))
+            pub a-out : {place looks : ℕ} → of-a ≡ At place looks → ReadPromise file a b a b (OutOfRange place)
+            a-out e = turned-down (refl, refl) (omega arith) (past-3 ∙ found-at 6 _ found-a e)
 
-              module _ (of-b : Pass) (looks-a : ℕ) (none-a : of-a ≡ None looks-a)
-                  (found-b : OnePass largestSample (samplesAt file (startOfB m)) 0 m of-b) where
-                range-a : AllWithin largestSample (samplesAt file startOfA) 0 (0 + m)
-                range-a = all-in found-a none-a
+            module _ (of-b : Pass) (looks-a : ℕ) (none-a : of-a ≡ None looks-a)
+                (found-b : OnePass largestSample (samplesAt file (startOfB m)) 0 m of-b) where
+              past-a : fileVerdict file lent ≡ firstOutOr (samplesAt file (startOfB m)) 0 m accepted
+              past-a = past-3 ∙ found-none 6 _ found-a none-a
 
-                past-a : fileVerdict file lent ≡ firstOutOr (samplesAt file (startOfB m)) 0 m accepted
-                past-a = past-3 ∙ none-beyond 6 _ (samplesAt file startOfA) 0 m _ range-a
+              pub b-out : {place looks : ℕ} → of-b ≡ At place looks → ReadPromise file a b a b (OutOfRange place)
+              b-out e = turned-down (refl, refl) (omega arith) (past-a ∙ found-at 6 accepted found-b e)
 
-                pub b-out : {place looks : ℕ} → of-b ≡ At place looks → ReadPromise file a b a b (OutOfRange place)
-                b-out e = turned-down (refl, refl) (omega arith) (past-a ∙ first-beyond 6 _ (samplesAt file (startOfB m)) 0 m _ (first-at found-b e))
-
-                pub all-in-range : {looks : ℕ} → of-b ≡ None looks → Readable file a b m N
-                all-in-range e =
-                    let range-b = all-in found-b e in
-                    record {
-                      reads = λ v w. carried-out refl (past-a ∙ none-beyond 6 _ (samplesAt file (startOfB m)) 0 m _ range-b)
-                          (record {
-                            samples-is = count;
-                            length-is = blocks;
-                            wordsOfA = v;
-                            wordsOfB = rw (← count) w;
-                            sound = record {
-                              some = good-count m (sym is-bad ∙ few) .0;
-                              most = good-count m (sym is-bad ∙ few) .1;
-                              length-ok = sym is ∙ not-false ok good;
-                              rangeOfA = λ n h. range-a n (omega arith) (omega arith);
-                              rangeOfB = rw (← count) (λ n h. range-b n (omega arith) (omega arith));
-                            };
-                          });
-                    }
+              pub all-in-range : {looks : ℕ} → of-b ≡ None looks → Readable file a b m N
+              all-in-range e =
+                  record {
+                    reads = λ v w. carried-out refl (past-a ∙ found-none 6 accepted found-b e)
+                        (record {
+                          samples-is = count;
+                          length-is = blocks;
+                          wordsOfA = v;
+                          wordsOfB = rw (← count) w;
+                          sound = record {
+                            some = good-count m (sym is-bad ∙ few) .0;
+                            most = good-count m (sym is-bad ∙ few) .1;
+                            length-ok = sym is ∙ not-false ok good;
+                            rangeOfA = λ n h. all-in found-a none-a n (omega arith) (omega arith);
+                            rangeOfB = rw (← count) (λ n h. all-in found-b e n (omega arith) (omega arith));
+                          };
+                        });
+                  }

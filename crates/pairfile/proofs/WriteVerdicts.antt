@@ -17,9 +17,9 @@ use Rattle.refusals.specs.declared.range.Pass.{Pass}
 use Rattle.refusals.specs.declared.range.Pass.the-variants.{None, At}
 use Rattle.refusals.specs.Refusals.{firstOutOr, firstOutIn, Verdict, refused, accepted}
 use Rattle.refusals.specs.Passes.{AllWithin, OnePass}
-use Rattle.refusals.proofs.Passes.{all-in, first-at}
+use Rattle.refusals.proofs.Passes.{all-in}
 use Rattle.refusals.proofs.Promises.{turned-down, carried-out, past-test}
-use Rattle.refusals.proofs.Conditions.{none-beyond, first-beyond, in-verdict, past-in}
+use Rattle.refusals.proofs.Conditions.{found-none, found-at, in-verdict, past-in}
 use Rattle.pairfile.specs.declared.writer.WriteAnswer.the-variants.{BadCount, RecordingsDiffer, BadLength}
 use Rattle.pairfile.specs.declared.writer.WriteAnswer.the-variants.{OutOfRange, BufferTooShort, Written}
 use Rattle.pairfile.specs.File.{badCount, fileBytes}
@@ -96,18 +96,19 @@ module _ (a b : List ℤ) (N : ℕ) (buffer : List ℕ) (bad : Bool) (is-bad : b
         past-1 = rw (← is-bad, few, eq-eqb _ _ same, ← is, good)
 
         pub a-out : {place looks : ℕ} → of-a ≡ At place looks → WritePromise a b N buffer buffer (OutOfRange place)
-        a-out e = turned-down refl (omega arith) (past-1 ∙ first-beyond 6 _ (word a) 0 (length a) _ (first-at found-a e))
+        a-out e = turned-down refl (omega arith) (past-1 ∙ found-at 6 _ found-a e)
 
-        module _ (of-b : Pass) (looks-a : ℕ) (none-a : of-a ≡ None looks-a) (found-b : OnePass largestSample (word b) 0 (length a) of-b) where
+        module _ (of-b : Pass) (looks-a : ℕ) (none-a : of-a ≡ None looks-a)
+            (found-b : OnePass largestSample (word b) 0 (length a) of-b) where
           past-a : writeVerdict a b N (length buffer) ≡ firstOutOr (word b) 0 (length a) last
-          past-a = past-1 ∙ none-beyond 6 _ (word a) 0 (length a) _ (all-in found-a none-a)
+          past-a = past-1 ∙ found-none 6 _ found-a none-a
 
           pub b-out : {place looks : ℕ} → of-b ≡ At place looks → WritePromise a b N buffer buffer (OutOfRange place)
-          b-out e = turned-down refl (omega arith) (past-a ∙ first-beyond 6 _ (word b) 0 (length a) _ (first-at found-b e))
+          b-out e = turned-down refl (omega arith) (past-a ∙ found-at 6 last found-b e)
 
           module _ (looks-b : ℕ) (none-b : of-b ≡ None looks-b) where
             past-6 : writeVerdict a b N (length buffer) ≡ last
-            past-6 = past-a ∙ none-beyond 6 _ (word b) 0 (length a) _ (all-in found-b none-b)
+            past-6 = past-a ∙ found-none 6 last found-b none-b
 
             pub too-short : length buffer < fileBytes (length a) → WritePromise a b N buffer buffer BufferTooShort
             too-short h = turned-down refl (omega arith) (past-6 ∙ rw (lt-ltb _ _ h))

@@ -11,9 +11,12 @@ use borrow.Author.Tests.{lt-ltb, le-ltb, ltb-false}
 use Rattle.whole.proofs.Cases.{le-or-lt}
 use Rattle.words.specs.Words.{Samples}
 use Rattle.ffct.specs.Block.{largestSample}
+use Rattle.refusals.specs.declared.range.Pass.{Pass}
+use Rattle.refusals.specs.declared.range.Pass.the-variants.{None, At}
 use Rattle.refusals.specs.Refusals.{someBelow, firstBeyond, firstBeyondOr, firstOutIn, Verdict, refusedAt, accepted}
 use Rattle.refusals.specs.Refusals.{number as numberOf}
-use Rattle.refusals.specs.Passes.{AllWithin, FirstAt}
+use Rattle.refusals.specs.Passes.{AllWithin, FirstAt, OnePass}
+use Rattle.refusals.proofs.Passes.{all-in, first-at}
 use Rattle.refusals.proofs.Ranges.{first-end, first-place, all-within}
 
 -- ---- lengths: all reach n, or some are below it
@@ -61,7 +64,7 @@ module _ (number limit : ℕ) (x : Samples) (s N : ℕ) (rest : Verdict) where
   pub none-beyond : AllWithin limit x s (s + N) → firstBeyondOr number limit x s N rest ≡ rest
   none-beyond h = rw (le-ltb (firstBeyond limit x s N) (s + N) (omega (arith, first-end limit x s N h)))
 
-  pub first-beyond : {place : ℕ} → FirstAt limit x s N place → firstBeyondOr number limit x s N rest ≡ refusedAt number place
+  first-beyond : {place : ℕ} → FirstAt limit x s N place → firstBeyondOr number limit x s N rest ≡ refusedAt number place
   first-beyond f = rw (first-place limit x s N f, lt-ltb _ (s + N) (f .to))
 
   -- a verdict that accepts has passed the test
@@ -73,6 +76,14 @@ module _ (number limit : ℕ) (x : Samples) (s N : ℕ) (rest : Verdict) where
 
       out : firstBeyond limit x s N < s + N → AllWithin limit x s (s + N) × (rest ≡ accepted)
       out h = absurd (omega (arith, l, ap numberOf (rw (lt-ltb _ (s + N) h) at e)))
+
+-- the same by what a pass has found
+module _ (number : ℕ) (rest : Verdict) {limit : ℕ} {x : Samples} {s N : ℕ} {pass : Pass} (p : OnePass limit x s N pass) where
+  pub found-none : {looks : ℕ} → pass ≡ None looks → firstBeyondOr number limit x s N rest ≡ rest
+  found-none e = none-beyond number limit x s N rest (all-in p e)
+
+  pub found-at : {place looks : ℕ} → pass ≡ At place looks → firstBeyondOr number limit x s N rest ≡ refusedAt number place
+  found-at e = first-beyond number limit x s N rest (first-at p e)
 
 -- ---- samples: all are in range, in each of some recordings
 abbrev pub AllIn : List Samples → ℕ → ℕ → Type 0

@@ -24,7 +24,8 @@ looked-none = record { within = λ j h l. absurd (omega arith); tallied = omega 
 
 module _ {limit : ℕ} {x : Samples} {start i looks : ℕ} (l : Looked limit x start i looks) where
   -- a look more, which tells that the number is within the limit
-  pub looked-on : {looks′ : ℕ} {b : Bool} → looks′ ≡ looks + 1 → b ≡ atMost limit (x i) → not b ≡ false → Looked limit x start (i + 1) looks′
+  pub looked-on : {looks′ : ℕ} {b : Bool} → looks′ ≡ looks + 1 → b ≡ atMost limit (x i) → not b ≡ false
+      → Looked limit x start (i + 1) looks′
   looked-on e is h = record { within = within; tallied = omega (arith, l .tallied) }
     where
       within : AllWithin limit x start (i + 1)

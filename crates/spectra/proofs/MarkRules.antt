@@ -60,7 +60,8 @@ some-by : (m s : ℕ) (x : Samples) (i d : ℕ) → some (λ n. leZ (pos (suc m)
 unfolding all some
 some-by m s x i zero = refl
 some-by m s x i (suc d) =
-    rw (at-least m (natAbs (x (s + i))), some-by m s x (suc i) d, add-suc) (not-both (atMost m (x (s + i))) (all (within m x) (suc (s + i)) d))
+    rw (at-least m (natAbs (x (s + i))), some-by m s x (suc i) d, add-suc)
+    (not-both (atMost m (x (s + i))) (all (within m x) (suc (s + i)) d))
 
 pub clipped-by : (level N s : ℕ) (r : List ℤ) {b : Bool} → 1 ≤ level
     → b ≡ all (within (level - 1) (word r)) s N → not b ≡ clipped (pos level) N (block r s)

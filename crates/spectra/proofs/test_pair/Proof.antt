@@ -9,8 +9,7 @@ use Rattle.refusals.specs.Refusals.{Verdict, accepted, firstOutOr}
 use Rattle.refusals.specs.declared.call.Tested.{Tested}
 use Rattle.refusals.specs.Calls.{Call, tests}
 use Rattle.refusals.specs.Tests.{outcome}
-use Rattle.refusals.proofs.Passes.{all-in, first-at}
-use Rattle.refusals.proofs.Conditions.{two-below, first-beyond, none-beyond}
+use Rattle.refusals.proofs.Conditions.{two-below, found-none, found-at}
 use Rattle.refusals.proofs.Calls.{passes, by-first, passed-by}
 use Rattle.spectra.specs.Promises.{pairCall}
 use Rattle.spectra.proofs.test_pair.Statement.{statement}
@@ -55,11 +54,11 @@ test-pair-spec =
     (λ c. let p = c .before .before in
     record {
       verdict = λ rest. told (p .before .before .before .before) (p .before .before .enum-told .given .1) rest
-          ∙ first-beyond 6 _ _ _ _ rest (first-at (p .before .first-out .ensures) (c .before .place .given .1));
+          ∙ found-at 6 rest (p .before .first-out .ensures) (c .before .place .given .1);
     })  -- returns-2
     (λ c. search needs)  -- enum-told-2
     (λ c. let p = c .before in
     record {
       verdict = λ rest. told (p .before .before .before .before) (p .before .before .enum-told .given .1) rest
-          ∙ none-beyond 6 _ _ _ _ rest (all-in (p .before .first-out .ensures) (c .enum-told2 .given .1));
+          ∙ found-none 6 rest (p .before .first-out .ensures) (c .enum-told2 .given .1);
     }))  -- returns-3

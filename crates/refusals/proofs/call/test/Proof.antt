@@ -13,8 +13,7 @@ use Rattle.refusals.specs.declared.range.Pass.the-variants.{None, At}
 use Rattle.refusals.specs.Refusals.{scratchWords, Verdict, refused, refusedAt, firstOutOr}
 use Rattle.refusals.specs.Passes.{OnePass}
 use Rattle.refusals.specs.Calls.{Call, tests, oneRecording}
-use Rattle.refusals.proofs.Passes.{all-in, first-at}
-use Rattle.refusals.proofs.Conditions.{none-beyond, first-beyond}
+use Rattle.refusals.proofs.Conditions.{found-none, found-at}
 use Rattle.refusals.proofs.call.test.Statement.{statement}
 use Rattle.refusals.proofs.call.test.Tie as tie
 
@@ -43,10 +42,10 @@ module _ (x : Samples) (m s N a r y w p : ℕ) (rest : Verdict) (ok : isLength N
         past-5 = rw (ok, le-ltb _ _ inside, le-ltb _ _ results, ← is, le-ltb _ _ words, le-ltb _ _ allowed)
 
         refused-6 : {place looks : ℕ} → pass ≡ At place looks → tests call rest ≡ refusedAt 6 place
-        refused-6 e = past-5 ∙ first-beyond 6 _ x s N rest (first-at found e)
+        refused-6 e = past-5 ∙ found-at 6 rest found e
 
         past-6 : {looks : ℕ} → pass ≡ None looks → tests call rest ≡ rest
-        past-6 e = past-5 ∙ none-beyond 6 _ x s N rest (all-in found e)
+        past-6 e = past-5 ∙ found-none 6 rest found e
 
 -- ---- what the code has tested
 passed-1 : (c : tie.Else1) → isLength (c .before .before .args .length) ≡ true
