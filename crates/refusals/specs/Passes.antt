@@ -23,7 +23,7 @@ abbrev pub Finds : (limit : ℕ) → Samples → (start N : ℕ) → Pass → Ty
 Finds limit x start N (None looks) = AllWithin limit x start (start + N)
 Finds limit x start N (At place looks) = FirstAt limit x start N place
 
--- "one for each sample up to there"
+-- "one for each sample up to there", that sample's own among them; all where there is none
 abbrev pub OneEach : (start N : ℕ) → Pass → Type 0
 OneEach start N (None looks) = looks ≡ N
 OneEach start N (At place looks) = looks ≡ place - start + 1

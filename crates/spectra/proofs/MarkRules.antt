@@ -1,8 +1,8 @@
 -- The rules of a mark by what a pass over numbers finds, and on coefficients as they stand in their buffers.
 -- Assumes nothing.
-use mathlib.Core.Path.{_≡_, refl, sym, ap, ap₂, _∙_}
+use mathlib.Core.Path.{_≡_, refl, sym, ap, ap₂}
 use mathlib.Core.Logic.{⊎-elim}
-use mathlib.Core.Bool.{Bool, true, false, not, cond, _&&_, _||_}
+use mathlib.Core.Bool.{Bool, true, false, not, _&&_, _||_}
 use mathlib.Core.List.{List}
 use Prim.Native.Nat.{ℕ, zero, suc, _+_, _-_, _/_, _≤_, _<_}
 use native.Mathlib.Nat.{add-suc, add-zero}
@@ -15,35 +15,40 @@ use Rattle.whole.proofs.Cases.{le-or-lt}
 use Rattle.words.specs.Words.{Samples, word}
 use Rattle.refusals.specs.declared.range.Pass.{Pass}
 use Rattle.refusals.specs.declared.range.Pass.the-variants.{None, At}
-use Rattle.refusals.specs.Refusals.{block, atMost, firstBeyond}
+use Rattle.refusals.specs.Refusals.{block, atMost}
 use Rattle.refusals.specs.Passes.{OnePass}
-use Rattle.refusals.proofs.Ranges.{first-end, first-place}
 use Rattle.refusals.proofs.Passes.{all-in, first-at}
 use Rattle.spectra.specs.Marks.{size, all, some, clipped, mark}
 
--- ---- all are within the limit m where a pass finds none beyond it, and not all where it finds one: a turn of the search, which ends at i
--- or goes on, to come to f
-all-turn : (i d f : ℕ) (b : Bool) {rest : Bool} → rest ≡ leb (suc i + d) f → (b && rest) ≡ leb (i + suc d) (cond b f i)
-all-turn i d f true on = on ∙ ap (λ e. leb e f) (omega arith)
-all-turn i d f false on = sym (lt-leb (i + suc d) i (omega arith))
+-- ---- all of a row of tests hold, or one does not
+all-of : (p : ℕ → Bool) (i d : ℕ) → ((k : ℕ) → i ≤ k → k < i + d → p k ≡ true) → all p i d ≡ true
+unfolding all
+all-of p i zero h = refl
+all-of p i (suc d) h = rw (h i (omega arith) (omega arith)) (all-of p (suc i) d (λ k l m. h k (omega arith) (omega arith)))
 
+and-false : (b : Bool) → (b && false) ≡ false
+and-false true = refl
+and-false false = refl
+
+not-all : (p : ℕ → Bool) (i d : ℕ) {k : ℕ} → i ≤ k → k < i + d → p k ≡ false → all p i d ≡ false
+unfolding all
+not-all p i zero from to f = absurd (omega arith)
+not-all p i (suc d) {k} from to f = ⊎-elim
+    (λ h. rw (not-all p (suc i) d h (omega arith) f) (and-false (p i)))
+    (λ h. let same : k ≡ i = omega arith in rw (rw same at f))
+    (le-or-lt (suc i) k)
+
+-- ---- all are within the limit m where a pass finds none beyond it, and not all where it finds one
 module _ (m : ℕ) (x : Samples) where
   abbrev within : ℕ → Bool
   within k = leZ (size (x k)) (pos m)
 
-  by-search : (i d : ℕ) → all within i d ≡ leb (i + d) (firstBeyond m x i d)
-  unfolding all firstBeyond
-  by-search i zero = sym (le-leb (i + 0) i (omega arith))
-  by-search i (suc d) = all-turn i d (firstBeyond m x (suc i) d) (atMost m (x i)) (by-search (suc i) d)
-
   module _ {i d : ℕ} {pass : Pass} (found : OnePass m x i d pass) where
     pub all-by : {looks : ℕ} → pass ≡ None looks → true ≡ all within i d
-    all-by e = sym (by-search i d ∙ le-leb (i + d) _ (omega (arith, first-end m x i d (all-in found e))))
+    all-by e = sym (all-of within i d (λ k from to. le-leb _ _ (all-in found e k from to)))
 
     pub not-all-by : {place looks : ℕ} → pass ≡ At place looks → false ≡ all within i d
-    not-all-by e =
-        let f = first-at found e in
-        sym (by-search i d ∙ lt-leb (i + d) _ (omega (arith, f .to, first-place m x i d f)))
+    not-all-by e = let f = first-at found e in sym (not-all within i d (f .from) (f .to) (lt-leb _ _ (f .beyond)))
 
 -- ---- a sample is at least m + 1 in size where not all are at most m; s is the start of a block
 at-least : (m n : ℕ) → leb (suc m) n ≡ not (leb n m)
