@@ -370,7 +370,7 @@ static void measure(size_t n, double *best)
         }
 }
 
-/* a table for each call: its time, and how many times another contender's time that is */
+/* a table for each call: its time, and how many times another contender's time that is; of an earlier version the time too */
 static void table(void)
 {
     static double best[11][CONTENDERS];
@@ -384,15 +384,18 @@ static void table(void)
             end++;
         printf("### %s\n\n| N | ns per block | blocks per second |", contenders[ours].call);
         for (size_t i = ours + 1; i < end; i++)
-            printf(" times %s |", contenders[i].name);
+            printf(contenders[i].library ? " ns %s | times %s |" : " times %s |", contenders[i].name, contenders[i].name);
         printf("\n|--:|--:|--:|");
         for (size_t i = ours + 1; i < end; i++)
-            printf("--:|");
+            printf(contenders[i].library ? "--:|--:|" : "--:|");
         printf("\n");
         for (size_t n = 8, row = 0; n <= LONGEST; n *= 2, row++) {
             printf("| %zu | %.0f | %.0f |", n, best[row][ours], 1e9 / best[row][ours]);
-            for (size_t i = ours + 1; i < end; i++)
+            for (size_t i = ours + 1; i < end; i++) {
+                if (contenders[i].library)
+                    printf(" %.0f |", best[row][i]);
                 printf(" %.2f |", best[row][ours] / best[row][i]);
+            }
             printf("\n");
         }
         printf("\n");
