@@ -33,7 +33,7 @@ use Rattle.blocks.proofs.Pairing.{paired-back}
 
 -- no product or sum is made yet
 abbrev pub none : Tally
-none = record { products = 0; sums = 0 }
+none = record { products = 0; sums = 0; «largest_rest» = 0 }
 
 module _ {n : ℕ} {x : Samples} (r : InRange n x) where
   pub accepted : AcceptedBlock (level n) x
@@ -98,8 +98,10 @@ module _ {n : ℕ} {x : Samples} {at : ℕ} {w v : List ℤ} {spent : Tally} (r 
     }
 
     module _ {v₁ : List ℤ} {t₁ : Tally} (cosined : DftDone cosineDft n 1 at v v₁ spent t₁) where
-      cosine-tallied : Tallied (cosineDft (level n) x .products) (cosineDft (level n) x .sums) spent t₁
-      cosine-tallied = subst (λ t. Tallied (t .products) (t .sums) spent t₁) cosine-is (cosined .tallied)
+      cosine-tallied :
+          let t = cosineDft (level n) x in
+          Tallied (t .products) (t .sums) (t .largestRest) spent t₁
+      cosine-tallied = subst (λ t. Tallied (t .products) (t .sums) (t .largestRest) spent t₁) cosine-is (cosined .tallied)
 
       block₁ : (i : ℕ) → i < n → paired n 1 (word v₁) i ≡ x i
       block₁ i h = paired-same n 1 (word v₁) (word v) (omega arith) (λ j o. cosined .front j (omega (arith, r .behind))) i h ∙ block₀ i h
@@ -120,7 +122,7 @@ module _ {n : ℕ} {x : Samples} {at : ℕ} {w v : List ℤ} {spent : Tally} (r 
       pub dfts-made : {v₂ : List ℤ} {t₂ : Tally} → DftDone sineDft n 1 (at + n / 2 + 1) v₁ v₂ t₁ t₂ → DftsMade n x at w v₂ spent t₂
       unfolding spectrum
       dfts-made {v₂} {t₂} sined =
-          let sine-tallied = subst (λ t. Tallied (t .products) (t .sums) t₁ t₂) sine-is (sined .tallied) in
+          let sine-tallied = subst (λ t. Tallied (t .products) (t .sums) (t .largestRest) t₁ t₂) sine-is (sined .tallied) in
           record {
             cosineWords = λ k h. sined .front (at + k) (omega arith) ∙ cosined .coefficients k h ∙ ap (λ t. t .at k) cosine-is;
             sineWords = λ k h. sined .coefficients k h ∙ ap (λ t. t .at k) sine-is;
@@ -154,6 +156,7 @@ spectrum-made m c s e = record {
   sineWords = written-same s refl (m .sineWords);
   cleared = cleared (m .len) e;
   tallied = omega (arith, m .tallied);
+  rest = omega (arith, m .tallied);
 }
 
 -- ---- the DCT: the block is loaded in its order
@@ -177,4 +180,5 @@ module _ {n : ℕ} {x : Samples} {w v : List ℤ} (r : InRange n x) (l : Written
       words = written-same s refl (made .coefficients);
       cleared = cleared (made .len ∙ l .len) e;
       tallied = omega (arith, made .tallied);
+      rest = omega (arith, made .tallied);
     }

@@ -71,6 +71,7 @@ module _ {n : ℕ} {x y : Samples} {w w₁ : List ℤ} {t₁ : Tally} (okX : InR
           imaginaryWords = written-same (p .imaginaryWords) refl (joined _-ℤ_ power (B .cosineWords) sine-a);
           cleared = cleared (B .len ∙ A .len) c;
           tallied = omega (arith, A .tallied, B .tallied, p .tallied, power);
+          rest = omega (arith, A .tallied .rest, B .tallied .rest, p .tallied .rest);
         }
       where
         joined : (op : ℤ → ℤ → ℤ) → n ≡ 2 ^ level n → {C S C′ S′ : ℕ → ℤ} → ((j : ℕ) → j < n / 2 + 1 → C j ≡ C′ j) →

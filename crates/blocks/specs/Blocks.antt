@@ -40,7 +40,9 @@ pub record DftsMade (n : ℕ) (x : Samples) (at : ℕ) (w w′ : List ℤ) (spen
   pub cosineWords : (k : ℕ) → k < n / 2 + 1 → wordsFrom w′ at k ≡ spectrumOf (level n) x .cosine k
   pub sineWords : (k : ℕ) → k < n / 2 + 1 → wordsFrom w′ (at + n / 2 + 1) k ≡ spectrumOf (level n) x .sine k
   pub between : (k : ℕ) → n ≤ k → k < at → word w′ k ≡ word w k
-  pub tallied : Tallied (spectrumOf (level n) x .products) (spectrumOf (level n) x .sums) spent total
+  pub tallied :
+      let t = spectrumOf (level n) x in
+      Tallied (t .products) (t .sums) (t .largestRest) spent total
   pub len : length w′ ≡ length w
 
 -- ---- coefficients of n samples put into buffers, the words to work in cleared, and what is tallied
@@ -49,14 +51,17 @@ pub record SpectrumMade (n : ℕ) (t : Spectrum) (cosine sine w cosine′ sine�
   pub sineWords : Written 0 (n / 2 + 1) (t .sine) sine sine′
   pub cleared : Cleared w w′
   pub tallied : (spent .products ≡ t .products) × (spent .sums ≡ t .sums)
+  pub rest : spent .«largest_rest» ≡ t .largestRest
 
 pub record CosineMade (n : ℕ) (t : Transform) (coefficients w coefficients′ w′ : List ℤ) (spent : Tally) : Type 0 where
   pub words : Written 0 n (t .at) coefficients coefficients′
   pub cleared : Cleared w w′
   pub tallied : (spent .products ≡ t .products) × (spent .sums ≡ t .sums)
+  pub rest : spent .«largest_rest» ≡ t .largestRest
 
 pub record PairMade (n : ℕ) (t : PairSpectrum) (real imaginary w real′ imaginary′ w′ : List ℤ) (spent : Tally) : Type 0 where
   pub realWords : Written 0 n (t .real) real real′
   pub imaginaryWords : Written 0 n (t .imaginary) imaginary imaginary′
   pub cleared : Cleared w w′
   pub tallied : (spent .products ≡ t .products) × (spent .sums ≡ t .sums)
+  pub rest : spent .«largest_rest» ≡ t .largestRest

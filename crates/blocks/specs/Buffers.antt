@@ -10,7 +10,7 @@ use Rattle.words.specs.Words.{Samples, word, Written, TwoPut}
 use Rattle.ffct.specs.Block.{largestSum}
 use Rattle.ffct.specs.Transforms.{cosineBeyond, sineBeyond}
 use Rattle.counts.specs.declared.tally.Tally.{Tally}
-use Rattle.counts.specs.Tally.{Tallied, HasRoom}
+use Rattle.counts.specs.Tally.{Summed, HasRoom}
 
 -- the words from a place on
 abbrev pub wordsFrom : List ℤ → ℕ → Samples
@@ -31,7 +31,7 @@ pub record SumReady (w : List ℤ) (c s i j : ℕ) (out : List ℤ) (spent : Tal
 
 pub record SumPut (w : List ℤ) (c s i j : ℕ) (before after : List ℤ) (spent total : Tally) : Type 0 where
   pub both : TwoPut i j (word w c +ℤ word w s) (word w c -ℤ word w s) before after
-  pub tallied : Tallied 0 2 spent total
+  pub tallied : Summed 2 spent total
 
 -- ---- the DFTs of two blocks a and b of n samples, n/2 + 1 words each, one behind another from place `at` on: the cosine-DFT of a, its
 -- sine-DFT, the cosine-DFT of b, its sine-DFT
@@ -68,4 +68,4 @@ pub record PartsReady (n at : ℕ) (w real imaginary : List ℤ) (spent : Tally)
 pub record PartsPut (n at : ℕ) (w real imaginary real′ imaginary′ : List ℤ) (spent total : Tally) : Type 0 where
   pub realWords : Written 0 n (λ k. cosineBeyond n (cosineOfA n at w) k +ℤ sineBeyond n (sineOfB n at w) k) real real′
   pub imaginaryWords : Written 0 n (λ k. cosineBeyond n (cosineOfB n at w) k -ℤ sineBeyond n (sineOfA n at w) k) imaginary imaginary′
-  pub tallied : Tallied 0 (2 * (n - 2)) spent total
+  pub tallied : Summed (2 * (n - 2)) spent total

@@ -81,6 +81,7 @@ fn put_sum_and_difference(
     Tally {
         products: spent.products,
         sums: sums,
+        largest_rest: spent.largest_rest,
     }
 }
 

@@ -13,7 +13,7 @@ use Rattle.ffct.proofs.Steps.{cosine-products, cosine-sums, sine-products, sine
 use Rattle.ffct.proofs.Counts.{few-operations, published}
 use Rattle.ffct.proofs.ElevenLengths.{is-power, one-level, some-level, exponent-lt}
 use Rattle.counts.specs.Counts.{Costs, LevelCosts, SixCounts, SixPublished}
-use Rattle.counts.specs.declared.tally.Tally.{Tally}
+use Rattle.counts.specs.declared.cost.Cost.{Cost}
 use Rattle.counts.specs.declared.Level.{Level}
 use Rattle.counts.specs.declared.Counts.{Counts}
 
@@ -31,13 +31,13 @@ module _ {n : ℕ} {costs : Level} (l : LevelCosts n costs) where
   is-len : n ≡ 2 * len (l .below)
   is-len = l .is ∙ pow-len (suc (l .below))
 
-  abbrev C : Tally
+  abbrev C : Cost
   C = costs .cosine
 
-  abbrev S : Tally
+  abbrev S : Cost
   S = costs .sine
 
-  abbrev D : Tally
+  abbrev D : Cost
   D = costs .dct
 
   -- the counts at one block
@@ -60,7 +60,7 @@ module _ {n : ℕ} {costs : Level} (l : LevelCosts n costs) where
       omega (arith, at zeros, few-operations (suc (l .below)) zeros (omega arith), few-operations (l .below) zeros (omega arith))
 
   -- ---- the level above, by (24), (25) and (23)
-  module _ {t : Tally} where
+  module _ {t : Cost} where
     pub cosine-next : (t .products ≡ C .products + D .products) × (t .sums ≡ C .sums + D .sums + (n / 2 + n))
         → Costs cosineDft (suc (suc (l .below))) t
     cosine-next e = record {

@@ -6,14 +6,14 @@ use Rattle.words.specs.Words.{Samples}
 use Rattle.ffct.specs.Block.{level}
 use Rattle.ffct.specs.Transforms.{Transform, cosineDft, sineDft, dct, spectrum, pair}
 use Rattle.ffct.specs.Counts.{dctProducts, dctSums, spectrumProducts, spectrumSums, pairProducts, pairSums}
-use Rattle.counts.specs.declared.tally.Tally.{Tally}
+use Rattle.counts.specs.declared.cost.Cost.{Cost}
 use Rattle.counts.specs.declared.Level.{Level}
 use Rattle.counts.specs.declared.Counts.{Counts}
 
--- the tally is that of a transform of level L
-pub record Costs (transform : ℕ → Samples → Transform) (L : ℕ) (tally : Tally) : Type 0 where
-  pub products : (x : Samples) → tally .products ≡ transform L x .products
-  pub sums : (x : Samples) → tally .sums ≡ transform L x .sums
+-- the cost is that of a transform of level L
+pub record Costs (transform : ℕ → Samples → Transform) (L : ℕ) (cost : Cost) : Type 0 where
+  pub products : (x : Samples) → cost .products ≡ transform L x .products
+  pub sums : (x : Samples) → cost .sums ≡ transform L x .sums
 
 -- the counts of the cosine-DFT and the sine-DFT of n samples, n = 2 ^ suc L, and of the DCT of n / 2
 pub record LevelCosts (n : ℕ) (costs : Level) : Type 0 where

@@ -1,8 +1,9 @@
-// The tally of products and sums, and the counts of a length, by the recursions (21) to (26), level by level.
+// The tally of a call, and the counts of a length, by the recursions (21) to (26), level by level.
+pub mod cost;
 pub mod tally;
 
-use tally::Tally;
-use tally::plus;
+use cost::Cost;
+use cost::plus;
 ghost use mathlib.Core.Bool.{true};
 ghost use mathlib.Core.Path.{_≡_};
 ghost use Prim.Native.Nat.{_+_, _-_, _*_, _/_, _^_, _≤_};
@@ -11,27 +12,27 @@ ghost use Rattle.counts.specs.Counts.{LevelCosts, SixCounts};
 
 // The counts of one level: of the cosine-DFT and the sine-DFT of n samples, and of the DCT of n / 2.
 pub struct Level {
-    pub cosine: Tally,
-    pub sine: Tally,
-    pub dct: Tally,
+    pub cosine: Cost,
+    pub sine: Cost,
+    pub dct: Cost,
 }
 
 // The six counts that a query gives.
 pub struct Counts {
-    pub dct: Tally,
-    pub spectrum: Tally,
-    pub pair: Tally,
+    pub dct: Cost,
+    pub spectrum: Cost,
+    pub pair: Cost,
 }
 
 // (26): the cosine-DFT and the sine-DFT of two samples, and the DCT of one.
 fn first_level() -> Level
     ensures { λ r. ⌜ LevelCosts 2 r ⌝ }
 {
-    let none = Tally {
+    let none = Cost {
         products: 0,
         sums: 0,
     };
-    let two = Tally {
+    let two = Cost {
         products: 0,
         sums: 2,
     };
@@ -43,13 +44,13 @@ fn first_level() -> Level
 }
 
 // (23): the DCT of n samples, n at least 2.
-fn dct_counts(cosine: Tally, sine: Tally, n: u64) -> Tally
+fn dct_counts(cosine: Cost, sine: Cost, n: u64) -> Cost
     requires { ⌜ (2 ≤ n) × (n ≤ 1024) × (cosine .products + cosine .sums ≤ 2 ^ 16) × (sine .products + sine .sums ≤ 2 ^ 16) ⌝ }
     ensures { λ r. ⌜ (r .products ≡ cosine .products + sine .products + (3 * (n / 2 - 1) + 1))
         × (r .sums ≡ cosine .sums + sine .sums + 3 * (n / 2 - 1)) ⌝ }
 {
     let pairs = n / 2 - 1;
-    let rotation = Tally {
+    let rotation = Cost {
         products: 3 * pairs + 1,
         sums: 3 * pairs,
     };
@@ -61,11 +62,11 @@ fn next_level(level: Level, n: u64) -> Level
     requires { ⌜ LevelCosts n level × (2 ≤ n) × (n ≤ 512) ⌝ }
     ensures { λ r. ⌜ LevelCosts (2 * n) r ⌝ }
 {
-    let of_cosine = Tally {
+    let of_cosine = Cost {
         products: 0,
         sums: n / 2 + n,
     };
-    let of_sine = Tally {
+    let of_sine = Cost {
         products: 0,
         sums: n / 2 + (n - 2),
     };
@@ -97,7 +98,7 @@ fn six_counts(costs: Level, n: u64) -> Counts
     requires { ⌜ LevelCosts n costs × (isLength n ≡ true) × (2 ≤ n) × (n ≤ 1024) ⌝ }
     ensures { λ r. ⌜ SixCounts (level n) r ⌝ }
 {
-    let joining = Tally {
+    let joining = Cost {
         products: 0,
         sums: 2 * (n - 2),
     };
@@ -115,7 +116,7 @@ pub fn counts_of(n: usize) -> Counts
     ensures { λ r. ⌜ SixCounts (level n) r ⌝ }
 {
     if n == 1 {
-        let none = Tally {
+        let none = Cost {
             products: 0,
             sums: 0,
         };

@@ -4,19 +4,21 @@
 use mathlib.Core.Path.{_≡_, refl, sym, _∙_, ap, ap₂}
 use mathlib.Core.Logic.{_⊎_, inl, inr, ⊎-elim}
 use mathlib.Core.Bool.{cond}
-use Prim.Native.Nat.{ℕ, zero, suc, _+_, _*_, _-_, _/_, _^_, _<_, _≤_}
+use Prim.Native.Nat.{ℕ, zero, suc, _+_, _*_, _-_, _/_, _^_, _<_, _≤_, max}
 use native.Mathlib.Omega.{arith}
 use lib.Dec.{eqb}
 use lib.IntN.{ℤ, pos, negℤ, _+ℤ_, _-ℤ_, _*ℤ_}
 use Rattle.whole.proofs.Cases.{le-or-lt}
-use Rattle.whole.specs.Round.{round}
+use Rattle.whole.proofs.Largest.{largest-same}
+use Rattle.whole.specs.Round.{round, restSize}
 use Rattle.circle.specs.Circle.{T}
 use Rattle.words.specs.Words.{Samples}
 use Rattle.ffct.specs.Transforms.{evens, foldedSums, foldedDifferences, alternate, rearranged}
-use Rattle.ffct.specs.Transforms.{cosineBeyond, sineBeyond, dctBeyond, apart, rotated, dctBy, cosineDft, sineDft, dct, spectrum, pair}
+use Rattle.ffct.specs.Transforms.{cosineBeyond, sineBeyond, dctBeyond, apart, unrounded, rotated, rotationRest}
+use Rattle.ffct.specs.Transforms.{dctBy, cosineDft, sineDft, dct, spectrum, pair}
 use Rattle.ffct.proofs.Lengths.{len, pow-len, len-pos}
 use Rattle.ffct.proofs.Steps.{sine-step, cosine-low, cosine-high, sine-low, sine-high, dct-low, dct-middle, dct-high}
-use Rattle.ffct.proofs.Steps.{rearranged-source, rotated-zero, rotated-low, rotated-middle, rotated-high}
+use Rattle.ffct.proofs.Steps.{rearranged-source, rotated-zero, rotated-some, unrounded-low, unrounded-middle, unrounded-high}
 
 -- two blocks of level L are the same
 abbrev pub Same : ℕ → Samples → Samples → Type 0
@@ -33,7 +35,7 @@ DftSame L = (x y : Samples) → Same L x y → (cosineDft L x ≡ cosineDft L y)
 
 dct-same-of : (L : ℕ) → DftSame L → (x y : Samples) → Same L x y → dct L x ≡ dct L y
 unfolding dct dctBy
-dct-same-of zero H x y e = ap (λ z. record { at = λ k. z; products = 0; sums = 0 }) (e 0 (omega arith))
+dct-same-of zero H x y e = ap (λ z. record { at = λ k. z; products = 0; sums = 0; largestRest = 0 }) (e 0 (omega arith))
 dct-same-of (suc L) H x y e =
     let N = 2 ^ suc L in
     let moved = H (rearranged N x) (rearranged N y) (rw (pow-len (suc L)) (rearranged-same (len L) x y e)) in
@@ -41,13 +43,14 @@ dct-same-of (suc L) H x y e =
       at = rotated N (C .at) (S .at);
       products = C .products + S .products + (3 * (N / 2 - 1) + 1);
       sums = C .sums + S .sums + 3 * (N / 2 - 1);
+      largestRest = max (max (C .largestRest) (S .largestRest)) (rotationRest N (C .at) (S .at));
     }) (moved .0) (moved .1)
 
 pub dft-same : (L : ℕ) → DftSame L
 unfolding cosineDft dct
-dft-same zero x y e = (ap (λ z. record { at = λ k. z; products = 0; sums = 0 }) (e 0 (omega arith)), refl)
+dft-same zero x y e = (ap (λ z. record { at = λ k. z; products = 0; sums = 0; largestRest = 0 }) (e 0 (omega arith)), refl)
 dft-same (suc zero) x y e = (
-  ap₂ (λ u v. record { at = λ k. cond (eqb k 0) (u +ℤ v) (u -ℤ v); products = 0; sums = 2 }) (e 0 (omega arith)) (e 1 (omega arith)),
+  ap₂ (λ u v. record { at = λ k. cond (eqb k 0) (u +ℤ v) (u -ℤ v); products = 0; sums = 2; largestRest = 0 }) (e 0 (omega arith)) (e 1 (omega arith)),
   refl,
 )
 dft-same (suc (suc L)) x y e =
@@ -56,11 +59,13 @@ dft-same (suc (suc L)) x y e =
         at = λ k. cosineBeyond (N / 2) (even .at) k +ℤ dctBeyond (N / 4) (odd .at) k;
         products = even .products + odd .products;
         sums = even .sums + odd .sums + (N / 4 + N / 2);
+        largestRest = max (even .largestRest) (odd .largestRest);
       }) (dft-same (suc L) (evens x) (evens y) even-same .0) (dct-same-of L (dft-same L) (foldedSums N x) (foldedSums N y) sum-same),
       ap₂ (λ even odd. record {
         at = λ k. sineBeyond (N / 2) (even .at) k +ℤ dctBeyond (N / 4) (odd .at) (apart (N / 4) k);
         products = even .products + odd .products;
         sums = even .sums + odd .sums + (N / 4 + (N / 2 - 2));
+        largestRest = max (even .largestRest) (odd .largestRest);
       })
           (dft-same (suc L) (evens x) (evens y) even-same .1)
           (dct-same-of L (dft-same L) (foldedDifferences N x) (foldedDifferences N y) difference-same),
@@ -137,30 +142,33 @@ module _ (m : ℕ) (f g : ℕ → ℤ) (k : ℕ) (h : k ≤ 2 * m) where
       (λ l. dct-high m f k l ∙ ap negℤ (e _ (omega arith)) ∙ sym (dct-high m g k l))
       (le-or-lt k m)
 
--- and a rotated one from those of both DFTs
-pub rotated-same : (m w : ℕ) (C C′ S S′ : ℕ → ℤ) → 2 * m * w ≡ 1024 → ((j : ℕ) → j ≤ m → C j ≡ C′ j) → ((j : ℕ) → j ≤ m → S j ≡ S′ j) →
-    (k : ℕ) → k < 2 * m → rotated (2 * m) C S k ≡ rotated (2 * m) C′ S′ k
-rotated-same m w C C′ S S′ q e d k h = ⊎-elim
-    (λ l. ⊎-elim (λ l₂. middle (omega arith)) (λ l₂. ⊎-elim (λ l₃. zeroth (omega arith)) (λ l₃. low l₃ l₂) (le-or-lt k 0)) (le-or-lt m k))
-    high (le-or-lt k m)
-  where
-    zeroth : k ≡ 0 → rotated (2 * m) C S k ≡ rotated (2 * m) C′ S′ k
-    zeroth l = rotated-zero m w C S q k l ∙ e 0 (omega arith) ∙ sym (rotated-zero m w C′ S′ q k l)
+-- and a rotated one from those of both DFTs, value and rest
+module _ (m w : ℕ) (C C′ S S′ : ℕ → ℤ) (q : 2 * m * w ≡ 1024) (e : (j : ℕ) → j ≤ m → C j ≡ C′ j) (d : (j : ℕ) → j ≤ m → S j ≡ S′ j) where
+  unrounded-same : (k : ℕ) → k < 2 * m → unrounded (2 * m) C S k ≡ unrounded (2 * m) C′ S′ k
+  unrounded-same k h = ⊎-elim (λ l. ⊎-elim (λ g. middle (omega arith)) low (le-or-lt m k)) high (le-or-lt k m)
+    where
+      low : k < m → unrounded (2 * m) C S k ≡ unrounded (2 * m) C′ S′ k
+      low l =
+          unrounded-low m w C S q k l
+          ∙ ap₂ (λ u v. T (k * w) *ℤ u -ℤ T (1024 - k * w) *ℤ v) (e k (omega arith)) (d k (omega arith))
+          ∙ sym (unrounded-low m w C′ S′ q k l)
 
-    low : 0 < k → k < m → rotated (2 * m) C S k ≡ rotated (2 * m) C′ S′ k
-    low l l₂ =
-        rotated-low m w C S q k l l₂
-        ∙ ap₂ (λ u v. round (T (k * w) *ℤ u -ℤ T (1024 - k * w) *ℤ v)) (e k (omega arith)) (d k (omega arith))
-        ∙ sym (rotated-low m w C′ S′ q k l l₂)
+      middle : k ≡ m → unrounded (2 * m) C S k ≡ unrounded (2 * m) C′ S′ k
+      middle l =
+          unrounded-middle m w C S q k l ∙ ap (λ u. T 512 *ℤ u) (e m (omega arith)) ∙ sym (unrounded-middle m w C′ S′ q k l)
 
-    middle : k ≡ m → rotated (2 * m) C S k ≡ rotated (2 * m) C′ S′ k
-    middle l =
-        rotated-middle m w C S q k (omega arith) l
-        ∙ ap (λ u. round (T 512 *ℤ u)) (e m (omega arith))
-        ∙ sym (rotated-middle m w C′ S′ q k (omega arith) l)
+      high : m < k → unrounded (2 * m) C S k ≡ unrounded (2 * m) C′ S′ k
+      high l =
+          unrounded-high m w C S q k l
+          ∙ ap₂ (λ u v. T (1024 - (2 * m - k) * w) *ℤ u +ℤ T ((2 * m - k) * w) *ℤ v) (e _ (omega arith)) (d _ (omega arith))
+          ∙ sym (unrounded-high m w C′ S′ q k l)
 
-    high : m < k → rotated (2 * m) C S k ≡ rotated (2 * m) C′ S′ k
-    high l =
-        rotated-high m w C S q k l
-        ∙ ap₂ (λ u v. round (T (1024 - (2 * m - k) * w) *ℤ u +ℤ T ((2 * m - k) * w) *ℤ v)) (e _ (omega arith)) (d _ (omega arith))
-        ∙ sym (rotated-high m w C′ S′ q k l)
+  pub rotated-same : (k : ℕ) → k < 2 * m → rotated (2 * m) C S k ≡ rotated (2 * m) C′ S′ k
+  rotated-same k h = ⊎-elim
+      (λ l. rotated-zero (2 * m) C S k (omega arith) ∙ e 0 (omega arith) ∙ sym (rotated-zero (2 * m) C′ S′ k (omega arith)))
+      (λ l. rotated-some (2 * m) C S k l ∙ ap round (unrounded-same k h) ∙ sym (rotated-some (2 * m) C′ S′ k l))
+      (le-or-lt k 0)
+
+  pub rotation-rest-same : rotationRest (2 * m) C S ≡ rotationRest (2 * m) C′ S′
+  unfolding rotationRest
+  rotation-rest-same = largest-same (2 * m - 1) _ _ (λ i h. ap restSize (unrounded-same (i + 1) (omega arith)))

@@ -13,3 +13,4 @@ pub mod Tables
 pub mod Limits
 pub mod Sizes
 pub mod Blocks
+pub mod Rests

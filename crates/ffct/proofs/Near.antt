@@ -25,7 +25,8 @@ use Rattle.ffct.specs.Transforms.{evens, foldedSums, foldedDifferences, 
 use Rattle.ffct.specs.Transforms.{cosineBeyond, sineBeyond, dctBeyond, apart, rotated, cosineDft, sineDft, dct}
 use Rattle.ffct.proofs.Lengths.{len}
 use Rattle.ffct.proofs.Steps.{cosine-low, cosine-high, sine-low, sine-high, dct-low, dct-middle, dct-high, rearranged-source}
-use Rattle.ffct.proofs.Steps.{rotated-zero, rotated-low, rotated-middle, rotated-high, cosine-step, sine-step, dct-step, dct-one}
+use Rattle.ffct.proofs.Steps.{rotated-zero, rotated-some, unrounded-low, unrounded-middle, unrounded-high}
+use Rattle.ffct.proofs.Steps.{cosine-step, sine-step, dct-step, dct-one}
 use Rattle.ffct.proofs.Sums.{cosSum, sinSum, dctSum, cos-size, sin-size, cos-mirror, sin-mirror, dct-mirror, sin-middle, dct-end}
 use Rattle.ffct.proofs.Splits.{cos-split, sin-split, dct-rearranged, turned}
 use Rattle.ffct.proofs.Rotation.{rotation-error}
@@ -171,16 +172,16 @@ module _ (m w : ℕ) (y C S : ℕ → ℤ) (X e : ℕ) (q : 2 * m * w ≡ 1024) 
       E = λ k. Near (rotated (2 * m) C S k) (dctSum w (2 * m) y k) (rotationError (2 * m) X e)
 
       zeroth : k ≡ 0 → E k
-      zeroth l = rw (rotated-zero m w C S q k l, ap (dctSum w (2 * m) y) l) at-zero
+      zeroth l = rw (rotated-zero (2 * m) C S k l, ap (dctSum w (2 * m) y) l) at-zero
 
       low : 0 < k → k < m → E k
-      low l l₂ = rw (rotated-low m w C S q k l l₂) (at-low k (omega arith))
+      low l l₂ = rw (rotated-some (2 * m) C S k l, unrounded-low m w C S q k l₂) (at-low k (omega arith))
 
       middle : k ≡ m → E k
-      middle l = rw (rotated-middle m w C S q k (omega arith) l, ap (dctSum w (2 * m) y) l) at-middle
+      middle l = rw (rotated-some (2 * m) C S k (omega arith), unrounded-middle m w C S q k l, ap (dctSum w (2 * m) y) l) at-middle
 
       high : m < k → E k
-      high l = rw (rotated-high m w C S q k l) (at-high k (2 * m - k) (omega arith) (omega arith))
+      high l = rw (rotated-some (2 * m) C S k (omega arith), unrounded-high m w C S q k l) (at-high k (2 * m - k) (omega arith) (omega arith))
 
 -- ---- one and two samples: no error
 no-gap : (z : ℤ) → z -ℤ z within 0

@@ -2,7 +2,7 @@
 -- Assumes nothing.
 use mathlib.Core.Path.{_≡_, refl, _∙_, ap}
 use mathlib.Core.Logic.{⊎-elim}
-use Prim.Native.Nat.{ℕ, suc, _+_, _*_, _-_, _/_, _^_, _≤_, _<_}
+use Prim.Native.Nat.{ℕ, suc, _+_, _*_, _-_, _/_, _^_, _≤_, _<_, max}
 use native.Mathlib.Omega.{arith}
 use lib.IntN.{ℤ, pos, negℤ, _+ℤ_, _-ℤ_, _*ℤ_}
 use borrow.Author.Tests.{lt-ltb, le-ltb, le-leb, lt-leb, eq-eqb, ne-eqb}
@@ -11,7 +11,8 @@ use Rattle.whole.specs.Round.{round}
 use Rattle.circle.specs.Circle.{T}
 use Rattle.words.specs.Words.{Samples}
 use Rattle.ffct.specs.Transforms.{Transform, evens, foldedSums, foldedDifferences, rearranged}
-use Rattle.ffct.specs.Transforms.{cosineBeyond, sineBeyond, dctBeyond, apart, rotated, dctBy, cosineDft, sineDft, dct}
+use Rattle.ffct.specs.Transforms.{cosineBeyond, sineBeyond, dctBeyond, apart, unrounded, rotated, rotationRest}
+use Rattle.ffct.specs.Transforms.{dctBy, cosineDft, sineDft, dct}
 use Rattle.ffct.proofs.Lengths.{len, pow-len, quotient}
 
 -- ---- coefficients out of range
@@ -70,25 +71,29 @@ module _ (m w : ℕ) (C S : ℕ → ℤ) (q : 2 * m * w ≡ 1024) (k : ℕ) wher
   place : (j : ℕ) → 1024 * j / (2 * m) ≡ j * w
   place j = quotient (2 * m) w (j * w) (1024 * j) q (omega (arith, ap (λ n. n * j) q))
 
-  pub rotated-zero : k ≡ 0 → rotated (2 * m) C S k ≡ C 0
+  pub unrounded-low : k < m → unrounded (2 * m) C S k ≡ T (k * w) *ℤ C k -ℤ T (1024 - k * w) *ℤ S k
+  unfolding unrounded
+  unrounded-low h = rw (lt-ltb k (2 * m / 2) (omega arith), place k)
+
+  pub unrounded-middle : k ≡ m → unrounded (2 * m) C S k ≡ T 512 *ℤ C m
+  unfolding unrounded
+  unrounded-middle h =
+      rw (le-ltb k (2 * m / 2) (omega arith), eq-eqb k (2 * m / 2) (omega arith))
+      (ap (λ j. T 512 *ℤ C j) {x = 2 * m / 2} {y = m} (omega arith))
+
+  pub unrounded-high : m < k →
+      unrounded (2 * m) C S k ≡ T (1024 - (2 * m - k) * w) *ℤ C (2 * m - k) +ℤ T ((2 * m - k) * w) *ℤ S (2 * m - k)
+  unfolding unrounded
+  unrounded-high h = rw (le-ltb k (2 * m / 2) (omega arith), ne-eqb k (2 * m / 2) (λ e. omega arith), place (2 * m - k))
+
+module _ (N : ℕ) (C S : ℕ → ℤ) (k : ℕ) where
+  pub rotated-zero : k ≡ 0 → rotated N C S k ≡ C 0
   unfolding rotated
   rotated-zero h = rw (eq-eqb k 0 h)
 
-  pub rotated-low : 0 < k → k < m → rotated (2 * m) C S k ≡ round (T (k * w) *ℤ C k -ℤ T (1024 - k * w) *ℤ S k)
+  pub rotated-some : 0 < k → rotated N C S k ≡ round (unrounded N C S k)
   unfolding rotated
-  rotated-low l h = rw (ne-eqb k 0 (λ e. omega arith), lt-ltb k (2 * m / 2) (omega arith), place k)
-
-  pub rotated-middle : 0 < k → k ≡ m → rotated (2 * m) C S k ≡ round (T 512 *ℤ C m)
-  unfolding rotated
-  rotated-middle l h =
-      rw (ne-eqb k 0 (λ e. omega arith), le-ltb k (2 * m / 2) (omega arith), eq-eqb k (2 * m / 2) (omega arith))
-      (ap (λ j. round (T 512 *ℤ C j)) {x = 2 * m / 2} {y = m} (omega arith))
-
-  pub rotated-high : m < k →
-      rotated (2 * m) C S k ≡ round (T (1024 - (2 * m - k) * w) *ℤ C (2 * m - k) +ℤ T ((2 * m - k) * w) *ℤ S (2 * m - k))
-  unfolding rotated
-  rotated-high h =
-      rw (ne-eqb k 0 (λ e. omega arith), le-ltb k (2 * m / 2) (omega arith), ne-eqb k (2 * m / 2) (λ e. omega arith), place (2 * m - k))
+  rotated-some h = rw (ne-eqb k 0 (λ e. omega arith))
 
 -- ---- the transforms
 four : (L : ℕ) → 2 ^ suc (suc L) ≡ 4 * len L
@@ -121,7 +126,7 @@ module _ (L : ℕ) (x : Samples) (k : ℕ) where
   unfolding dct dctBy
   dct-one = refl
 
--- ---- the counts of the steps
+-- ---- the counts and the largest rests of the steps
 module _ (L : ℕ) (x : Samples) where
   abbrev cosineEven : Transform
   cosineEven = cosineDft (suc L) (evens x)
@@ -143,6 +148,10 @@ module _ (L : ℕ) (x : Samples) where
   unfolding cosineDft dct
   cosine-sums = rw (four L, half (len L), fourth (len L))
 
+  pub cosine-rest : cosineDft (suc (suc L)) x .largestRest ≡ max (cosineEven .largestRest) (cosineOdd .largestRest)
+  unfolding cosineDft dct
+  cosine-rest = rw (four L)
+
   pub sine-products : sineDft (suc (suc L)) x .products ≡ sineEven .products + sineOdd .products
   unfolding sineDft dct
   sine-products = rw (four L)
@@ -150,6 +159,10 @@ module _ (L : ℕ) (x : Samples) where
   pub sine-sums : sineDft (suc (suc L)) x .sums ≡ sineEven .sums + sineOdd .sums + (len L + (2 * len L - 2))
   unfolding sineDft dct
   sine-sums = rw (four L, half (len L), fourth (len L))
+
+  pub sine-rest : sineDft (suc (suc L)) x .largestRest ≡ max (sineEven .largestRest) (sineOdd .largestRest)
+  unfolding sineDft dct
+  sine-rest = rw (four L)
 
   abbrev moved : Samples
   moved = rearranged (2 * len L) x
@@ -161,3 +174,9 @@ module _ (L : ℕ) (x : Samples) where
   pub dct-sums : dct (suc L) x .sums ≡ cosineDft (suc L) moved .sums + sineDft (suc L) moved .sums + 3 * (len L - 1)
   unfolding dct dctBy
   dct-sums = rw (pow-len (suc L)) (omega arith)
+
+  pub dct-rest : dct (suc L) x .largestRest
+      ≡ max (max (cosineDft (suc L) moved .largestRest) (sineDft (suc L) moved .largestRest))
+      (rotationRest (2 * len L) (cosineDft (suc L) moved .at) (sineDft (suc L) moved .at))
+  unfolding dct dctBy
+  dct-rest = rw (pow-len (suc L))

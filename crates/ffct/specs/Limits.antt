@@ -1,5 +1,5 @@
 -- What is proved of the definitions, as statements: demand 3 and the sizes of coefficients for every accepted block (proofs/Limits, Sizes),
--- the counts for every block (proofs/Counts).
+-- the counts and the largest rest for every block (proofs/Counts, Rests).
 use mathlib.Core.Path.{_≡_}
 use Prim.Native.Nat.{ℕ, _/_, _^_, _≤_, _<_}
 use lib.IntN.{pos}
@@ -54,3 +54,12 @@ pub record PublishedCounts (L : ℕ) : Type 0 where
   pub pairS : (a b : Samples) → 1 ≤ L → pos (pair L a b .sums) ≡ pairSums L
   pub spectrumAtOne : (x : Samples) → L ≡ 0 → (spectrum L x .products ≡ 0) × (spectrum L x .sums ≡ 0)
   pub pairAtOne : (a b : Samples) → L ≡ 0 → (pair L a b .products ≡ 0) × (pair L a b .sums ≡ 0)
+
+-- no rest is larger than 2^29; nothing is rounded by the DCT of one sample, nor by Spectrum and Pair of fewer than 8
+pub record RestLimits (L : ℕ) (x : Samples) : Type 0 where
+  pub dctSmall : dct L x .largestRest ≤ 2 ^ 29
+  pub spectrumSmall : spectrum L x .largestRest ≤ 2 ^ 29
+  pub pairSmall : (y : Samples) → pair L x y .largestRest ≤ 2 ^ 29
+  pub dctNone : L ≡ 0 → dct L x .largestRest ≡ 0
+  pub spectrumNone : 2 ^ L < 8 → spectrum L x .largestRest ≡ 0
+  pub pairNone : (y : Samples) → 2 ^ L < 8 → pair L x y .largestRest ≡ 0

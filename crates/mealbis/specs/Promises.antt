@@ -23,46 +23,48 @@ use Rattle.pairfile.specs.Promises.{ReadPromise, WritePromise}
 
 -- ---- the calls on recordings
 
--- The answer of a call in four plain numbers. By their definitions the counts are 0 in every refusal, and the place is 0 in every answer
--- but refusal 6.
-pub record Told (answer : Answer) (products sums place number : ℕ) : Type 0 where
+-- The answer of a call in five plain numbers. By their definitions the counts and the largest rest are 0 in every refusal, and the place is
+-- 0 in every answer but refusal 6.
+pub record Told (answer : Answer) (products sums largestRest place number : ℕ) : Type 0 where
   pub number-is : number ≡ numberOf (verdictOf answer)
   pub products-is : products ≡ spent answer .products
   pub sums-is : sums ≡ spent answer .sums
+  pub rest-is : largestRest ≡ spent answer .«largest_rest»
   pub place-is : place ≡ placeOf answer
 
 -- There is an answer of which the promise of Spectrum holds, with these buffers before and after, and it is the answer told.
 pub record SpectrumTold (recording : List ℤ) (start N allowance : ℕ)
-    (cosine sine scratch cosine′ sine′ scratch′ : List ℤ) (products′ sums′ place′ number : ℕ) : Type 0 where
+    (cosine sine scratch cosine′ sine′ scratch′ : List ℤ) (products′ sums′ largestRest′ place′ number : ℕ) : Type 0 where
   pub answer : Answer
   pub promise : SpectrumPromise recording start N allowance cosine sine scratch cosine′ sine′ scratch′ answer
-  pub told : Told answer products′ sums′ place′ number
+  pub told : Told answer products′ sums′ largestRest′ place′ number
 
 -- The same of Cosine.
 pub record CosineTold (recording : List ℤ) (start N allowance : ℕ)
-    (coefficients scratch coefficients′ scratch′ : List ℤ) (products′ sums′ place′ number : ℕ) : Type 0 where
+    (coefficients scratch coefficients′ scratch′ : List ℤ) (products′ sums′ largestRest′ place′ number : ℕ) : Type 0 where
   pub answer : Answer
   pub promise : CosinePromise recording start N allowance coefficients scratch coefficients′ scratch′ answer
-  pub told : Told answer products′ sums′ place′ number
+  pub told : Told answer products′ sums′ largestRest′ place′ number
 
 -- The same of Pair.
 pub record PairTold (a b : List ℤ) (start N allowance : ℕ)
-    (real imaginary scratch real′ imaginary′ scratch′ : List ℤ) (products′ sums′ place′ number : ℕ) : Type 0 where
+    (real imaginary scratch real′ imaginary′ scratch′ : List ℤ) (products′ sums′ largestRest′ place′ number : ℕ) : Type 0 where
   pub answer : Answer
   pub promise : PairPromise a b start N allowance real imaginary scratch real′ imaginary′ scratch′ answer
-  pub told : Told answer products′ sums′ place′ number
+  pub told : Told answer products′ sums′ largestRest′ place′ number
 
 -- ---- the mark of a block
 
--- There is an answer of which the promise of the mark holds, with these buffers before and after, and it is the answer told. The counts and
--- the mark are 0 in every refusal, and the place is 0 in every answer but refusal 6.
+-- There is an answer of which the promise of the mark holds, with these buffers before and after, and it is the answer told. The counts,
+-- the largest rest and the mark are 0 in every refusal, and the place is 0 in every answer but refusal 6.
 pub record MarkTold (recording : List ℤ) (start N allowance : ℕ) (flatLimit clipLevel : ℤ)
-    (cosine sine scratch cosine′ sine′ scratch′ : List ℤ) (products′ sums′ place′ mark′ number : ℕ) : Type 0 where
+    (cosine sine scratch cosine′ sine′ scratch′ : List ℤ) (products′ sums′ largestRest′ place′ mark′ number : ℕ) : Type 0 where
   pub answer : MarkAnswer
   pub promise : MarkPromise recording start N allowance flatLimit clipLevel cosine sine scratch cosine′ sine′ scratch′ answer
   pub number-is : number ≡ numberOf (marked.verdictOf answer)
   pub products-is : products′ ≡ marked.spent answer .products
   pub sums-is : sums′ ≡ marked.spent answer .sums
+  pub rest-is : largestRest′ ≡ marked.spent answer .«largest_rest»
   pub place-is : place′ ≡ marked.place answer
   pub mark-is : mark′ ≡ marked.markNumber answer
 

@@ -1,5 +1,5 @@
 // The calls for programs in C and in Rust: plain numbers, slices as pointer and length, and the answer as the number of document 01 or 02,
-// 0 where the call is accepted. Counts, sizes and place come back through lent words, which are written in every answer. No function asks
+// 0 where the call is accepted. Counts, the largest rest, sizes and place come back through lent words, which are written in every answer. No function asks
 // anything of its input, and each promises the record of the call that it makes (specs/Promises.antt). include/mealbis.h is written for
 // who calls them.
 pub mod version;
@@ -16,12 +16,19 @@ ghost use Rattle.mealbis.specs.Promises.{InverseTold, FileTold, ReadTold
 // ---- answers
 
 // An answer written to lent words, and its number.
-fn tell(answer: Answer, products: &mut u64, sums: &mut u64, place: &mut usize) -> u32
-    ensures { λ r. ⌜ Told answer (now (products .exit)) (now (sums .exit)) (now (place .exit)) r ⌝ }
+fn tell(
+    answer: Answer,
+    products: &mut u64,
+    sums: &mut u64,
+    largest_rest: &mut u64,
+    place: &mut usize,
+) -> u32
+    ensures { λ r. ⌜ Told answer (now (products .exit)) (now (sums .exit)) (now («largest_rest» .exit)) (now (place .exit)) r ⌝ }
 {
     let spent = spectra::spent_of(answer);
     *products = spent.products;
     *sums = spent.sums;
+    *largest_rest = spent.largest_rest;
     *place = spectra::place_of(answer);
     spectra::number_of(answer)
 }
@@ -50,15 +57,16 @@ pub extern "C" fn mealbis_spectrum(
     scratch: &mut [i64],
     products: &mut u64,
     sums: &mut u64,
+    largest_rest: &mut u64,
     place: &mut usize,
 ) -> u32
     ensures { λ r. ⌜ SpectrumTold (now (recording .entry)) start length allowance
         (now (cosine .entry)) (now (sine .entry)) (now (scratch .entry))
         (now (cosine .exit)) (now (sine .exit)) (now (scratch .exit))
-        (now (products .exit)) (now (sums .exit)) (now (place .exit)) r ⌝ }
+        (now (products .exit)) (now (sums .exit)) (now («largest_rest» .exit)) (now (place .exit)) r ⌝ }
 {
     let answer = spectra::spectrum(recording, start, length, allowance, cosine, sine, scratch);
-    tell(answer, products, sums, place)
+    tell(answer, products, sums, largest_rest, place)
 }
 
 #[no_mangle]
@@ -71,15 +79,16 @@ pub extern "C" fn mealbis_cosine(
     scratch: &mut [i64],
     products: &mut u64,
     sums: &mut u64,
+    largest_rest: &mut u64,
     place: &mut usize,
 ) -> u32
     ensures { λ r. ⌜ CosineTold (now (recording .entry)) start length allowance
         (now (coefficients .entry)) (now (scratch .entry))
         (now (coefficients .exit)) (now (scratch .exit))
-        (now (products .exit)) (now (sums .exit)) (now (place .exit)) r ⌝ }
+        (now (products .exit)) (now (sums .exit)) (now («largest_rest» .exit)) (now (place .exit)) r ⌝ }
 {
     let answer = spectra::cosine(recording, start, length, allowance, coefficients, scratch);
-    tell(answer, products, sums, place)
+    tell(answer, products, sums, largest_rest, place)
 }
 
 #[no_mangle]
@@ -94,15 +103,16 @@ pub extern "C" fn mealbis_pair(
     scratch: &mut [i64],
     products: &mut u64,
     sums: &mut u64,
+    largest_rest: &mut u64,
     place: &mut usize,
 ) -> u32
     ensures { λ r. ⌜ PairTold (now (a .entry)) (now (b .entry)) start length allowance
         (now (real .entry)) (now (imaginary .entry)) (now (scratch .entry))
         (now (real .exit)) (now (imaginary .exit)) (now (scratch .exit))
-        (now (products .exit)) (now (sums .exit)) (now (place .exit)) r ⌝ }
+        (now (products .exit)) (now (sums .exit)) (now («largest_rest» .exit)) (now (place .exit)) r ⌝ }
 {
     let answer = spectra::pair(a, b, start, length, allowance, real, imaginary, scratch);
-    tell(answer, products, sums, place)
+    tell(answer, products, sums, largest_rest, place)
 }
 
 // Spectrum, and the mark of its block by the owner's two figures.
@@ -119,13 +129,14 @@ pub extern "C" fn mealbis_mark(
     scratch: &mut [i64],
     products: &mut u64,
     sums: &mut u64,
+    largest_rest: &mut u64,
     place: &mut usize,
     mark: &mut u32,
 ) -> u32
     ensures { λ r. ⌜ MarkTold (now (recording .entry)) start length allowance «flat_limit» «clip_level»
         (now (cosine .entry)) (now (sine .entry)) (now (scratch .entry))
         (now (cosine .exit)) (now (sine .exit)) (now (scratch .exit))
-        (now (products .exit)) (now (sums .exit)) (now (place .exit)) (now (mark .exit)) r ⌝ }
+        (now (products .exit)) (now (sums .exit)) (now («largest_rest» .exit)) (now (place .exit)) (now (mark .exit)) r ⌝ }
 {
     let answer = marks::mark_block(
         recording,
@@ -141,6 +152,7 @@ pub extern "C" fn mealbis_mark(
     let tally = marks::spent_of(answer);
     *products = tally.products;
     *sums = tally.sums;
+    *largest_rest = tally.largest_rest;
     *place = marks::place_of(answer);
     *mark = marks::mark_of(answer);
     marks::number_of(answer)

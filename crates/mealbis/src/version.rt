@@ -4,7 +4,7 @@ ghost use mathlib.Core.Path.{_≡_};
 
 #[no_mangle]
 pub extern "C" fn mealbis_version() -> u32
-    ensures { λ r. ⌜ r ≡ 10300 ⌝ }
+    ensures { λ r. ⌜ r ≡ 20000 ⌝ }
 {
-    10300
+    20000
 }

@@ -113,6 +113,7 @@ module _ (scratch : List ℤ) {N m allowance start : ℕ} (is : m ≡ scratchWor
           near = λ k h. rw (front (made .words) k h) ((rw (sym (is-power N (fit-x .length-ok))) at near) k h);
           scratchCleared = put-back is (omega (arith, is, passed .scratch)) (made .cleared);
           tallied = made .tallied;
+          rest = made .rest;
           published = (ap pos products ∙ forms .dctP x, ap pos sums ∙ forms .dctS x);
           allowed = omega (arith, products, passed .allowance);
         })
@@ -149,6 +150,7 @@ module _ (scratch : List ℤ) {N m allowance start : ℕ} (is : m ≡ scratchWor
           sineNear = λ k h. rw (front (made .sineWords) k (omega (arith, h))) ((rw power at (near .sine)) k h);
           scratchCleared = put-back is (omega (arith, is, passed .scratch)) (made .cleared);
           tallied = made .tallied;
+          rest = made .rest;
           published = λ h. let some = some-level N (fit-r .length-ok) h in
               (ap pos products ∙ forms .spectrumP x some, ap pos sums ∙ forms .spectrumS x some);
           nothingAtOne = λ e. omega (arith, made .tallied, forms .spectrumAtOne x (one-level N e));
@@ -194,6 +196,7 @@ module _ (scratch : List ℤ) {N m allowance start : ℕ} (is : m ≡ scratchWor
           imaginaryNear = λ k h. rw (front (made .imaginaryWords) k h) ((rw power at (near .imaginary)) k h);
           scratchCleared = put-back is (omega (arith, is, passed .scratch)) (made .cleared);
           tallied = made .tallied;
+          rest = made .rest;
           published = λ h. let some = some-level N (fit-a .length-ok) h in
               (ap pos products ∙ forms .pairP x y some, ap pos sums ∙ forms .pairS x y some);
           nothingAtOne = λ e. omega (arith, made .tallied, forms .pairAtOne x y (one-level N e));

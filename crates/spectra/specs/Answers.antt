@@ -1,6 +1,7 @@
 -- The answers of the calls, by document 01's numbers and values.
 use Prim.Native.Nat.{ℕ}
 use Rattle.counts.specs.declared.tally.Tally.{Tally}
+use Rattle.counts.specs.declared.cost.Cost.{Cost}
 use Rattle.counts.specs.declared.Counts.{Counts}
 use Rattle.refusals.specs.Refusals.{Verdict, refused, accepted}
 use Rattle.refusals.specs.Tests as refusal
@@ -13,9 +14,9 @@ abbrev pub verdictOf : Answer → Verdict
 verdictOf (Refused r) = refusal.verdictOf r
 verdictOf (Done tally) = accepted
 
--- the counts that an accepted call spent; else none
+-- the counts that an accepted call spent, and its largest rest; else none
 abbrev pub none : Tally
-none = record { products = 0; sums = 0 }
+none = record { products = 0; sums = 0; «largest_rest» = 0 }
 
 abbrev pub spent : Answer → Tally
 spent (Refused r) = none
@@ -32,6 +33,9 @@ verdictOfCounts BadLength = refused 1
 verdictOfCounts (Counted counts) = accepted
 
 -- the six counts of a length; else none
+abbrev pub noCost : Cost
+noCost = record { products = 0; sums = 0 }
+
 abbrev pub countsOf : CountsAnswer → Counts
-countsOf BadLength = record { dct = none; spectrum = none; pair = none }
+countsOf BadLength = record { dct = noCost; spectrum = noCost; pair = noCost }
 countsOf (Counted counts) = counts

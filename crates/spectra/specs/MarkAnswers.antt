@@ -14,7 +14,7 @@ verdictOf (Refused r) = refusal.verdictOf r
 verdictOf BadFigures = refused 12
 verdictOf (Marked mark tally) = accepted
 
--- the counts that an accepted call spent; else none
+-- the counts that an accepted call spent, and its largest rest; else none
 abbrev pub spent : MarkAnswer → Tally
 spent (Refused r) = none
 spent BadFigures = none

@@ -48,6 +48,7 @@ pub record SpectrumDone (N : ℕ) (x : Samples) (allowance : ℕ)
   pub sineNear : (k : ℕ) → k ≤ N / 2 → Within (eighth N) (word sine′ k) (exactSine N x k)
   pub scratchCleared : Written 0 (scratchWords N) (λ k. pos 0) scratch scratch′
   pub tallied : (spent .products ≡ spectrumOf (level N) x .products) × (spent .sums ≡ spectrumOf (level N) x .sums)
+  pub rest : spent .«largest_rest» ≡ spectrumOf (level N) x .largestRest
   pub published : 2 ≤ N → (pos (spent .products) ≡ spectrumProducts (level N)) × (pos (spent .sums) ≡ spectrumSums (level N))
   pub nothingAtOne : N ≡ 1 → (spent .products ≡ 0) × (spent .sums ≡ 0)
   pub allowed : spent .products ≤ allowance
@@ -80,6 +81,7 @@ pub record CosineDone (N : ℕ) (x : Samples) (allowance : ℕ)
   pub near : (k : ℕ) → k < N → Within (quarterOfNext N) (word coefficients′ k) (exactDct N x k)
   pub scratchCleared : Written 0 (scratchWords N) (λ k. pos 0) scratch scratch′
   pub tallied : (spent .products ≡ dctOf (level N) x .products) × (spent .sums ≡ dctOf (level N) x .sums)
+  pub rest : spent .«largest_rest» ≡ dctOf (level N) x .largestRest
   pub published : (pos (spent .products) ≡ dctProducts (level N)) × (pos (spent .sums) ≡ dctSums (level N))
   pub allowed : spent .products ≤ allowance
 
@@ -114,6 +116,7 @@ pub record PairDone (N : ℕ) (x y : Samples) (allowance : ℕ)
   pub imaginaryNear : (k : ℕ) → k < N → Within (quarter N) (word imaginary′ k) (exactImaginary N x y k)
   pub scratchCleared : Written 0 (scratchWords N) (λ k. pos 0) scratch scratch′
   pub tallied : (spent .products ≡ pairOf (level N) x y .products) × (spent .sums ≡ pairOf (level N) x y .sums)
+  pub rest : spent .«largest_rest» ≡ pairOf (level N) x y .largestRest
   pub published : 2 ≤ N → (pos (spent .products) ≡ pairProducts (level N)) × (pos (spent .sums) ≡ pairSums (level N))
   pub nothingAtOne : N ≡ 1 → (spent .products ≡ 0) × (spent .sums ≡ 0)
   pub allowed : spent .products ≤ allowance

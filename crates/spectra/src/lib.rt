@@ -7,6 +7,7 @@ use blocks::pair_of;
 use blocks::spectrum_of;
 use counts::Counts;
 use counts::counts_of;
+use counts::tally::NONE;
 use counts::tally::Tally;
 use refusals::call;
 use refusals::call::Refusal;
@@ -27,7 +28,7 @@ ghost use Rattle.spectra.specs.Answers.{verdictOf, spent, place};
 ghost use Rattle.spectra.specs.Promises.{spectrumCall, pairCall};
 ghost use Rattle.spectra.specs.Promises.{SpectrumPromise, CosinePromise, PairPromise, CountsPromise};
 
-// The answer of a call on recordings: a refusal, or the counts that were spent.
+// The answer of a call on recordings: a refusal, or the counts that were spent and the largest rest.
 pub enum Answer {
     Refused(Refusal),
     Done(Tally),
@@ -224,16 +225,14 @@ pub fn number_of(answer: Answer) -> u32
     }
 }
 
-// The counts that an accepted call spent; else 0 and 0.
+// The counts that an accepted call spent, and its largest rest; else 0 for each.
 pub fn spent_of(answer: Answer) -> Tally
-    ensures { λ r. ⌜ (r .products ≡ spent answer .products) × (r .sums ≡ spent answer .sums) ⌝ }
+    ensures { λ r. ⌜ (r .products ≡ spent answer .products) × (r .sums ≡ spent answer .sums)
+        × (r .«largest_rest» ≡ spent answer .«largest_rest») ⌝ }
 {
     match answer {
         Answer::Done(tally) => tally,
-        Answer::Refused(_) => Tally {
-            products: 0,
-            sums: 0,
-        },
+        Answer::Refused(_) => NONE,
     }
 }
 

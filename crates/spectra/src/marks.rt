@@ -2,6 +2,7 @@
 use crate::Answer;
 use crate::spectrum;
 use crate::test_spectrum;
+use counts::tally::NONE;
 use counts::tally::Tally;
 use refusals::call;
 use refusals::call::Refusal;
@@ -153,18 +154,15 @@ pub fn number_of(answer: MarkAnswer) -> u32
     }
 }
 
-// The counts that an accepted call spent; else 0 and 0.
+// The counts that an accepted call spent, and its largest rest; else 0 for each.
 pub fn spent_of(answer: MarkAnswer) -> Tally
-    ensures { λ r. ⌜ (r .products ≡ spent answer .products) × (r .sums ≡ spent answer .sums) ⌝ }
+    ensures { λ r. ⌜ (r .products ≡ spent answer .products) × (r .sums ≡ spent answer .sums)
+        × (r .«largest_rest» ≡ spent answer .«largest_rest») ⌝ }
 {
-    let none = Tally {
-        products: 0,
-        sums: 0,
-    };
     match answer {
         MarkAnswer::Marked(_, tally) => tally,
-        MarkAnswer::Refused(_) => none,
-        MarkAnswer::BadFigures => none,
+        MarkAnswer::Refused(_) => NONE,
+        MarkAnswer::BadFigures => NONE,
     }
 }
 

@@ -11,17 +11,19 @@ use lib.ListN.{length, set}
 use lib.Seq.{set-set}
 use Rattle.whole.proofs.Cases.{le-or-lt}
 use Rattle.whole.proofs.Size.{size-within, within-size, within-le, within-sub}
-use Rattle.whole.specs.Round.{round}
+use Rattle.whole.specs.Round.{round, restSize}
+use Rattle.whole.specs.Largest.{largest}
 use Rattle.words.specs.Words.{Samples, word, Written}
 use Rattle.words.proofs.Writing.{ends-none, written-one, written-more, written-same}
 use Rattle.words.proofs.Parts.{part, part-at}
 use Rattle.circle.specs.Circle.{T}
 use Rattle.ffct.specs.Block.{level, largestSum}
-use Rattle.ffct.specs.Transforms.{Transform, dctBy, cosineDft, sineDft, dct, alternate, foldedDifferences, rearranged, rotated}
+use Rattle.ffct.specs.Transforms.{Transform, dctBy, cosineDft, sineDft, dct, alternate, foldedDifferences, rearranged}
+use Rattle.ffct.specs.Transforms.{unrounded, rotated, rotationRest}
 use Rattle.ffct.proofs.Lengths.{len, len-pos}
 use Rattle.ffct.proofs.ElevenLengths.{as-len}
 use Rattle.counts.specs.declared.tally.Tally.{Tally}
-use Rattle.counts.specs.Tally.{Tallied}
+use Rattle.counts.specs.Tally.{Tallied, Summed}
 use Rattle.transforms.specs.Pairs.{paired}
 use Rattle.transforms.specs.Steps.{Gives, DftReady, DftDone, DctReady, DctDone, FoldReady, Folded, DifferenceReady, DifferencePut}
 use Rattle.transforms.proofs.Pairs.{paired-near, paired-far, paired-odd, paired-mirror}
@@ -30,7 +32,7 @@ use Rattle.transforms.proofs.Folding.{beside-ready}
 
 -- words written are the coefficients
 pub gives : {t : Transform} {at m : ℕ} {before after : List ℤ} {spent total : Tally} → Written at m (t .at) before after →
-    Tallied (t .products) (t .sums) spent total → Gives t at m before after spent total
+    Tallied (t .products) (t .sums) (t .largestRest) spent total → Gives t at m before after spent total
 gives w t = record { coefficients = w .new; front = w .low; tallied = t; len = w .len }
 
 -- ---- the samples of a block of one or two in pairs
@@ -48,18 +50,19 @@ module _ {s at : ℕ} {w : List ℤ} {spent : Tally} where
 
   pub cosine-two : {u v : ℤ} {total : Tally} → DftReady cosineDft 2 s at w spent → u ≡ word w 0 +ℤ word w (2 * s - 1) →
       v ≡ word w 0 -ℤ word w (2 * s - 1) →
-      Tallied 0 2 spent total → DftDone cosineDft 2 s at w (set (set w at u) (at + 1) v) spent total
+      Summed 2 spent total → DftDone cosineDft 2 s at w (set (set w at u) (at + 1) v) spent total
   unfolding level cosineDft
   cosine-two r e d t =
       let x = paired-0 2 s (word w) (omega arith) in
       let y = paired-1 s (word w) in
-      gives (written-more (written-one (omega (arith, r .fits)) (e ∙ rw (x, y))) (omega (arith, r .fits)) (d ∙ rw (x, y))) t
+      gives (written-more (written-one (omega (arith, r .fits)) (e ∙ rw (x, y))) (omega (arith, r .fits)) (d ∙ rw (x, y))) (omega (arith, t))
 
 -- the sine-DFT of one or two samples
-none : (L : ℕ) (x : Samples) → len L ≤ 2 → ((k : ℕ) → sineDft L x .at k ≡ pos 0) × (sineDft L x .products ≡ 0) × (sineDft L x .sums ≡ 0)
+none : (L : ℕ) (x : Samples) → len L ≤ 2 →
+    ((k : ℕ) → sineDft L x .at k ≡ pos 0) × (sineDft L x .products ≡ 0) × (sineDft L x .sums ≡ 0) × (sineDft L x .largestRest ≡ 0)
 unfolding sineDft
-none zero x h = (λ k. refl, refl, refl)
-none (suc zero) x h = (λ k. refl, refl, refl)
+none zero x h = (λ k. refl, refl, refl, refl)
+none (suc zero) x h = (λ k. refl, refl, refl, refl)
 none (suc (suc L)) x h = absurd (omega (arith, len-pos L))
 
 pub sine-few : {n s at : ℕ} {w v : List ℤ} {spent : Tally} → DftReady sineDft n s at w spent → n ≤ 2 →
@@ -91,9 +94,9 @@ dct-single {b} {w} = record {
 -- ---- the DCT of two
 pub dct-two : {w : List ℤ} {u v : ℤ} {spent total : Tally} → DctReady 2 w spent → u ≡ word w 0 +ℤ word w 1 →
     v ≡ round (T 512 *ℤ (word w 0 -ℤ word w 1)) →
-    Tallied 1 2 spent total → DctDone 2 w (set (set w 0 u) 1 v) spent total
-unfolding level dct dctBy cosineDft rotated rearranged
-dct-two r e d t = gives (written-more (written-one (omega (arith, r .fits)) e) (omega (arith, r .fits)) d) t
+    Tallied 1 2 (restSize (T 512 *ℤ (word w 0 -ℤ word w 1))) spent total → DctDone 2 w (set (set w 0 u) 1 v) spent total
+unfolding level dct dctBy cosineDft unrounded rotated rotationRest largest rearranged
+dct-two r e d t = gives (written-more (written-one (omega (arith, r .fits)) e) (omega (arith, r .fits)) d) (omega (arith, t))
 
 -- ---- four samples: the one difference of the fold
 module _ {s b : ℕ} {w : List ℤ} {spent : Tally} (r : FoldReady 4 s b w spent) where

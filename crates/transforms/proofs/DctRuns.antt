@@ -8,22 +8,23 @@
 use mathlib.Core.Path.{_≡_, sym, ap, _∙_, subst}
 use mathlib.Core.Bool.{true}
 use mathlib.Core.List.{List}
-use Prim.Native.Nat.{ℕ, _+_, _-_, _*_, _/_, _≤_, _<_}
+use Prim.Native.Nat.{ℕ, _+_, _-_, _*_, _/_, _≤_, _<_, max}
 use native.Mathlib.Omega.{arith}
 use lib.IntN.{ℤ}
 use Rattle.whole.proofs.Size.{within-size}
 use Rattle.words.specs.Words.{Samples, word}
 use Rattle.ffct.specs.Block.{isLength, level}
-use Rattle.ffct.specs.Transforms.{Transform, rearranged, rotated, cosineDft, sineDft, dct}
+use Rattle.ffct.specs.Transforms.{Transform, rearranged, rotated, rotationRest, cosineDft, sineDft, dct}
 use Rattle.ffct.proofs.Lengths.{len, per, len-per}
 use Rattle.ffct.proofs.ElevenLengths.{as-len, level-le, Half, half, quarter}
 use Rattle.ffct.proofs.Sizes.{dft-size}
-use Rattle.ffct.proofs.Blocks.{Same, dft-same, rotated-same}
-use Rattle.ffct.proofs.Steps.{dct-step, dct-products, dct-sums}
+use Rattle.ffct.proofs.Blocks.{Same, dft-same, rotated-same, rotation-rest-same}
+use Rattle.ffct.proofs.Steps.{dct-step, dct-products, dct-sums, dct-rest}
 use Rattle.counts.specs.declared.tally.Tally.{Tally}
 use Rattle.counts.specs.Tally.{Tallied}
 use Rattle.transforms.specs.Pairs.{paired}
-use Rattle.transforms.specs.Steps.{Ready, DftReady, DftDone, DctReady, DctDone, cosineAt, sineAt, RotationReady, Rotated}
+use Rattle.rotation.specs.Rotation.{cosineAt, sineAt, RotationReady, Rotated}
+use Rattle.transforms.specs.Steps.{Ready, DftReady, DftDone, DctReady, DctDone}
 use Rattle.transforms.proofs.Pairs.{paired-source, paired-same, paired-rearranged}
 use Rattle.transforms.proofs.Levels.{inner, ready-same}
 
@@ -55,9 +56,11 @@ module _ {n : ℕ} {w₀ : List ℤ} {spent : Tally} (start : DctReady n w₀ sp
 
   whole-counts : (dct (level n) (word w₀) .products ≡ C .products + S .products + (3 * (n / 2 - 1) + 1))
       × (dct (level n) (word w₀) .sums ≡ C .sums + S .sums + 3 * (n / 2 - 1))
+      × (dct (level n) (word w₀) .largestRest ≡ max (max (C .largestRest) (S .largestRest)) (rotationRest n (C .at) (S .at)))
   whole-counts = rw (H .level-is) (
     rw (sym (H .twice), sym half-is) at (dct-products l (word w₀)),
     rw (sym (H .twice), sym half-is) at (dct-sums l (word w₀)),
+    rw (sym (H .twice)) at (dct-rest l (word w₀)),
   )
 
   block-ready : Ready n (paired n 1 (word w₀))
@@ -82,8 +85,8 @@ module _ {n : ℕ} {w₀ : List ℤ} {spent : Tally} (start : DctReady n w₀ sp
 
   -- ---- after the cosine-DFT
   module _ {w₁ : List ℤ} {t₁ : Tally} (cosined : DftDone cosineDft n 1 n w₀ w₁ spent t₁) where
-    cosine-tallied : Tallied (C .products) (C .sums) spent t₁
-    cosine-tallied = subst (λ t. Tallied (t .products) (t .sums) spent t₁) cosine-is (cosined .tallied)
+    cosine-tallied : Tallied (C .products) (C .sums) (C .largestRest) spent t₁
+    cosine-tallied = subst (λ t. Tallied (t .products) (t .sums) (t .largestRest) spent t₁) cosine-is (cosined .tallied)
 
     block₁ : (i : ℕ) → i < n → paired n 1 (word w₁) i ≡ paired n 1 (word w₀) i
     block₁ = paired-same n 1 (word w₁) (word w₀) (omega arith) (λ j h. cosined .front j (omega arith))
@@ -106,8 +109,8 @@ module _ {n : ℕ} {w₀ : List ℤ} {spent : Tally} (start : DctReady n w₀ sp
 
     -- ---- after the sine-DFT
     module _ {w₂ : List ℤ} {t₂ : Tally} (sined : DftDone sineDft n 1 at w₁ w₂ t₁ t₂) where
-      sine-tallied : Tallied (S .products) (S .sums) t₁ t₂
-      sine-tallied = subst (λ t. Tallied (t .products) (t .sums) t₁ t₂) sine-is (sined .tallied)
+      sine-tallied : Tallied (S .products) (S .sums) (S .largestRest) t₁ t₂
+      sine-tallied = subst (λ t. Tallied (t .products) (t .sums) (t .largestRest) t₁ t₂) sine-is (sined .tallied)
 
       cosine-word : (k : ℕ) → k ≤ n / 2 → cosineAt n w₂ k ≡ cosineDft (level n) (paired n 1 (word w₀)) .at k
       cosine-word k h = sined .front (n + k) (omega arith) ∙ cosined .coefficients k (omega arith)
@@ -131,7 +134,7 @@ module _ {n : ℕ} {w₀ : List ℤ} {spent : Tally} (start : DctReady n w₀ sp
       dct-ends rot = record {
         coefficients = λ k h. rot .words .new k h ∙ rotated-is k h ∙ sym (whole-at k);
         front = λ k h. absurd (omega arith);
-        tallied = omega (arith, whole-counts, cosine-tallied, sine-tallied, rot .tallied);
+        tallied = omega (arith, whole-counts, cosine-tallied, sine-tallied, rot .tallied, rest-is);
         len = rot .words .len ∙ sined .len ∙ cosined .len;
       }
         where
@@ -143,10 +146,18 @@ module _ {n : ℕ} {w₀ : List ℤ} {spent : Tally} (start : DctReady n w₀ sp
               let ok = start .ready .length-ok in
               rw even (ap (λ m. m * per (level n)) (as-len n ok) ∙ len-per (level n) (level-le n ok))
 
+          cosine-at : (j : ℕ) → j ≤ n / 2 → cosineAt n w₂ j ≡ C .at j
+          cosine-at j o = cosine-word j o ∙ ap (λ t. t .at j) cosine-is
+
+          sine-at : (j : ℕ) → j ≤ n / 2 → sineAt n w₂ j ≡ S .at j
+          sine-at j o = sine-word j o ∙ ap (λ t. t .at j) sine-is
+
           rotated-is : (k : ℕ) → k < n → rotated n (cosineAt n w₂) (sineAt n w₂) k ≡ rotated n (C .at) (S .at) k
-          rotated-is k h = rw even at (rotated-same (n / 2) (per (level n)) _ _ _ _ per-is
-              (λ j o. cosine-word j o ∙ ap (λ t. t .at j) cosine-is) (λ j o. sine-word j o ∙ ap (λ t. t .at j) sine-is) k
-              (omega (arith, even)))
+          rotated-is k h =
+              rw even at (rotated-same (n / 2) (per (level n)) _ _ _ _ per-is cosine-at sine-at k (omega (arith, even)))
+
+          rest-is : rotationRest n (cosineAt n w₂) (sineAt n w₂) ≡ rotationRest n (C .at) (S .at)
+          rest-is = rw even at (rotation-rest-same (n / 2) (per (level n)) _ _ _ _ per-is cosine-at sine-at)
 
 -- two pairs are rotated at a time, where a block is not short
 pub fourths : {n : ℕ} → isLength n ≡ true → 16 < n → 4 * (n / 4) ≡ n

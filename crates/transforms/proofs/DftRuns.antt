@@ -10,7 +10,7 @@
 use mathlib.Core.Path.{_≡_, sym, ap, ap₂, _∙_, subst}
 use mathlib.Core.Bool.{true}
 use mathlib.Core.List.{List}
-use Prim.Native.Nat.{ℕ, suc, _+_, _-_, _*_, _/_, _≤_, _<_}
+use Prim.Native.Nat.{ℕ, suc, _+_, _-_, _*_, _/_, _≤_, _<_, max}
 use native.Mathlib.Nat.{le-refl, mul-le-mul-left, mul-le-mul-right}
 use native.Mathlib.Omega.{arith}
 use lib.IntN.{ℤ, pos, natAbs, _+ℤ_, _-ℤ_}
@@ -25,7 +25,7 @@ use Rattle.ffct.proofs.ElevenLengths.{as-len, half, Quarter, quarter}
 use Rattle.ffct.proofs.Near.{alternate-within, apart-le}
 use Rattle.ffct.proofs.Sizes.{Inner, dft-size, dct-within}
 use Rattle.ffct.proofs.Blocks.{Same, dft-same, dct-same, sine-first, sine-last, cosine-beyond-same, sine-beyond-same, dct-beyond-same}
-use Rattle.ffct.proofs.Steps.{cosine-step, sine-step, cosine-products, cosine-sums, sine-products, sine-sums}
+use Rattle.ffct.proofs.Steps.{cosine-step, cosine-products, cosine-sums, cosine-rest, sine-step, sine-products, sine-sums, sine-rest}
 use Rattle.counts.specs.declared.tally.Tally.{Tally}
 use Rattle.counts.specs.Tally.{Tallied}
 use Rattle.transforms.specs.Pairs.{paired}
@@ -55,6 +55,8 @@ pub record Kind (transform : ℕ → Samples → Transform) (fold : ℕ → Samp
       transform (suc (suc L)) x .products ≡ transform (suc L) (evens x) .products + dct L (fold (4 * len L) x) .products
   sums : (L : ℕ) (x : Samples) →
       transform (suc (suc L)) x .sums ≡ transform (suc L) (evens x) .sums + dct L (fold (4 * len L) x) .sums + (len L + joins (4 * len L))
+  rest : (L : ℕ) (x : Samples) →
+      transform (suc (suc L)) x .largestRest ≡ max (transform (suc L) (evens x) .largestRest) (dct L (fold (4 * len L) x) .largestRest)
 
 halved : (m : ℕ) → 4 * m / 2 ≡ 2 * m
 halved m = omega arith
@@ -74,6 +76,7 @@ cosine-kind = record {
   step = λ L x k. rw (halved (len L), quartered (len L)) (cosine-step L x k);
   products = cosine-products;
   sums = λ L x. rw (halved (len L)) (cosine-sums L x);
+  rest = cosine-rest;
 }
 
 pub sine-kind : Kind sineDft foldedDifferences sineJoin (λ n. n / 2 - 2)
@@ -89,6 +92,7 @@ sine-kind = record {
   step = λ L x k. rw (halved (len L), quartered (len L)) (sine-step L x k);
   products = sine-products;
   sums = λ L x. rw (halved (len L)) (sine-sums L x);
+  rest = sine-rest;
 }
 
 -- where the DCT's part begins
@@ -126,9 +130,11 @@ module _ {transform : ℕ → Samples → Transform} {fold : ℕ → Samples →
 
   whole-counts : (transform (level n) x .products ≡ even .products + odd .products)
       × (transform (level n) x .sums ≡ even .sums + odd .sums + (n / 4 + joins n))
+      × (transform (level n) x .largestRest ≡ max (even .largestRest) (odd .largestRest))
   whole-counts = rw (Q .level-is) (
     rw (sym (Q .four)) at (K .products l x),
     rw (sym (Q .four), sym quarter-is) at (K .sums l x),
+    rw (sym (Q .four)) at (K .rest l x),
   )
 
   even-is : transform (level (n / 2)) (paired (n / 2) (2 * s) (word w₀)) ≡ even
@@ -159,8 +165,8 @@ module _ {transform : ℕ → Samples → Transform} {fold : ℕ → Samples →
 
   -- ---- after the even samples are transformed
   module _ {w₁ : List ℤ} {t₁ : Tally} (evened : DftDone transform (n / 2) (2 * s) at w₀ w₁ spent t₁) where
-    even-tallied : Tallied (even .products) (even .sums) spent t₁
-    even-tallied = subst (λ t. Tallied (t .products) (t .sums) spent t₁) even-is (evened .tallied)
+    even-tallied : Tallied (even .products) (even .sums) (even .largestRest) spent t₁
+    even-tallied = subst (λ t. Tallied (t .products) (t .sums) (t .largestRest) spent t₁) even-is (evened .tallied)
 
     -- the block is as it was
     block₁ : (i : ℕ) → i < n → paired n s (word w₁) i ≡ x i
@@ -204,8 +210,8 @@ module _ {transform : ℕ → Samples → Transform} {fold : ℕ → Samples →
 
       -- ---- after the DCT
       module _ {w₃ : List ℤ} {t₃ : Tally} (oddened : Gives (dct l (word (part b w₂))) b (n / 4) w₂ w₃ t₂ t₃) where
-        odd-tallied : Tallied (odd .products) (odd .sums) t₂ t₃
-        odd-tallied = subst (λ t. Tallied (t .products) (t .sums) t₂ t₃) odd-is (oddened .tallied)
+        odd-tallied : Tallied (odd .products) (odd .sums) (odd .largestRest) t₂ t₃
+        odd-tallied = subst (λ t. Tallied (t .products) (t .sums) (t .largestRest) t₂ t₃) odd-is (oddened .tallied)
 
         length₃ : length w₃ ≡ length w₀
         length₃ = oddened .len ∙ folded .words .len ∙ evened .len

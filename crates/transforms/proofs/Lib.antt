@@ -1,7 +1,6 @@
 pub mod Pairs
 pub mod Folding
 pub mod Joining
-pub mod Rotating
 pub mod Levels
 pub mod DftRuns
 pub mod DctRuns

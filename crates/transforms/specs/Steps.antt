@@ -1,18 +1,17 @@
--- What the functions of this crate ask and promise: each step its values and its counts together, by the definitions of the crate ffct.
+-- What the functions of this crate ask and promise: each step its values, its counts and its largest rest together, by the definitions of
+-- the crate ffct.
 -- `spent` is the tally that a function is handed, `total` the one that it gives back.
 use mathlib.Core.Bool.{true}
 use mathlib.Core.List.{List}
 use mathlib.Core.Path.{_≡_}
 use Prim.Native.Nat.{ℕ, _+_, _-_, _*_, _/_, _≤_, _<_, min}
-use lib.IntN.{ℤ, natAbs, _+ℤ_, _-ℤ_, _*ℤ_}
+use lib.IntN.{ℤ, natAbs, _+ℤ_, _-ℤ_}
 use lib.ListN.{length}
-use Rattle.whole.specs.Round.{round}
-use Rattle.words.specs.Words.{Samples, word, Written, TwoPut}
-use Rattle.circle.specs.Circle.{T}
+use Rattle.words.specs.Words.{Samples, word, Written}
 use Rattle.ffct.specs.Block.{isLength, level, largestSum}
-use Rattle.ffct.specs.Transforms.{Transform, dct, cosineBeyond, sineBeyond, dctBeyond, apart, rotated}
+use Rattle.ffct.specs.Transforms.{Transform, dct, cosineBeyond, sineBeyond, dctBeyond, apart}
 use Rattle.counts.specs.declared.tally.Tally.{Tally}
-use Rattle.counts.specs.Tally.{Tallied, HasRoom}
+use Rattle.counts.specs.Tally.{Tallied, Summed, HasRoom}
 use Rattle.transforms.specs.Pairs.{paired}
 
 -- ---- the transforms
@@ -23,12 +22,12 @@ pub record Ready (n : ℕ) (x : Samples) : Type 0 where
   pub length-ok : isLength n ≡ true
   pub samples : (i : ℕ) → i < n → n * natAbs (x i) ≤ largestSum
 
--- what a transform t leaves: its first m coefficients from place `at` on, and its counts; the words below `at` are as before. What stands
--- in the words behind the coefficients is the program's choice. The length stays
+-- what a transform t leaves: its first m coefficients from place `at` on, its counts and its largest rest; the words below `at` are as
+-- before. What stands in the words behind the coefficients is the program's choice. The length stays
 pub record Gives (t : Transform) (at m : ℕ) (before after : List ℤ) (spent total : Tally) : Type 0 where
   pub coefficients : (k : ℕ) → k < m → word after (at + k) ≡ t .at k
   pub front : (k : ℕ) → k < at → word after k ≡ word before k
-  pub tallied : Tallied (t .products) (t .sums) spent total
+  pub tallied : Tallied (t .products) (t .sums) (t .largestRest) spent total
   pub len : length after ≡ length before
 
 -- the words that a DCT of n samples works in: the samples, which its coefficients replace, and its two DFTs, 3 n words in all; for one
@@ -76,7 +75,7 @@ pub record FoldReady (n s b : ℕ) (words : List ℤ) (spent : Tally) : Type 0 w
 
 pub record Folded (fold : ℕ → Samples → Samples) (n s b : ℕ) (before after : List ℤ) (spent total : Tally) : Type 0 where
   pub words : Written b (n / 4) (fold n (paired n s (word before))) before after
-  pub tallied : Tallied 0 (n / 4) spent total
+  pub tallied : Summed (n / 4) spent total
 
 -- the word at x less the word at y, put at a place behind them
 pub record DifferenceReady (x y place : ℕ) (words : List ℤ) (spent : Tally) : Type 0 where
@@ -89,7 +88,7 @@ pub record DifferenceReady (x y place : ℕ) (words : List ℤ) (spent : Tally) 
 
 pub record DifferencePut (x y place : ℕ) (before after : List ℤ) (spent total : Tally) : Type 0 where
   pub words : Written place 1 (λ k. word before x -ℤ word before y) before after
-  pub tallied : Tallied 0 1 spent total
+  pub tallied : Summed 1 spent total
 
 -- ---- the joins of (12) and (15): the coefficients E of the even samples stand at `at` .. at + n/4, those of the DCT, D, from at + n/2 +
 -- 1 on; what they make stands at `at` .. at + n/2
@@ -118,53 +117,4 @@ pub record JoinReady (sums n at : ℕ) (words : List ℤ) (spent : Tally) : Type
 
 pub record Joined (join : ℕ → (ℕ → ℤ) → (ℕ → ℤ) → ℕ → ℤ) (sums n at : ℕ) (before after : List ℤ) (spent total : Tally) : Type 0 where
   pub words : Written at (n / 2 + 1) (join n (evenAt at before) (oddAt n at before)) before after
-  pub tallied : Tallied 0 sums spent total
-
--- ---- the rotation (18), (19): the cosine-DFT C stands at n .. n + n/2, the sine-DFT S behind it; the DCT goes to the front
-abbrev pub cosineAt : ℕ → List ℤ → ℕ → ℤ
-cosineAt n words k = word words (n + k)
-
-abbrev pub sineAt : ℕ → List ℤ → ℕ → ℤ
-sineAt n words k = word words (n + n / 2 + 1 + k)
-
--- one pair, k and n − k, by (20); j is the place of its c in the table
-pub record PairReady (n k : ℕ) (words : List ℤ) (spent : Tally) : Type 0 where
-  pub some : 1 ≤ k
-  pub below : k < n / 2
-  pub fits : n + (n / 2 + 1) + (n / 2 + 1) ≤ length words
-  pub cosine-small : natAbs (cosineAt n words k) ≤ largestSum + 128
-  pub sine-small : natAbs (sineAt n words k) ≤ largestSum + 128
-  pub room : HasRoom 3 3 spent
-
-pub record PairPut (j n k : ℕ) (before after : List ℤ) (spent total : Tally) : Type 0 where
-  pub both :
-      let c = T j in
-      let s = T (1024 - j) in
-      let C = cosineAt n before k in
-      let S = sineAt n before k in
-      TwoPut k (n - k) (round (c *ℤ C -ℤ s *ℤ S)) (round (s *ℤ C +ℤ c *ℤ S)) before after
-  pub tallied : Tallied 3 3 spent total
-
--- the coefficients 0 and n/2, which belong to no pair
-pub record SingleReady (n : ℕ) (words : List ℤ) (spent : Tally) : Type 0 where
-  pub some : 2 ≤ n
-  pub fits : n + (n / 2 + 1) + (n / 2 + 1) ≤ length words
-  pub cosine-small : natAbs (cosineAt n words (n / 2)) ≤ largestSum + 128
-  pub room : HasRoom 1 0 spent
-
-pub record SinglePut (n : ℕ) (before after : List ℤ) (spent total : Tally) : Type 0 where
-  pub both : TwoPut 0 (n / 2) (cosineAt n before 0) (round (T 512 *ℤ cosineAt n before (n / 2))) before after
-  pub tallied : Tallied 1 0 spent total
-
--- all of them
-pub record RotationReady (n : ℕ) (words : List ℤ) (spent : Tally) : Type 0 where
-  pub length-ok : isLength n ≡ true
-  pub some : 2 ≤ n
-  pub fits : n + (n / 2 + 1) + (n / 2 + 1) ≤ length words
-  pub cosine-small : (k : ℕ) → k < n / 2 + 1 → natAbs (cosineAt n words k) ≤ largestSum + 128
-  pub sine-small : (k : ℕ) → k < n / 2 + 1 → natAbs (sineAt n words k) ≤ largestSum + 128
-  pub room : HasRoom (3 * (n / 2 - 1) + 1) (3 * (n / 2 - 1)) spent
-
-pub record Rotated (n : ℕ) (before after : List ℤ) (spent total : Tally) : Type 0 where
-  pub words : Written 0 n (rotated n (cosineAt n before) (sineAt n before)) before after
-  pub tallied : Tallied (3 * (n / 2 - 1) + 1) (3 * (n / 2 - 1)) spent total
+  pub tallied : Summed sums spent total

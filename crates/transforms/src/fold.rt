@@ -24,6 +24,7 @@ pub fn put_folded_sums(w: &mut [i64], n: usize, stride: usize, b: usize, spent: 
     Tally {
         products: spent.products,
         sums: sums,
+        largest_rest: spent.largest_rest,
     }
 }
 
@@ -38,6 +39,7 @@ pub fn put_difference(w: &mut [i64], x: usize, y: usize, place: usize, spent: Ta
     Tally {
         products: spent.products,
         sums: spent.sums + 1,
+        largest_rest: spent.largest_rest,
     }
 }
 

@@ -27,6 +27,7 @@ pub fn join_cosine(w: &mut [i64], n: usize, at: usize, spent: Tally) -> Tally
     Tally {
         products: spent.products,
         sums: sums,
+        largest_rest: spent.largest_rest,
     }
 }
 
@@ -56,5 +57,6 @@ pub fn join_sine(w: &mut [i64], n: usize, at: usize, spent: Tally) -> Tally
     Tally {
         products: spent.products,
         sums: sums,
+        largest_rest: spent.largest_rest,
     }
 }

@@ -3,7 +3,6 @@
 // below its result, and puts the result at `at`; a DCT works in its place. What a function needs for itself stands behind its result.
 pub mod fold;
 pub mod join;
-pub mod rotate;
 pub mod short;
 
 use counts::tally::Tally;
@@ -11,7 +10,7 @@ use fold::put_folded_differences;
 use fold::put_folded_sums;
 use join::join_cosine;
 use join::join_sine;
-use rotate::rotate_by_twos;
+use rotation::rotate_by_twos;
 use short::cosine_short;
 use short::dct_short;
 use short::sine_short;

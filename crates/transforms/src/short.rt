@@ -5,9 +5,10 @@ use crate::fold::put_folded_differences;
 use crate::fold::put_folded_sums;
 use crate::join::join_cosine;
 use crate::join::join_sine;
-use crate::rotate::rotate;
-use crate::rotate::rotate_middle;
 use counts::tally::Tally;
+use rotation::rotate;
+use rotation::rotate_middle;
+use whole::larger;
 ghost use Prim.Native.Nat.{_+_, _/_, _≤_, _<_};
 ghost use lib.IntN.{pos};
 ghost use lib.ListN.{length};
@@ -32,6 +33,7 @@ fn cosine_2(w: &mut [i64], stride: usize, at: usize, spent: Tally) -> Tally
     Tally {
         products: spent.products,
         sums: sums,
+        largest_rest: spent.largest_rest,
     }
 }
 
@@ -62,6 +64,7 @@ fn dct_2(wave: &[i32; 1025], w: &mut [i64], spent: Tally) -> Tally
     Tally {
         products: spent.products + middle.products,
         sums: sums,
+        largest_rest: larger(spent.largest_rest, middle.rest),
     }
 }
 

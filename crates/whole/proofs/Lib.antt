@@ -9,3 +9,4 @@ pub mod Words
 pub mod Operations
 pub mod Sums
 pub mod Powers
+pub mod Largest

@@ -1,16 +1,17 @@
 -- The laws of rounding. Error limits cite `nearest-near` and what follows from it, `half-near` and `round-near`; sizes cite `nearest-size`;
--- `round-nearest` is what the tie rule says.
+-- `round-nearest` is what the tie rule says, and `rest-of-rounding`, `rest-size` what follows for the rest.
 -- Assumes nothing.
 use mathlib.Core.Path.{_≡_, refl, sym, _∙_, ap}
-use Prim.Native.Nat.{ℕ, _+_, _*_, _^_, _<_, _≤_}
+use Prim.Native.Nat.{ℕ, _+_, _-_, _*_, _^_, _<_, _≤_}
 use native.Mathlib.Nat.{mul-le-mul}
 use native.Mathlib.Omega.{arith}
 use lib.Dec.{lit<}
-use lib.IntN.{ℤ, pos, natAbs, _+ℤ_, _-ℤ_, _*ℤ_}
-use lib.Signed.{shrZ}
-use Rattle.whole.specs.Round.{nearest, round, RoundsToNearest, KnownRounds}
+use lib.IntN.{ℤ, pos, natAbs, negℤ, _+ℤ_, _-ℤ_, _*ℤ_}
+use lib.Signed.{shrZ, _≤ℤ_, _<ℤ_}
+use Rattle.whole.specs.Round.{nearest, round, rest, restSize, RoundsToNearest, RestOfRounding, KnownRounds}
 use Rattle.whole.proofs.Difference.{int, parts, diff}
-use Rattle.whole.proofs.Size.{near, _within_, size-within, within-size, within-int, within-eq, within-le}
+use Rattle.whole.proofs.Order.{le-⊖, lt-⊖}
+use Rattle.whole.proofs.Size.{near, _within_, size-within, within-size, within-int, within-eq, within-le, within-neg}
 use Rattle.whole.proofs.Size.{within-add, within-mul, within-cancel, size-mul, size-int}
 use Rattle.whole.proofs.Floor.{floor-one, NearestMultiple, nearest-floor, nearest-only, nearest-within, nearest-quotient}
 
@@ -70,3 +71,40 @@ nearest-size v m {M} l h =
 pub round-near : (v : ℤ) → 2 * natAbs (round v *ℤ pos (2 ^ 30) -ℤ v) ≤ 2 ^ 30
 unfolding int round
 round-near v = rw (size-mul, size-int 2) at (within-size (nearest-near v (2 ^ 30) (lit< tt)))
+
+-- ---- the rest
+joined-rest : (m q v : ℤ) → v ≡ m *ℤ q +ℤ (v -ℤ m *ℤ q)
+joined-rest m q v = rw (parts m, parts q, parts v) (simp diff (omega near))
+
+-- the multiple of 2^30 is what the rest leaves
+pub rounded-multiple : (v : ℤ) → v -ℤ rest v ≡ int (2 ^ 30) *ℤ round v
+unfolding int rest
+rounded-multiple v = less (int (2 ^ 30)) (round v) v
+  where
+    less : (m q v : ℤ) → v -ℤ (v -ℤ m *ℤ q) ≡ m *ℤ q
+    less m q v = rw (parts m, parts q, parts v) (simp diff (omega near))
+
+-- from twice a number to the number
+halves : (h : ℕ) (r : ℤ) → negℤ (int (2 * h)) ≤ℤ (int 2 *ℤ r) → (int 2 *ℤ r) <ℤ int (2 * h) → (negℤ (int h) ≤ℤ r) × (r ≤ℤ int (h - 1))
+halves h r low high =
+    let l = le-⊖ _ _ _ _ (simp diff at (rw (parts r) at low)) in
+    let u = lt-⊖ _ _ _ _ (simp diff at (rw (parts r) at high)) in
+    (rw (parts r) (simp diff (omega near)), rw (parts r) (simp diff (omega near)))
+
+pub rest-of-rounding : (v : ℤ) → RestOfRounding v
+unfolding int round rest
+rest-of-rounding v =
+    let n = multiple v (2 ^ 30) (lit< tt) in
+    let halved = halves (2 ^ 29) (rest v) (n .low) (n .high) in
+    record { low = halved .0; high = halved .1; determine = joined-rest (int (2 ^ 30)) (round v) v }
+
+pub rest-within : (v : ℤ) → rest v within 2 ^ 29
+unfolding int round rest
+rest-within v = within-eq (turned (round v) (int (2 ^ 30)) v) (within-neg (half-near v (2 ^ 29) (lit< tt)))
+  where
+    turned : (q m v : ℤ) → negℤ (q *ℤ m -ℤ v) ≡ v -ℤ m *ℤ q
+    turned q m v = rw (parts q, parts m, parts v) (simp diff (omega near))
+
+-- its size, without sign, is at most 2^29
+pub rest-size : (v : ℤ) → restSize v ≤ 2 ^ 29
+rest-size v = within-size (rest-within v)

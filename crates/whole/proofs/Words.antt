@@ -1,7 +1,7 @@
 -- Signed machine words. A local of a signed type holds bits, `ofZ w x`, and an operation reads them, `toZ w p`: what comes out
 -- of an operation whose result fits is the result on the numbers.
 -- Assumes nothing.
-use mathlib.Core.Path.{_≡_, _∙_}
+use mathlib.Core.Path.{_≡_, refl, _∙_}
 use mathlib.Core.Bool.{true, false, true≢false}
 use Prim.Native.Nat.{ℕ, suc, _+_, _-_, _^_, _<_}
 use native.Mathlib.Nat.{lt-of-le-of-lt}
@@ -83,6 +83,11 @@ module _ (x : ℤ) (l : mag x < 2 ^ 31) where
 pub not-negative : (x : ℤ) → ltZ x (pos 0) ≡ false → T (nonNeg x)
 not-negative (pos n) e = tt
 not-negative (negsuc n) e = true≢false e
+
+-- a negative number turned round is its size
+pub negative-turned : (x : ℤ) → ltZ x (pos 0) ≡ true → negℤ x ≡ pos (natAbs x)
+negative-turned (pos n) h = absurd (omega (arith, ltb-true n 0 h))
+negative-turned (negsuc n) h = refl
 
 -- the complement of the bits of a negative number is one less than its size
 abbrev pub Turned : ℤ → Type 0

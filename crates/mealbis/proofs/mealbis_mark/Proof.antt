@@ -15,6 +15,7 @@ returns c =
       number-is = c .number-of .ensures;
       products-is = spent .spent-of .ensures .0;
       sums-is = spent .spent-of .ensures .1;
+      rest-is = spent .spent-of .ensures .2;
       place-is = c .before .before .place-of .ensures;
       mark-is = c .before .mark-of .ensures;
     }

@@ -21,7 +21,7 @@ use Rattle.transforms.proofs.fold.put_folded_differences.Reads as put-f
 use Rattle.transforms.proofs.fold.put_folded_sums.Reads as put-folded-sums-reads
 use Rattle.transforms.proofs.join.join_cosine.Reads as join-cosine-reads
 use Rattle.transforms.proofs.join.join_sine.Reads as join-sine-reads
-use Rattle.transforms.proofs.rotate.rotate_by_twos.Reads as rotate-by-twos-reads
+use Rattle.rotation.proofs.rotate_by_twos.Reads as rotate-by-twos-reads
 use Rattle.transforms.proofs.short.cosine_short.Reads as cosine-short-reads
 use Rattle.transforms.proofs.short.dct_short.Reads as dct-short-reads
 use Rattle.transforms.proofs.short.sine_short.Reads as sine-short-reads

@@ -7,7 +7,7 @@ use lib.IntN.{pos, _+ℤ_, _-ℤ_}
 use borrow.Author.Needs.{needs}
 use Rattle.words.proofs.Writing.{Ends, ends-none}
 use Rattle.ffct.specs.Transforms.{cosineBeyond, sineBeyond}
-use Rattle.counts.specs.Tally.{Tallied}
+use Rattle.counts.specs.Tally.{Summed}
 use Rattle.blocks.specs.Buffers.{cosineOfA, sineOfA, cosineOfB, sineOfB}
 use Rattle.blocks.proofs.Parts.{adding, subtracting, part-turn, part-ends, put-turned, parts-sums}
 use Rattle.blocks.proofs.buffers.join_parts.Statement.{statement}
@@ -15,7 +15,7 @@ use Rattle.blocks.proofs.buffers.join_parts.Tie as tie
 
 abbrev Inv-loop : tie.InvT-loop
 Inv-loop w at real₀ imaginary₀ n sine_a cosine_b sine_b tally₀ k₀ real imaginary tally k =
-    ((1 ≤ k) × (k ≤ n - n / 2) × Tallied 0 (4 * (k - 1)) tally₀ tally)
+    ((1 ≤ k) × (k ≤ n - n / 2) × Summed (4 * (k - 1)) tally₀ tally)
     × Ends (pos 0) 1 (k - 1) (k - 1) (n - 1)
     (λ i. cosineBeyond n (cosineOfA n at w) (1 + i) +ℤ sineBeyond n (sineOfB n at w) (1 + i)) real₀ real
     × Ends (pos 0) 1 (k - 1) (k - 1) (n - 1)

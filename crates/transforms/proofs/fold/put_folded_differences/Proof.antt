@@ -5,7 +5,7 @@ use Prim.Native.Nat.{ℕ, _+_, _-_, _*_, _/_, _%_, _≤_, _<_}
 use native.Mathlib.Omega.{arith}
 use borrow.Author.Needs.{needs}
 use lib.IntN.{pos}
-use Rattle.counts.specs.Tally.{Tallied}
+use Rattle.counts.specs.Tally.{Summed}
 use Rattle.words.specs.Words.{word}
 use Rattle.words.proofs.Writing.{Ends, ends-none, ends-all}
 use Rattle.ffct.specs.Transforms.{foldedDifferences}
@@ -16,7 +16,7 @@ use Rattle.transforms.proofs.fold.put_folded_differences.Tie as tie
 
 abbrev Inv-loop : tie.InvT-loop
 Inv-loop w₀ n stride b tally₀ i₀ w tally i =
-    ((i ≤ n / 4) × (i % 2 ≡ 0) × Tallied 0 i tally₀ tally)
+    ((i ≤ n / 4) × (i % 2 ≡ 0) × Summed i tally₀ tally)
     × Ends (pos 0) b i 0 (n / 4) (foldedDifferences n (paired n stride (word w₀))) w₀ w
 
 abbrev μ-loop : tie.MeasureT-loop

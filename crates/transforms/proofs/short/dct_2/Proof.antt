@@ -6,7 +6,7 @@ use lib.IntN.{_+ℤ_, _-ℤ_, _*ℤ_}
 use lib.ListN.{length-set}
 use mir.Syntax.{w64}
 use mir.Val.{ofZ}
-use Rattle.whole.specs.Round.{round}
+use Rattle.whole.specs.Round.{round, restSize}
 use Rattle.whole.proofs.Words.{held}
 use Rattle.whole.proofs.Operations.{Computes}
 use Rattle.words.specs.Words.{word}
@@ -32,12 +32,12 @@ module _ (c : tie.After-y) where
 
 returns : tie.Need-returns
 returns c =
-    let m = c .before .before .before in
+    let m = c .before .before .before .before in
     let y = m .before in
+    let product-is = ap (λ z. T 512 *ℤ z) (difference y .made) in
     dct-two (s y .pre .1) (sum y .made)
-    (held (c .before .before .struct-told .given .0 .1) (m .rotate-middle .ensures .middle) .is
-    ∙ ap (λ z. round (T 512 *ℤ z)) (difference y .made))
-    (omega (arith, m .rotate-middle .ensures .one-product))
+    (held (c .before .before .before .struct-told .given .0 .1) (m .rotate-middle .ensures .middle) .is ∙ ap round product-is)
+    (omega (arith, m .rotate-middle .ensures, ap restSize product-is, c .larger .ensures))
 
 pub dct-2-spec : {M : Type 1} → statement M
 dct-2-spec =
@@ -53,5 +53,6 @@ dct-2-spec =
     (λ c κs. (s c .pre .0, rw (difference c .made) (dct-pair-small (s c .pre .1) .2)))  -- rotate-middle-requires
     (λ c. simp length-set (omega arith))  -- slice-set-from-value
     (λ c. search needs)  -- add-t15
+    (λ c κs. search needs)  -- larger-requires
     (λ c. search needs)  -- same-length
     returns)

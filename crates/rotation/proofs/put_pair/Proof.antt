@@ -1,4 +1,4 @@
--- `transforms::rotate::put_pair` meets its contract: what it reads may be rotated. Assumes nothing.
+-- `rotation::put_pair` meets its contract: what it reads may be rotated. Assumes nothing.
 use mathlib.Core.Path.{_≡_, refl}
 use Prim.Native.Nat.{_-_}
 use native.Mathlib.Omega.{arith}
@@ -11,9 +11,9 @@ use Rattle.whole.proofs.Words.{held}
 use Rattle.words.proofs.Writing.{two-put}
 use Rattle.circle.specs.Circle.{T}
 use Rattle.ffct.proofs.Sizes.{entry-within}
-use Rattle.transforms.specs.Steps.{cosineAt, sineAt}
-use Rattle.transforms.proofs.rotate.put_pair.Statement.{statement}
-use Rattle.transforms.proofs.rotate.put_pair.Tie as tie
+use Rattle.rotation.specs.Rotation.{cosineAt, sineAt}
+use Rattle.rotation.proofs.put_pair.Statement.{statement}
+use Rattle.rotation.proofs.put_pair.Tie as tie
 
 -- what is read: C(k), S(k) and the table's entries
 module _ (c : tie.After-y) where
@@ -42,15 +42,15 @@ rotate-pair-requires c κs =
 
 returns : tie.Need-returns
 returns c =
-    let q = c .before .before .before .before .before .before in
+    let q = c .before .before .before .before .before .before .before in
     let y = q .before in
     let r = rw (cosine y, sine y, entry y, mirror y) at (q .rotate-pair .ensures) in
     let p = start y .pre .2 in
     record {
       both = two-put (omega (arith, p .some, p .below, p .fits)) (λ e. absurd (omega (arith, p .below)))
-          (held (c .before .before .before .before .before .struct-told .given .0 .1) (r .low) .is)
-          (held (c .before .before .before .before .struct-told2 .given .1 .0 .1) (r .high) .is);
-      tallied = omega (arith, r .three-products, r .three-sums);
+          (held (c .before .before .before .before .before .before .struct-told .given .0 .1) (r .low) .is)
+          (held (c .before .before .before .before .before .struct-told2 .given .1 .0 .1) (r .high) .is);
+      tallied = omega (arith, r, c .larger .ensures);
     }
 
 pub put-pair-spec : {M : Type 1} → statement M
@@ -76,5 +76,6 @@ put-pair-spec =
     (λ c. simp length-set (omega arith))  -- slice-set-from-high
     (λ c. search needs)  -- add-t24
     (λ c. search needs)  -- add-t25
+    (λ c κs. search needs)  -- larger-requires
     (λ c. search needs)  -- same-length
     returns)

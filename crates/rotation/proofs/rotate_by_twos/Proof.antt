@@ -1,21 +1,15 @@
--- `transforms::rotate::rotate_by_twos` meets its contract: as `rotate`, where k is odd when a turn begins. Assumes nothing.
-use mathlib.Core.Path.{_≡_}
+-- `rotation::rotate_by_twos` meets its contract: as `rotate`, where k is odd when a turn begins. Assumes nothing.
+use mathlib.Core.Path.{_≡_, refl}
 use Prim.Native.Nat.{ℕ, _+_, _-_, _*_, _/_, _%_, _≤_, _<_}
 use native.Mathlib.Omega.{arith}
 use borrow.Author.Needs.{needs}
-use lib.IntN.{pos}
-use Rattle.words.proofs.Writing.{Ends, ends-none}
-use Rattle.counts.specs.Tally.{Tallied}
-use Rattle.ffct.specs.Transforms.{rotated}
-use Rattle.transforms.specs.Steps.{cosineAt, sineAt}
-use Rattle.transforms.proofs.Rotating.{Run, place, pair-ready, pair-more, single-ready, all-made}
-use Rattle.transforms.proofs.rotate.rotate_by_twos.Statement.{statement}
-use Rattle.transforms.proofs.rotate.rotate_by_twos.Tie as tie
+use Rattle.rotation.proofs.Rotating.{Run, none-made, place, pair-ready, pair-more, single-ready, all-made}
+use Rattle.rotation.proofs.rotate_by_twos.Statement.{statement}
+use Rattle.rotation.proofs.rotate_by_twos.Tie as tie
 
 abbrev Inv-loop : tie.InvT-loop
 Inv-loop wave w₀ n h step tally₀ j₀ k₀ w tally j k =
-    ((k % 2 ≡ 1) × (k < h) × (j ≡ step * k) × Tallied (3 * (k - 1)) (3 * (k - 1)) tally₀ tally)
-    × Ends (pos 0) 1 (k - 1) (k - 1) (n - 1) (λ i. rotated n (cosineAt n w₀) (sineAt n w₀) (1 + i)) w₀ w
+    ((k % 2 ≡ 1) × (k < h) × (j ≡ step * k)) × Run n w₀ tally₀ (k - 1) w tally
 
 abbrev μ-loop : tie.MeasureT-loop
 μ-loop wave w₀ n h step tally₀ j₀ k₀ w tally j k = h - k
@@ -39,7 +33,7 @@ module _ (c : tie.After-put-pair Inv-loop μ-loop) where
   abbrev start : tie.Start Inv-loop μ-loop
   start = head .before
 
-  one : Run (start .pre .1) (head .loop .k) (c .put-pair .last .1 .0)
+  one : let a = start .args in Run (a .n) (a .w .now) (a .spent) (head .loop .k) (c .put-pair .last .1 .0) (c .put-pair .result)
   one = pair-more (start .pre .1) (head .loop .inv .1) (omega arith) (head .loop .inv .0 .2) (c .put-pair .ensures)
 
   place-two : head .loop .j + 1024 / start .args .n ≡ 1024 / start .args .n * (head .loop .k + 1)
@@ -59,7 +53,7 @@ put-pair-requires c κs =
     let s = l .before .pre in (
       s .0,
       omega (arith, place (s .1) (l .loop .k) (omega arith)),
-      pair-ready (s .1) (l .loop .inv .1) (omega arith) (omega (arith, s .1 .room)),
+      pair-ready (s .1) (l .loop .inv .1) (omega arith),
     )
 
 put-pair-requires-2 : tie.Need-put-pair-requires-2 Inv-loop μ-loop
@@ -68,22 +62,16 @@ put-pair-requires-2 c κs =
     let s = start d .pre in (
       s .0,
       omega (arith, place-two d, place (s .1) (head d .loop .k + 1) (omega arith)),
-      pair-ready (s .1) (one d) (omega arith) (omega (arith, s .1 .room, d .put-pair .ensures .tallied)),
+      pair-ready (s .1) (one d) (omega arith),
     )
 
 loop-again : tie.Need-loop-again Inv-loop μ-loop
 loop-again c =
     let d = c .before .before .before .before in
     let s = start d .pre in
-    let put = c .before .put-pair2 .ensures in (
-      omega (
-        arith,
-        follows _ _ (s .2) (head d .loop .inv .0 .0) (omega arith),
-        next _ _ (head d .loop .inv .0 .2),
-        d .put-pair .ensures .tallied,
-        put .tallied,
-      ),
-      pair-more (s .1) (one d) (omega arith) (place-two d) put,
+    let l = head d .loop .inv .0 in (
+      omega (arith, follows _ _ (s .2) (l .0) (omega arith), next _ _ (l .2)),
+      pair-more (s .1) (one d) (omega arith) (place-two d) (c .before .put-pair2 .ensures),
     )
 
 -- the last pair
@@ -93,12 +81,13 @@ put-pair-requires-3 c κs =
     let s = l .before .pre in (
       s .0,
       omega (arith, place (s .1) (l .loop .k) (omega arith)),
-      pair-ready (s .1) (l .loop .inv .1) (omega arith) (omega (arith, s .1 .room)),
+      pair-ready (s .1) (l .loop .inv .1) (omega arith),
     )
 
 last : (c : tie.After-put-pair3 Inv-loop μ-loop) →
     let l = c .before .before .before in
-    Run (l .before .pre .1) (l .loop .k) (c .put-pair3 .last .1 .0)
+    let a = l .before .args in
+    Run (a .n) (a .w .now) (a .spent) (l .loop .k) (c .put-pair3 .last .1 .0) (c .put-pair3 .result)
 last c =
     let l = c .before .before .before in
     pair-more (l .before .pre .1) (l .loop .inv .1) (omega arith) (l .loop .inv .0 .2) (c .put-pair3 .ensures)
@@ -107,14 +96,13 @@ put-single-requires : tie.Need-put-single-requires Inv-loop μ-loop
 put-single-requires c κs =
     let d = c .before .before in
     let s = d .before .before .before .before .pre in
-    (s .0, single-ready (s .1) (last d) (omega (arith, s .1 .room, d .put-pair3 .ensures .tallied)))
+    (s .0, single-ready (s .1) (last d) (omega arith))
 
 returns : tie.Need-returns Inv-loop μ-loop
 returns c =
     let d = c .before .before .before .before in
     let s = d .before .before .before .before .pre .1 in
-    let put = c .before .put-single .ensures in
-    record { words = all-made s (last d) (omega arith) put; tallied = omega (arith, d .put-pair3 .ensures .tallied, put .tallied) }
+    all-made s (last d) (omega arith) (c .before .put-single .ensures)
 
 pub rotate-by-twos-spec : {M : Type 1} → statement M
 rotate-by-twos-spec =
@@ -123,7 +111,7 @@ rotate-by-twos-spec =
     Inv-loop
     μ-loop
     (λ c. search needs)  -- div-step
-    (λ c. (omega (arith, c .pre .1 .some, c .pre .2), ends-none))  -- loop-holds
+    (λ c. (omega (arith, c .pre .1 .some, c .pre .2), none-made refl))  -- loop-holds
     (λ c. search needs)  -- add-loop
     put-pair-requires
     (λ c. omega (arith, turn-place (c .before .before)))  -- add-put-pair

@@ -1,19 +1,21 @@
--- `transforms::rotate::rotate_pair` meets its contract: each step of (20) fits a word (ffct/proofs/Sizes), and what is rounded is (19).
+-- `rotation::rotate_pair` meets its contract: each step of (20) fits a word (ffct/proofs/Sizes), and what is rounded is (19).
 -- Assumes nothing.
-use mathlib.Core.Path.{refl, _∙_, ap}
-use Prim.Native.Nat.{ℕ}
-use lib.Dec.{lit<}
-use lib.IntN.{ℤ, _+ℤ_, _-ℤ_, _*ℤ_}
+use mathlib.Core.Path.{_≡_, refl, _∙_, ap, ap₂}
+use Prim.Native.Nat.{ℕ, max}
+use native.Mathlib.Nat.{le-trans}
+use lib.Dec.{lit<, lit≤}
+use lib.IntN.{ℤ, natAbs, _+ℤ_, _-ℤ_, _*ℤ_}
 use mir.Syntax.{w64}
-use mir.Val.{ofZ}
+use mir.Val.{toZ, ofZ}
 use borrow.Author.Needs.{needs}
-use Rattle.whole.specs.Round.{round}
+use Rattle.whole.specs.Round.{round, rest}
+use Rattle.whole.proofs.Rounding.{rest-size}
 use Rattle.whole.proofs.Size.{size-within, within-size, within-add, within-sub, within-fits}
 use Rattle.whole.proofs.Words.{Word, word, made, held, done}
 use Rattle.whole.proofs.Operations.{Computes, computes}
 use Rattle.ffct.proofs.Sizes.{RotationFits, rotation-fits, first-form, second-form}
-use Rattle.transforms.proofs.rotate.rotate_pair.Statement.{statement}
-use Rattle.transforms.proofs.rotate.rotate_pair.Tie as tie
+use Rattle.rotation.proofs.rotate_pair.Statement.{statement}
+use Rattle.rotation.proofs.rotate_pair.Tie as tie
 
 module _ (a : tie.Start) where
   fits : let v = a .args in RotationFits (v .cosine) (v .sine) (v .c) (v .s)
@@ -50,17 +52,40 @@ module _ (a : tie.Start) where
   second : let v = a .args in Computes _+ℤ_ bits1 bits3 ((v .cosine +ℤ v .sine) *ℤ v .c) (v .cosine *ℤ (v .s -ℤ v .c))
   second = computes _+ℤ_ m1 m3 (within-fits (within-add (fits .m1) (fits .m3)) (lit< tt))
 
+  -- which are the expressions of (19)
+  first-is : let v = a .args in toZ w64 (done _-ℤ_ bits1 bits2) ≡ v .c *ℤ v .cosine -ℤ v .s *ℤ v .sine
+  first-is = let v = a .args in first .made ∙ first-form (v .cosine) (v .sine) (v .c) (v .s)
+
+  second-is : let v = a .args in toZ w64 (done _+ℤ_ bits1 bits3) ≡ v .s *ℤ v .cosine +ℤ v .c *ℤ v .sine
+  second-is = let v = a .args in second .made ∙ second-form (v .cosine) (v .sine) (v .c) (v .s)
+
+-- their rests
+low-rest : (c : tie.After-struct-told) →
+    let v = c .before .before .before .args in
+    Word w64 (ofZ w64 (c .before .before .round .result .rest)) (rest (v .c *ℤ v .cosine -ℤ v .s *ℤ v .sine))
+low-rest c = held (c .struct-told .given .1 .0 .1) (c .before .before .round .ensures .1 ∙ ap rest (first-is (c .before .before .before)))
+
+high-rest : (c : tie.After-struct-told2) →
+    let v = c .before .before .before .before .before .args in
+    Word w64 (ofZ w64 (c .before .before .before .round2 .result .rest)) (rest (v .s *ℤ v .cosine +ℤ v .c *ℤ v .sine))
+high-rest c =
+    let two = c .before .before .before in
+    held (c .struct-told2 .given .1 .0 .1) (two .round2 .ensures .1 ∙ ap rest (second-is (two .before .before)))
+
 returns : tie.Need-returns
 returns c =
-    let a = c .before .before in
-    let v = a .args in
+    let l = c .before .before in
+    let two = l .before .before in
+    let one = two .before .before in
+    let a = one .before .before .before in
     record {
-      low = held (c .before .round .ok) (c .before .round .ensures) .is
-          ∙ ap round (first a .made ∙ first-form (v .cosine) (v .sine) (v .c) (v .s));
-      high = held (c .round2 .ok) (c .round2 .ensures) .is
-          ∙ ap round (second a .made ∙ second-form (v .cosine) (v .sine) (v .c) (v .s));
+      low = held (c .before .struct-told3 .given .0 .1) (one .before .before .round .ensures .0) .is ∙ ap round (first-is a);
+      high = held (c .struct-told4 .given .0 .1) (one .before .round2 .ensures .0) .is ∙ ap round (second-is a);
       three-products = refl;
       three-sums = refl;
+      larger-rest = l .larger .ensures ∙ ap₂ max
+          (two .before .size-of .ensures ∙ ap natAbs (low-rest one .is))
+          (l .before .size-of2 .ensures ∙ ap natAbs (high-rest two .is));
     }
 
 pub rotate-pair-spec : {M : Type 1} → statement M
@@ -83,4 +108,7 @@ rotate-pair-spec =
     (λ c. second (c .before) .asked)  -- add-round
     (λ c κs. rw (second (c .before) .made) (within-size (within-add (fits (c .before) .m1) (fits (c .before) .m3))))  -- round-requires-2
     (λ c. search needs)  -- add-sums-3
+    (λ c κs. rw (low-rest c .is) (le-trans (rest-size _) (lit≤ tt)))  -- size-of-requires
+    (λ c κs. rw (high-rest c .is) (le-trans (rest-size _) (lit≤ tt)))  -- size-of-requires-2
+    (λ c κs. search needs)  -- larger-requires
     returns)

@@ -1,29 +1,31 @@
 // The rotation (18), (19) of a cosine-DFT and a sine-DFT to the DCT, in the form of (20): three products and three sums for each pair k,
-// n - k. Each whole expression is rounded once.
+// n - k. Each whole expression is rounded once, and the largest size of a rest is kept as the roundings are made.
 use circle::wave_at;
 use counts::tally::Tally;
+use whole::larger;
 use whole::round;
+use whole::size_of;
 ghost use Prim.Native.Nat.{_+_, _*_, _/_, _^_, _≤_};
 ghost use mathlib.Core.Path.{_≡_};
 ghost use lib.IntN.{natAbs};
 ghost use Rattle.circle.specs.Circle.{IsQuarterWave};
 ghost use Rattle.ffct.specs.Block.{largestSum};
-ghost use Rattle.transforms.specs.Rotation.{PairRotated, MiddleRotated};
-ghost use Rattle.transforms.specs.Steps.{PairReady, PairPut, SingleReady, SinglePut, RotationReady, Rotated};
+ghost use Rattle.rotation.specs.Rotation.{PairRotated, MiddleRotated, PairReady, PairPut, SingleReady, SinglePut, RotationReady, Rotated};
 
-// DCT(k) and DCT(n - k), with the products and sums that they take.
+// DCT(k) and DCT(n - k), with the products and sums that they take and the larger size of their two rests.
 pub struct Rotation {
     pub low: i64,
     pub high: i64,
     pub products: u64,
     pub sums: u64,
+    pub rest: u64,
 }
 
 // (20), from the cosine-DFT and the sine-DFT at k, c and s being the table's entries. (c + s and s - c are sums of table entries alone.)
 pub fn rotate_pair(c: i64, s: i64, cosine: i64, sine: i64) -> Rotation
     requires { ⌜ (natAbs cosine ≤ largestSum + 128) × (natAbs sine ≤ largestSum + 128) ⌝ }
     requires { ⌜ (natAbs c ≤ 2 ^ 30) × (natAbs s ≤ 2 ^ 30) ⌝ }
-    ensures { λ r. ⌜ PairRotated c s cosine sine (r .low) (r .high) (r .products) (r .sums) ⌝ }
+    ensures { λ r. ⌜ PairRotated c s cosine sine (r .low) (r .high) (r .products) (r .sums) (r .rest) ⌝ }
 {
     let mut products: u64 = 0;
     let mut sums: u64 = 0;
@@ -40,32 +42,35 @@ pub fn rotate_pair(c: i64, s: i64, cosine: i64, sine: i64) -> Rotation
     let high = round(m1 + m3);
     sums += 1;
     Rotation {
-        low: low,
-        high: high,
+        low: low.value,
+        high: high.value,
         products: products,
         sums: sums,
+        rest: larger(size_of(low.rest), size_of(high.rest)),
     }
 }
 
-// DCT(n / 2), with the products that it takes.
+// DCT(n / 2), with the products that it takes and the size of its rest.
 pub struct Middle {
     pub value: i64,
     pub products: u64,
+    pub rest: u64,
 }
 
 // T(512) C(n / 2), rounded.
 pub fn rotate_middle(wave: &[i32; 1025], cosine: i64) -> Middle
     requires { ⌜ IsQuarterWave (now wave) × (natAbs cosine ≤ largestSum + 128) ⌝ }
-    ensures { λ r. ⌜ MiddleRotated cosine (r .value) (r .products) ⌝ }
+    ensures { λ r. ⌜ MiddleRotated cosine (r .value) (r .products) (r .rest) ⌝ }
 {
     let mut products: u64 = 0;
     let entry = wave_at(wave, 512);
     let product = entry * cosine;
     products += 1;
-    let value = round(product);
+    let rounded = round(product);
     Middle {
-        value: value,
+        value: rounded.value,
         products: products,
+        rest: size_of(rounded.rest),
     }
 }
 
@@ -93,6 +98,7 @@ pub fn put_pair(
     Tally {
         products: spent.products + r.products,
         sums: spent.sums + r.sums,
+        largest_rest: larger(spent.largest_rest, r.rest),
     }
 }
 
@@ -111,6 +117,7 @@ pub fn put_single(wave: &[i32; 1025], w: &mut [i64], n: usize, spent: Tally) -> 
     Tally {
         products: spent.products + middle.products,
         sums: spent.sums,
+        largest_rest: larger(spent.largest_rest, middle.rest),
     }
 }
 
