@@ -106,7 +106,7 @@ def check_accepted(library):
         blocks += list(self_test.extreme_blocks(N))
         blocks += [self_test.repeated(signs, size, N) for signs in (ref.ONE_REST_DCT, ref.ONE_REST_COSINE, ref.ONE_REST_SINE)
                    for size in (2 ** 19, -654_321)]
-        telling = [ref.DIFFERS_FROM_DIRECT, *[block for block, _, _ in ref.TIES]]
+        telling = [ref.DIFFERS_FROM_DIRECT, *[block for block, _, _ in ref.TIES], ref.COSINE_TIE, ref.SINE_TIE]
         blocks += [list(block) for block in telling if len(block) == N]
         for kind, block in [(kind, block) for kind in REFERENCE for block in blocks]:
             before, after = rng.randrange(4), rng.randrange(4)

@@ -17,8 +17,8 @@ import sys
 from typing import NamedTuple
 
 from library import BAD_LENGTHS, OUT, PAGE, Calls, Mapped, in_memory, lent_samples, lent_words, run, single_words
-from reference import (CLIPPED, FLAT, LARGEST_SAMPLE, LENGTHS, LOOKED_AT, ONE_REST_COSINE, ONE_REST_SINE, PLAIN, mark_call, meets, scratch_words,
-                       spectrum, spectrum_call, tallied_counts)
+from reference import (CLIPPED, COSINE_TIE, FLAT, LARGEST_SAMPLE, LENGTHS, LOOKED_AT, ONE_REST_COSINE, ONE_REST_SINE, PLAIN, SINE_TIE, mark_call,
+                       meets, scratch_words, spectrum, spectrum_call, tallied_counts)
 
 ORDER = (1, 2, 3, 4, 5, 6, 12)      # in which mealbis_mark tests
 LARGEST = 2 ** 31 - 1               # flat limit
@@ -249,13 +249,18 @@ def check_met(calls):
 # --- the largest rest ----------------------------------------------------------------
 
 def check_rests(calls):
-    """Blocks with one rest that is not 0, of the cosine-DFT or of the sine-DFT, of many sizes and both signs; below N = 8 there is none."""
+    """Blocks with one rest that is not 0, of the cosine-DFT or of the sine-DFT, of many sizes and both signs, and ties; below N = 8 there is none."""
     rng = calls.rng
+
+    def rest(x, expected):
+        answer = calls.mark("one rest", placed(rng, x, 0, 1))
+        calls.add("its size", [None if expected(answer.largest_rest) else "the reference answers %d" % answer.largest_rest])
+
     for N, signs in itertools.product(LENGTHS, (ONE_REST_COSINE, ONE_REST_SINE)):
         for size in (1, -1, LARGEST_SAMPLE, -LARGEST_SAMPLE, *(rng.randint(-LARGEST_SAMPLE, LARGEST_SAMPLE) for _ in range(4))):
-            answer = calls.mark("one rest", placed(rng, [size * signs[n % 8] for n in range(N)], 0, 1))
-            known = N >= 8 and size != 0
-            calls.add("its size", [None if (answer.largest_rest > 0) == known else "the reference answers %d" % answer.largest_rest])
+            rest([size * signs[n % 8] for n in range(N)], lambda size_of_rest: (size_of_rest > 0) == (N >= 8 and size != 0))
+    for tie, sign in itertools.product((COSINE_TIE, SINE_TIE), (1, -1)):
+        rest([sign * sample for sample in tie], lambda size_of_rest: size_of_rest == 2 ** 29)
 
 
 # --- refusals ------------------------------------------------------------------------

@@ -16,8 +16,8 @@ what every call answers, in whole numbers of any size, with no thought for speed
                        inverse_call, count_query
   the pair file        read_pair_file(data, a_len, b_len), pairspec(data),
                        write_pair_file(a, b, length, file_len)
-  telling blocks       DIFFERS_FROM_DIRECT, TIES, INVERSE_TIES, ONE_REST_DCT,
-                       ONE_REST_COSINE, ONE_REST_SINE
+  telling blocks       DIFFERS_FROM_DIRECT, TIES, COSINE_TIE, SINE_TIE, INVERSE_TIES,
+                       ONE_REST_DCT, ONE_REST_COSINE, ONE_REST_SINE
 
 N is always the length of a block, C a cosine-DFT, S a sine-DFT.  Numbers in
 round brackets, as (12), are the equations of source document 001.
@@ -50,6 +50,11 @@ TIES = (
     ((-11996, 0, 13726, 0), 3, 8091),
     ((11996, 0, -13726, 0), 3, -8090),
 )
+
+# Blocks of 16 samples whose cosine-DFT alone, or whose sine-DFT alone, takes the DCT of
+# the first of TIES.
+COSINE_TIE = (0, 6863, 0, 0, 0, 5998, 0, 0, 0, 0, 0, 5998, 0, 0, 0, 6863)
+SINE_TIE = (0, 6863, 0, 0, 0, 5998, 0, 0, 0, 0, 0, -5998, 0, 0, 0, -6863)
 
 # Stored coefficients of which value n is rounded from an exact tie, each with
 # its n and the value that the rounding must give.  T takes part in the last

@@ -313,15 +313,11 @@ def check_one_rest():
 
 
 def check_spectrum_ties():
-    """blocks of 16 with a tie in the cosine-DFT alone or in the sine-DFT alone: 2^29 by Spectrum, and by Pair as a and as b"""
+    """COSINE_TIE and SINE_TIE, of both signs: a tie on one side alone, 2^29 by Spectrum, and by Pair as a and as b"""
     silence = [0] * 16
-    for block, _, _ in ref.TIES:
-        for sign in (1, -1):
-            x = list(silence)
-            for n in (0, 2):
-                x[2 * n + 1], x[15 - 2 * n] = block[n] // 2, sign * (block[n] // 2)
-            tied, other = (ref.cosine_dft, ref.sine_dft)[::sign]
-            assert (tied(x)[3], other(x)[3]) == (2 ** 29, 0)
+    for tie, own, other in ((ref.COSINE_TIE, ref.cosine_dft, ref.sine_dft), (ref.SINE_TIE, ref.sine_dft, ref.cosine_dft)):
+        for x in (tie, [-sample for sample in tie]):
+            assert (own(x)[3], other(x)[3]) == (2 ** 29, 0)
             assert ref.spectrum(x)[4] == ref.pair(x, silence)[4] == ref.pair(silence, x)[4] == 2 ** 29
 
 

@@ -117,6 +117,9 @@ def run_blocks_to_try():
         run_roomy(padded, padded[::-1], 0, len(block))
     for block, _, _ in reference.TIES:
         run_roomy(list(block), list(block)[::-1], 0, 4)
+    silence = [0] * 16
+    for a, b in ((reference.COSINE_TIE, silence), (silence, reference.SINE_TIE), (reference.SINE_TIE, reference.COSINE_TIE)):
+        run_roomy(list(a), list(b), 0, 16)
     a, b = recording(16, 3, 1), recording(16, 5, 2)
     run_roomy(a, b, 4, 8, 12)
     run_roomy(a, b, 4, 8, 11)

@@ -308,6 +308,16 @@ fn run_small(x0: i32, x1: i32, x2: i32, x3: i32, length: usize) {
     run_roomy(&a, &b, 0, length, 20000);
 }
 
+// A tie in the cosine-DFT alone, or in the sine-DFT alone.
+fn run_ties() {
+    let silence = [0i32; 16];
+    let cosine_tie = [0, 6863, 0, 0, 0, 5998, 0, 0, 0, 0, 0, 5998, 0, 0, 0, 6863];
+    let sine_tie = [0, 6863, 0, 0, 0, 5998, 0, 0, 0, 0, 0, -5998, 0, 0, 0, -6863];
+    run_roomy(&cosine_tie, &silence, 0, 16, 20000);
+    run_roomy(&silence, &sine_tie, 0, 16, 20000);
+    run_roomy(&sine_tie, &cosine_tie, 0, 16, 20000);
+}
+
 fn run_blocks_to_try() {
     run_small(7, 0, 0, 0, 1);
     run_small(1, 2, 3, 4, 4);
@@ -318,6 +328,7 @@ fn run_blocks_to_try() {
     run_small(-13726, 0, -11996, 0, 4);
     run_small(-11996, 0, 13726, 0, 4);
     run_small(11996, 0, -13726, 0, 4);
+    run_ties();
     let mut a = recording(3, 1);
     let b = recording(5, 2);
     run_roomy(&a, &b, 4, 8, 12);
