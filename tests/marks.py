@@ -4,8 +4,8 @@
     python3 tests/marks.py [--library PATH] [--seed NUMBER]
 
 Builds libmealbis.a and a shared library of it, target/shared/libmealbis.so; or takes another shared library. Of every call it compares the
-answer, *products, *sums, *largest_rest, *place, *mark, both buffers of coefficients, scratch and the recording, with guards before and behind
-each. Each input also goes through mealbis_spectrum, which must answer and leave behind the same, but for the mark and refusal 12.
+answer, *products, *sums, *largest_rest, *place, *mark, both buffers of coefficients, scratch and the recording, with guards before and
+behind each. Each input also goes through mealbis_spectrum, which must answer and leave behind the same, but for the mark and refusal 12.
 
 The last line is 'N passed, 0 failed'. Exit status 1 where something differs.
 """
@@ -17,8 +17,8 @@ import sys
 from typing import NamedTuple
 
 from library import BAD_LENGTHS, OUT, PAGE, Calls, Mapped, in_memory, lent_samples, lent_words, run, single_words
-from reference import (CLIPPED, COSINE_TIE, FLAT, LARGEST_SAMPLE, LENGTHS, LOOKED_AT, ONE_REST_COSINE, ONE_REST_SINE, PLAIN, SINE_TIE, mark_call,
-                       meets, scratch_words, spectrum, spectrum_call, tallied_counts)
+from reference import (CLIPPED, COSINE_TIE, FLAT, LARGEST_SAMPLE, LENGTHS, LOOKED_AT, ONE_REST_COSINE, ONE_REST_SINE, PLAIN, SINE_TIE,
+                       mark_call, meets, scratch_words, spectrum, spectrum_call, tallied_counts)
 
 ORDER = (1, 2, 3, 4, 5, 6, 12)      # in which mealbis_mark tests
 LARGEST = 2 ** 31 - 1               # flat limit
@@ -249,7 +249,7 @@ def check_met(calls):
 # --- the largest rest ----------------------------------------------------------------
 
 def check_rests(calls):
-    """Blocks with one rest that is not 0, of the cosine-DFT or of the sine-DFT, of many sizes and both signs, and ties; below N = 8 there is none."""
+    """Blocks with one rest that is not 0, of the cosine-DFT or of the sine-DFT, of both signs, and ties; below N = 8 there is none."""
     rng = calls.rng
 
     def rest(x, expected):

@@ -2,8 +2,8 @@
 //
 //     tests/differential [--seed S] [--seconds T | --rounds R] [--table FILE] [--item CLASS INDEX]
 //
-// Document 01 and requests (i) to (iii) and (v) of document 02 are implemented here once more, and the exact sums are evaluated term by term. The answer of
-// every call, its counts, its largest rest, its results and the words that it must not touch are compared with them.
+// Document 01 and requests (i) to (iii) and (v) of document 02 are implemented here once more, and the exact sums are evaluated term by
+// term. The answer of every call, its counts, its largest rest, its results and the words that it must not touch are compared with them.
 // Each class of calls is gone through once, then in rounds until the time is up or R rounds are made. --table writes docs/DISTANCES.md, --item repeats one item.
 // The last line is 'N passed, 0 failed', N the calls compared.
 mod back;

@@ -1,4 +1,4 @@
-// Blocks whose rests are all on one side, of the cosine-DFT or of the sine-DFT, of a or of b: where that side is left out, the largest rest is 0.
+// Blocks whose rests are all on one side, the cosine-DFT or the sine-DFT, a or b: a call that leaves out that side gives 0.
 use crate::blocks::{accepted_on, sample};
 use crate::calls::{Kind, LENGTHS};
 use crate::circle::Circle;
@@ -9,7 +9,7 @@ use crate::transforms;
 
 pub const ITEMS: u64 = 4 * 11 * 4;
 
-// One item: a block of a length, of one side, random or with a tie; by Spectrum, and by Pair with a block that leaves no rest, as a and as b.
+// One item: such a block, random or with a tie; by Spectrum, and by Pair as a and as b with a block that leaves no rest.
 pub fn item(run: &mut Run, index: u64, random: &mut Random) {
     let n = LENGTHS[index as usize % 11];
     let (of_sine, tied) = (index / 11 % 2 == 1, index / 22 % 2 == 1);

@@ -303,11 +303,17 @@ impl LentCall {
             match call.kind {
                 Kind::Spectrum if marked.is_some() => {
                     let (flat, clip, mark) = marked.unwrap();
-                    mealbis_mark(a, a_len, start, length, allowance, flat, clip, y, y_len, z, z_len, work, work_len, products, sums, rest, place, mark)
+                    mealbis_mark(
+                        a, a_len, start, length, allowance, flat, clip, y, y_len, z, z_len, work, work_len, products, sums, rest, place, mark,
+                    )
                 }
-                Kind::Spectrum => mealbis_spectrum(a, a_len, start, length, allowance, y, y_len, z, z_len, work, work_len, products, sums, rest, place),
+                Kind::Spectrum => mealbis_spectrum(
+                    a, a_len, start, length, allowance, y, y_len, z, z_len, work, work_len, products, sums, rest, place,
+                ),
                 Kind::Cosine => mealbis_cosine(a, a_len, start, length, allowance, y, y_len, work, work_len, products, sums, rest, place),
-                Kind::Pair => mealbis_pair(a, a_len, b, b_len, start, length, allowance, y, y_len, z, z_len, work, work_len, products, sums, rest, place),
+                Kind::Pair => mealbis_pair(
+                    a, a_len, b, b_len, start, length, allowance, y, y_len, z, z_len, work, work_len, products, sums, rest, place,
+                ),
             }
         }
     }

@@ -32,8 +32,8 @@ pub fn dft(n: usize, circle: &Circle, random: &mut Random) -> Option<Vec<i32>> {
     Some(x)
 }
 
-// The same with the tie in the cosine-DFT alone or in the sine-DFT alone: half of the inner block stands at each of the two places that (12) adds and
-// (15) takes from each other, with one sign or with two.
+// The same with the tie in one of the two alone: half of each inner sample stands at either of the two places that (12) adds and (15) takes
+// from each other, with one sign for the cosine-DFT and with two for the sine-DFT.
 pub fn one_sided(n: usize, of_sine: bool, circle: &Circle, random: &mut Random) -> Option<Vec<i32>> {
     let even = |x: &Vec<i32>| x.iter().all(|v| v % 2 == 0);
     let inner = (0..10).find_map(|_| dct(n / 4, circle, random).filter(even))?;

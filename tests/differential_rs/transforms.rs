@@ -1,4 +1,4 @@
-// Document 01's transforms, by its equations (n), with every product and sum counted where it is made, and every rest looked at where it is left.
+// Document 01's transforms, by its equations (n), with every product and sum counted, and every rest looked at, where it is made.
 use crate::circle::Circle;
 
 #[derive(Clone, Copy, Default, PartialEq, Debug)]
@@ -220,7 +220,7 @@ fn dct_at(y: &[i64], k: usize) -> i64 {
     }
 }
 
-// The nearest multiple of 2^30, a tie going to the larger, over 2^30; and its rest, which is the last 30 binary digits of v read with a sign.
+// The nearest multiple of 2^30, a tie going to the larger, over 2^30; and its rest, which is the last 30 binary digits read with a sign.
 pub fn round(v: i64) -> (i64, i64) {
     let y = (v + (1 << 29)).div_euclid(1 << 30);
     let rest = v << 34 >> 34;
