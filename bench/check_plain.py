@@ -1,8 +1,8 @@
 """Compare bench/plain.c with tests/reference.py: `python3 bench/check_plain.py`.
 
 plain.c is compiled as a shared library and called through ctypes.  For every
-call the answer, the counts, the place, every word of every buffer and a few
-words beyond each buffer must be as the reference and document 01 say.
+call the answer, the counts, the largest rest, the place, every word of every
+buffer and a few words beyond each buffer must be as the reference says.
 """
 
 import collections
@@ -59,31 +59,31 @@ def with_lengths(buffers, lens):
 
 
 def call_plain(library, kind, recordings, start, N, allowance, result_lens, scratch_len):
-    """Call plain.c; return (refusal, place, counts, result buffers, scratch)."""
+    """Call plain.c; return (refusal, place, counts and largest rest, result buffers, scratch)."""
     def filled(word, size): return (word * size)(*[FILLER] * size)
     lent = [(ctypes.c_int32 * (len(r) + 1))(*r) for r in recordings]
     results = [filled(ctypes.c_int32, size + BEYOND) for size in result_lens]
     scratch = filled(ctypes.c_int64, scratch_len + BEYOND)
-    counts, place = filled(ctypes.c_uint64, 2), ctypes.c_uint64(FILLER)
+    counts, largest, place = filled(ctypes.c_uint64, 2), ctypes.c_uint64(FILLER), ctypes.c_uint64(FILLER)
     refusal = getattr(library, "plain_" + kind)(
         *with_lengths(lent, [len(r) for r in recordings]),
         ctypes.c_size_t(start), ctypes.c_size_t(N), ctypes.c_uint64(allowance),
         *with_lengths(results, result_lens), scratch, ctypes.c_size_t(scratch_len),
-        counts, ctypes.byref(place))
+        counts, ctypes.byref(largest), ctypes.byref(place))
     assert [r[:-1] for r in lent] == [list(r) for r in recordings]
-    return refusal, place.value, list(counts), [r[:] for r in results], scratch[:]
+    return refusal, place.value, [*counts, largest.value], [r[:] for r in results], scratch[:]
 
 
 def expected_words(answer, N, result_lens, scratch_len):
     """What call_plain must return for a reference answer."""
     results = [[FILLER] * (size + BEYOND) for size in result_lens]
     scratch = [FILLER] * (scratch_len + BEYOND)
-    counts = [FILLER] * 2
+    counts = [FILLER] * 3
     if answer.refusal == 0:
         for buffer, values in zip(results, answer.results):
             buffer[:len(values)] = values
         scratch[:8 * N + 64] = [0] * (8 * N + 64)
-        counts = list(answer.counts)
+        counts = [*answer.counts, answer.largest_rest]
     place = FILLER if answer.place is None else answer.place
     return answer.refusal, place, counts, results, scratch
 
@@ -104,7 +104,9 @@ def check_accepted(library):
     for N in ref.LENGTHS:
         blocks = [self_test.random_block(rng, N) for _ in range(30)]
         blocks += list(self_test.extreme_blocks(N))
-        telling = [ref.DIFFERS_FROM_DIRECT, *[block for block, _, _ in ref.TIES]]
+        blocks += [self_test.repeated(signs, size, N) for signs in (ref.ONE_REST_DCT, ref.ONE_REST_COSINE, ref.ONE_REST_SINE)
+                   for size in (2 ** 19, -654_321)]
+        telling = [ref.DIFFERS_FROM_DIRECT, *[block for block, _, _ in ref.TIES], ref.COSINE_TIE, ref.SINE_TIE]
         blocks += [list(block) for block in telling if len(block) == N]
         for kind, block in [(kind, block) for kind in REFERENCE for block in blocks]:
             before, after = rng.randrange(4), rng.randrange(4)

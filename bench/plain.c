@@ -11,6 +11,7 @@
 #define LONGEST 1024
 #define LARGEST_SAMPLE 1000000
 #define CIRCLE 4096
+#define HALF ((int64_t)1 << 29)
 
 /* round30 and value_at shift negative numbers to the right, which C99 leaves to the compiler. */
 typedef char right_shift_must_be_arithmetic[((int64_t)-1 >> 1) == -1 ? 1 : -1];
@@ -18,21 +19,31 @@ typedef char right_shift_must_be_arithmetic[((int64_t)-1 >> 1) == -1 ? 1 : -1];
 struct tally {
     uint64_t products;
     uint64_t sums;
+    uint64_t largest_rest;
 };
 
-static const struct tally nothing = {0, 0};
+static const struct tally nothing = {0, 0, 0};
+
+static uint64_t larger(uint64_t one, uint64_t other)
+{
+    return one > other ? one : other;
+}
 
 static struct tally both(struct tally one, struct tally other)
 {
     one.products += other.products;
     one.sums += other.sums;
+    one.largest_rest = larger(one.largest_rest, other.largest_rest);
     return one;
 }
 
-/* v / 2^30 to the nearest whole number, a tie going to the larger. */
-static int64_t round30(int64_t v)
+/* v / 2^30 to the nearest whole number, a tie going to the larger.  The rest is v less 2^30 times
+   that; *largest becomes its size where this is larger. */
+static int64_t round30(int64_t v, uint64_t *largest)
 {
-    return (v + ((int64_t)1 << 29)) >> 30;
+    int64_t rounded = (v + HALF) >> 30, rest = v - rounded * (2 * HALF);
+    *largest = larger(*largest, (uint64_t)(rest < 0 ? -rest : rest));
+    return rounded;
 }
 
 /* ---- The transforms ----
@@ -132,12 +143,12 @@ static struct tally dct(int64_t *x, size_t n, int64_t *work)
         int64_t m1 = c * (cosine[k] + sine[k]);
         int64_t m2 = (c + s) * sine[k];
         int64_t m3 = (s - c) * cosine[k];
-        x[k] = round30(m1 - m2);
-        x[n - k] = round30(m1 + m3);
+        x[k] = round30(m1 - m2, &spent.largest_rest);
+        x[n - k] = round30(m1 + m3, &spent.largest_rest);
         spent.products += 3;
         spent.sums += 3;
     }
-    x[half] = round30(quarter_wave[LONGEST / 2] * cosine[half]);
+    x[half] = round30(quarter_wave[LONGEST / 2] * cosine[half], &spent.largest_rest);
     spent.products++;
     return spent;
 }
@@ -218,17 +229,18 @@ static void store(int32_t *to, const int64_t *values, size_t how_many)
         to[i] = (int32_t)values[i];
 }
 
-static void finish(struct tally spent, uint64_t counts[2], int64_t *scratch, size_t length)
+static void finish(struct tally spent, uint64_t counts[2], uint64_t *largest_rest, int64_t *scratch, size_t length)
 {
     counts[0] = spent.products;
     counts[1] = spent.sums;
+    *largest_rest = spent.largest_rest;
     memset(scratch, 0, scratch_words(length) * sizeof *scratch);
 }
 
 int plain_spectrum(const int32_t *rec, size_t rec_len, size_t start, size_t length,
                    uint64_t allowance, int32_t *cosine, size_t cosine_len,
                    int32_t *sine, size_t sine_len, int64_t *scratch, size_t scratch_len,
-                   uint64_t counts[2], uint64_t *place)
+                   uint64_t counts[2], uint64_t *largest_rest, uint64_t *place)
 {
     struct tally spent;
     size_t words = length / 2 + 1, good;
@@ -258,14 +270,14 @@ int plain_spectrum(const int32_t *rec, size_t rec_len, size_t start, size_t leng
     spent = both(spent, sine_dft(scratch, 1, length, s, work));
     store(cosine, c, words);
     store(sine, s, words);
-    finish(spent, counts, scratch, length);
+    finish(spent, counts, largest_rest, scratch, length);
     return 0;
 }
 
 int plain_cosine(const int32_t *rec, size_t rec_len, size_t start, size_t length,
                  uint64_t allowance, int32_t *result, size_t result_len,
                  int64_t *scratch, size_t scratch_len,
-                 uint64_t counts[2], uint64_t *place)
+                 uint64_t counts[2], uint64_t *largest_rest, uint64_t *place)
 {
     struct tally spent;
     size_t good;
@@ -289,7 +301,7 @@ int plain_cosine(const int32_t *rec, size_t rec_len, size_t start, size_t length
     load(scratch, rec + start, length);
     spent = dct(scratch, length, scratch + length);
     store(result, scratch, length);
-    finish(spent, counts, scratch, length);
+    finish(spent, counts, largest_rest, scratch, length);
     return 0;
 }
 
@@ -321,7 +333,7 @@ int plain_pair(const int32_t *a, size_t a_len, const int32_t *b, size_t b_len,
                size_t start, size_t length, uint64_t allowance,
                int32_t *re, size_t re_len, int32_t *im, size_t im_len,
                int64_t *scratch, size_t scratch_len,
-               uint64_t counts[2], uint64_t *place)
+               uint64_t counts[2], uint64_t *largest_rest, uint64_t *place)
 {
     struct tally spent;
     size_t words = length / 2 + 1, good;
@@ -357,7 +369,7 @@ int plain_pair(const int32_t *a, size_t a_len, const int32_t *b, size_t b_len,
     spent = both(spent, cosine_dft(scratch, 1, length, c_b, work));
     spent = both(spent, sine_dft(scratch, 1, length, s_b, work));
     spent = both(spent, combine(c_a, s_a, c_b, s_b, length, re, im));
-    finish(spent, counts, scratch, length);
+    finish(spent, counts, largest_rest, scratch, length);
     return 0;
 }
 

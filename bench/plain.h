@@ -11,7 +11,8 @@
     10  a stored coefficient is beyond length * 1000000 + length; *place is its k
 
    An accepted call writes its results, sets counts[0] to the products and
-   counts[1] to the sums it has made, and leaves 0 in the first
+   counts[1] to the sums it has made and *largest_rest to the largest size of a
+   rest among its roundings, and leaves 0 in the first
    8 * length + 64 words of scratch.  A refused call writes nothing, except
    *place at refusals 6 and 10.  No buffer may overlap another. */
 
@@ -25,20 +26,20 @@
 int plain_spectrum(const int32_t *rec, size_t rec_len, size_t start, size_t length,
                    uint64_t allowance, int32_t *cosine, size_t cosine_len,
                    int32_t *sine, size_t sine_len, int64_t *scratch, size_t scratch_len,
-                   uint64_t counts[2], uint64_t *place);
+                   uint64_t counts[2], uint64_t *largest_rest, uint64_t *place);
 
 /* DCT-II, k = 0 .. length - 1 */
 int plain_cosine(const int32_t *rec, size_t rec_len, size_t start, size_t length,
                  uint64_t allowance, int32_t *result, size_t result_len,
                  int64_t *scratch, size_t scratch_len,
-                 uint64_t counts[2], uint64_t *place);
+                 uint64_t counts[2], uint64_t *largest_rest, uint64_t *place);
 
 /* complex DFT of a + ib, k = 0 .. length - 1 */
 int plain_pair(const int32_t *a, size_t a_len, const int32_t *b, size_t b_len,
                size_t start, size_t length, uint64_t allowance,
                int32_t *re, size_t re_len, int32_t *im, size_t im_len,
                int64_t *scratch, size_t scratch_len,
-               uint64_t counts[2], uint64_t *place);
+               uint64_t counts[2], uint64_t *largest_rest, uint64_t *place);
 
 /* the way back from DCT-II coefficients, n = 0 .. length - 1; tests 1, 2, 3, 10 */
 int plain_inverse_dct(const int32_t *coefficients, size_t coefficients_len, size_t length,

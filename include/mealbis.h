@@ -30,7 +30,7 @@
  *     cosine of a = (re[k] + re[N-k]) / 2        sine of a = (im[N-k] - im[k]) / 2
  *     cosine of b = (im[k] + im[N-k]) / 2        sine of b = (re[k] - re[N-k]) / 2
  * and at k = 0 and N/2 re[k] and im[k] are the cosines of a and b, and the sines are 0. Sums and
- * differences fit an int32_t, the halves leave no rest, and the result is mealbis_spectrum's to the
+ * differences fit an int32_t, the halves are whole, and the result is mealbis_spectrum's to the
  * last digit. Where only these are wanted, two calls of mealbis_spectrum cost less: the same
  * products and, from N = 4 on, 2 N - 4 sums fewer.
  *
@@ -56,9 +56,11 @@
  *  11  the two recordings of mealbis_write differ in length
  *  12  the flat limit of mealbis_mark is negative, or its clip level is outside 1 to 1,000,000
  *
- * After a refusal every buffer is as it was. The single words (products, sums, place, mark, samples,
- * length, bytes, the six counts) are written in EVERY answer, so that none keeps an old value:
- *   - counts, sizes and the mark hold what the function says when it accepts, and 0 after a refusal;
+ * After a refusal every buffer is as it was. The single words (products, sums, largest_rest, place,
+ * mark, samples, length, bytes, the six counts) are written in EVERY answer, so that none keeps an
+ * old value:
+ *   - counts, the largest rest, sizes and the mark hold what the function says when it accepts, and 0
+ *     after a refusal;
  *   - *place holds the place after refusals 6 and 10, and 0 in every other answer. After 6 it counts
  *     from 0 at the first sample of the recording, not of the block; after 10 it is the coefficient's
  *     k.
@@ -68,6 +70,16 @@
  * products and sums are the multiplications and additions of the transform, tallied where they are
  * made. The length alone decides them; mealbis_counts tells them beforehand. No call spends more
  * products than its allowance: it is refused (5) before it begins. UINT64_MAX allows everything.
+ *
+ * ---- The largest rest
+ *
+ * A transform forms numbers with the cosine table in 2^-30 of the coefficients' unit, and rounds each
+ * to whole units, a tie going to the larger. What it throws away is the rest: the number before
+ * rounding less 2^30 times the rounded one, -2^29 to 2^29 - 1; 2^29 is half a unit of the last digit.
+ * *largest_rest is the largest size, without sign, that a rest has among all roundings of the call:
+ * at most MEALBIS_LARGEST_REST, and 0 where nothing was rounded, which is so in mealbis_cosine at
+ * N = 1, in mealbis_spectrum, mealbis_mark and mealbis_pair below N = 8. It tells how near single
+ * roundings came; how far a coefficient may be from its exact sum is said at the function.
  *
  * ---- Buffers
  *
@@ -121,7 +133,7 @@ extern "C" {
 #endif
 
 /* The version, 10000 major + 100 minor + patch: of this header, and of the archive that is linked. */
-#define MEALBIS_VERSION 10300u
+#define MEALBIS_VERSION 20000u
 uint32_t mealbis_version(void);
 
 /* The answers. */
@@ -148,6 +160,7 @@ uint32_t mealbis_version(void);
 /* Sizes. */
 #define MEALBIS_LONGEST_BLOCK 1024
 #define MEALBIS_LARGEST_SAMPLE 1000000
+#define MEALBIS_LARGEST_REST 536870912 /* 2^29 */
 #define MEALBIS_MOST_FILE_SAMPLES 4096
 #define MEALBIS_SPECTRUM_WORDS(length) ((length) / 2 + 1)
 #define MEALBIS_SCRATCH_WORDS(length) (8 * (length) + 64)
@@ -161,7 +174,8 @@ uint32_t mealbis_version(void);
  * Spectrum: cosine-DFT and sine-DFT of a block x(0) .. x(N-1), for k = 0 .. N/2 (k = 0 at N = 1):
  *   cosine[k] is the sum of x(n) * cos(2 pi n k / N), sine[k] that of x(n) * sin(2 pi n k / N),
  *   each within N/8 of document 01's exact sum.
- * Tests 1, 2, 3, 4, 5, 6. On acceptance *products and *sums are what was spent.
+ * Tests 1, 2, 3, 4, 5, 6. On acceptance *products and *sums are what was spent, and *largest_rest is
+ * the largest size of a rest.
  *
  *   recording, recording_words   the samples; only those of the block are examined
  *   cosine, cosine_words         at least N/2 + 1 words
@@ -174,7 +188,7 @@ uint32_t mealbis_spectrum(
     int32_t *cosine, size_t cosine_words,
     int32_t *sine, size_t sine_words,
     int64_t *scratch, size_t scratch_words,
-    uint64_t *products, uint64_t *sums, size_t *place);
+    uint64_t *products, uint64_t *sums, uint64_t *largest_rest, size_t *place);
 
 /*
  * Mark: the spectrum of a block, and the block's mark by two figures of the owner's:
@@ -186,8 +200,8 @@ uint32_t mealbis_spectrum(
  * coefficients that the call yields and with the samples as they are, without rounding.
  *
  * Tests 1, 2, 3, 4, 5, 6, 12. On acceptance everything is as after mealbis_spectrum with the same
- * words (coefficients, scratch, *products, *sums), and *mark is the mark. Every refusal of
- * mealbis_spectrum is one of mealbis_mark, and 12 is one more. After a refusal *mark is
+ * words (coefficients, scratch, *products, *sums, *largest_rest), and *mark is the mark. Every
+ * refusal of mealbis_spectrum is one of mealbis_mark, and 12 is one more. After a refusal *mark is
  * MEALBIS_NO_MARK.
  *
  *   flat_limit    0 or more, in the unit of the coefficients: hundredths of a microstrain, summed
@@ -203,22 +217,23 @@ uint32_t mealbis_mark(
     int32_t *cosine, size_t cosine_words,
     int32_t *sine, size_t sine_words,
     int64_t *scratch, size_t scratch_words,
-    uint64_t *products, uint64_t *sums, size_t *place, uint32_t *mark);
+    uint64_t *products, uint64_t *sums, uint64_t *largest_rest, size_t *place, uint32_t *mark);
 
 /*
  * Cosine: the DCT-II of a block, for k = 0 .. N-1, with no factor 2 and no special weight at k = 0:
  *   coefficients[k] is the sum of x(n) * cos(pi (2n + 1) k / (2 N)), within (N + 1)/4 of document
  *   01's exact sum.
- * Tests 1, 2, 3, 4, 5, 6. On acceptance *products and *sums are what was spent.
+ * Tests 1, 2, 3, 4, 5, 6. On acceptance *products and *sums are what was spent, and *largest_rest is
+ * the largest size of a rest.
  *
- *   coefficients, coefficients_words   at least N words; the rest as in mealbis_spectrum
+ *   coefficients, coefficients_words   at least N words; all else as in mealbis_spectrum
  */
 uint32_t mealbis_cosine(
     const int32_t *recording, size_t recording_words,
     size_t start, size_t length, uint64_t allowance,
     int32_t *coefficients, size_t coefficients_words,
     int64_t *scratch, size_t scratch_words,
-    uint64_t *products, uint64_t *sums, size_t *place);
+    uint64_t *products, uint64_t *sums, uint64_t *largest_rest, size_t *place);
 
 /*
  * The inverse DCT: strain back from the stored coefficients c(0) .. c(N-1) of mealbis_cosine:
@@ -226,8 +241,8 @@ uint32_t mealbis_cosine(
  *   rounded once to the nearest whole number, a tie going to the larger. The sum is exact, and the
  *   cosine is T((2n + 1) k 1024 / N) / 2^30, T being document 01's stored quarter wave, taken round
  *   the circle by the symmetries of K.
- * Tests 1, 2, 3, 10. It needs no scratch and no allowance, and counts nothing. Every accepted value
- * fits an int32_t.
+ * Tests 1, 2, 3, 10. It needs no scratch and no allowance, counts nothing and tells no rest. Every
+ * accepted value fits an int32_t.
  *
  * A block sent through mealbis_cosine and back is never refused by 10, and each value is within N of
  * its sample: |values[n] - x(n)| <= N. So a value may be beyond the range of a sample by up to N.
@@ -248,7 +263,8 @@ uint32_t mealbis_inverse_dct(
  *   document 01's exact sum.
  * One start serves both recordings, which may differ in length. Tests 1, 2, 3, 4, 5, 6; 6 examines
  * a's block and then b's, and *place does not say in which of them the sample is: where a's sample
- * there is in range, it is b's. On acceptance *products and *sums are what was spent.
+ * there is in range, it is b's. On acceptance *products and *sums are what was spent, and
+ * *largest_rest is the largest size of a rest, of a's roundings and b's.
  *
  *   a, a_words; b, b_words     the samples; only those of the blocks are examined
  *   re, re_words               at least N words
@@ -262,7 +278,7 @@ uint32_t mealbis_pair(
     int32_t *re, size_t re_words,
     int32_t *im, size_t im_words,
     int64_t *scratch, size_t scratch_words,
-    uint64_t *products, uint64_t *sums, size_t *place);
+    uint64_t *products, uint64_t *sums, uint64_t *largest_rest, size_t *place);
 
 /*
  * The count query: what the calls spend on a block of this length; the products are the least

@@ -4,8 +4,8 @@
     python3 tests/marks.py [--library PATH] [--seed NUMBER]
 
 Builds libmealbis.a and a shared library of it, target/shared/libmealbis.so; or takes another shared library. Of every call it compares the
-answer, *products, *sums, *place, *mark, both buffers of coefficients, scratch and the recording, with guards before and behind each. Each input
-also goes through mealbis_spectrum, which must answer and leave behind the same, but for the mark and refusal 12.
+answer, *products, *sums, *largest_rest, *place, *mark, both buffers of coefficients, scratch and the recording, with guards before and
+behind each. Each input also goes through mealbis_spectrum, which must answer and leave behind the same, but for the mark and refusal 12.
 
 The last line is 'N passed, 0 failed'. Exit status 1 where something differs.
 """
@@ -17,8 +17,8 @@ import sys
 from typing import NamedTuple
 
 from library import BAD_LENGTHS, OUT, PAGE, Calls, Mapped, in_memory, lent_samples, lent_words, run, single_words
-from reference import (CLIPPED, FLAT, LARGEST_SAMPLE, LENGTHS, LOOKED_AT, PLAIN, mark_call, meets, scratch_words, spectrum, spectrum_call,
-                       tallied_counts)
+from reference import (CLIPPED, COSINE_TIE, FLAT, LARGEST_SAMPLE, LENGTHS, LOOKED_AT, ONE_REST_COSINE, ONE_REST_SINE, PLAIN, SINE_TIE,
+                       mark_call, meets, scratch_words, spectrum, spectrum_call, tallied_counts)
 
 ORDER = (1, 2, 3, 4, 5, 6, 12)      # in which mealbis_mark tests
 LARGEST = 2 ** 31 - 1               # flat limit
@@ -90,7 +90,8 @@ class MarkCalls(Calls):
             for buffer, written in zip(buffers, (*(in_memory("i", words) for words in answer.results), cleared)):
                 buffer.expect(written)
         products, sums = answer.counts or (0, 0)
-        return buffers, single_words(self.rng, {"*products": products, "*sums": sums, "*place": answer.place or 0})
+        values = {"*products": products, "*sums": sums, "*largest_rest": answer.largest_rest or 0, "*place": answer.place or 0}
+        return buffers, single_words(self.rng, values)
 
 
 def placed(rng, x, flat_limit, clip_level):
@@ -105,7 +106,7 @@ def placed(rng, x, flat_limit, clip_level):
 
 def largest_sizes(x):
     """The largest size of a coefficient of the block from k = 1 on, and that of a sample."""
-    cosine, sine, _, _ = spectrum(x)
+    cosine, sine, *_ = spectrum(x)
     return max(map(abs, cosine[1:] + sine[1:]), default=0), max(map(abs, x))
 
 
@@ -245,6 +246,23 @@ def check_met(calls):
     calls.add("N 1", ["%s came up" % (what,) for what in calls.met if what in ((1, PLAIN), (1, False, True), (1, False, False))])
 
 
+# --- the largest rest ----------------------------------------------------------------
+
+def check_rests(calls):
+    """Blocks with one rest that is not 0, of the cosine-DFT or of the sine-DFT, of both signs, and ties; below N = 8 there is none."""
+    rng = calls.rng
+
+    def rest(x, expected):
+        answer = calls.mark("one rest", placed(rng, x, 0, 1))
+        calls.add("its size", [None if expected(answer.largest_rest) else "the reference answers %d" % answer.largest_rest])
+
+    for N, signs in itertools.product(LENGTHS, (ONE_REST_COSINE, ONE_REST_SINE)):
+        for size in (1, -1, LARGEST_SAMPLE, -LARGEST_SAMPLE, *(rng.randint(-LARGEST_SAMPLE, LARGEST_SAMPLE) for _ in range(4))):
+            rest([size * signs[n % 8] for n in range(N)], lambda size_of_rest: (size_of_rest > 0) == (N >= 8 and size != 0))
+    for tie, sign in itertools.product((COSINE_TIE, SINE_TIE), (1, -1)):
+        rest([sign * sample for sample in tie], lambda size_of_rest: size_of_rest == 2 ** 29)
+
+
 # --- refusals ------------------------------------------------------------------------
 
 FLAT_LIMITS = {-2 ** 31: False, -1: False, 0: True, 1: True, LARGEST: True}
@@ -347,7 +365,7 @@ def check_far(calls):
 
 
 CHECKS = (check_known, check_each_coefficient, check_equal_samples, check_largest_coefficients, check_each_sample, check_outside, check_random,
-          check_met, check_figures, check_refusals, check_places, check_edges, check_lengths, check_far)
+          check_rests, check_met, check_figures, check_refusals, check_places, check_edges, check_lengths, check_far)
 
 
 if __name__ == "__main__":

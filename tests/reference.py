@@ -1,4 +1,4 @@
-"""Reference implementation of docs/01-scope.md and of requests (i) to (iii) of document 02, for tests only.
+"""Reference implementation of docs/01-scope.md and of requests (i) to (iii) and (v) of document 02, for tests only.
 
 This module was written from the papers alone (documents 01 and 02, and source
 document 001 for the equations) and shares no code with the product.  It says
@@ -16,7 +16,8 @@ what every call answers, in whole numbers of any size, with no thought for speed
                        inverse_call, count_query
   the pair file        read_pair_file(data, a_len, b_len), pairspec(data),
                        write_pair_file(a, b, length, file_len)
-  telling blocks       DIFFERS_FROM_DIRECT, TIES, INVERSE_TIES
+  telling blocks       DIFFERS_FROM_DIRECT, TIES, COSINE_TIE, SINE_TIE, INVERSE_TIES,
+                       ONE_REST_DCT, ONE_REST_COSINE, ONE_REST_SINE
 
 N is always the length of a block, C a cosine-DFT, S a sine-DFT.  Numbers in
 round brackets, as (12), are the equations of source document 001.
@@ -50,6 +51,11 @@ TIES = (
     ((11996, 0, -13726, 0), 3, -8090),
 )
 
+# Blocks of 16 samples whose cosine-DFT alone, or whose sine-DFT alone, takes the DCT of
+# the first of TIES.
+COSINE_TIE = (0, 6863, 0, 0, 0, 5998, 0, 0, 0, 0, 0, 5998, 0, 0, 0, 6863)
+SINE_TIE = (0, 6863, 0, 0, 0, 5998, 0, 0, 0, 0, 0, -5998, 0, 0, 0, -6863)
+
 # Stored coefficients of which value n is rounded from an exact tie, each with
 # its n and the value that the rounding must give.  T takes part in the last
 # four: value 0 is rounded from 1315053.5 or -1315053.5, from 1249461.5 or
@@ -64,6 +70,13 @@ INVERSE_TIES = (
     ((7, 1243048, 0, 3529008), 0, 1249462),
     ((-7, -1243048, 0, -3529008), 0, -1249461),
 )
+
+# Signs that, repeated over a block of samples of one size, leave one rest that is not
+# 0: in the DCT, from N = 2 on, that of DCT(N/2); in the cosine-DFT alone, or in the
+# sine-DFT alone, from N = 8 on, that of the middle of the DCT of N/4.
+ONE_REST_DCT = (1, -1, -1, 1)
+ONE_REST_COSINE = (1, 1, 0, -1, -1, -1, 0, 1)
+ONE_REST_SINE = (0, 1, 1, 1, 0, -1, -1, -1)
 
 
 # --- The cosine circle ---------------------------------------------------------
@@ -130,8 +143,9 @@ def nearest(v, m):
 
 
 def round30(v):
-    """v / 2^30, so rounded."""
-    return nearest(v, 2 ** 30)
+    """v / 2^30, so rounded, and its rest: v less 2^30 times the rounded number."""
+    rounded = nearest(v, 2 ** 30)
+    return rounded, v - 2 ** 30 * rounded
 
 
 # --- Tallies -------------------------------------------------------------------
@@ -147,11 +161,13 @@ def negative(term):
 
 
 class Tally:
-    """The products and sums made so far; each is counted where it is made."""
+    """The products and sums made so far, each counted where it is made, and the largest
+    size of a rest among the roundings, looked at where each is made."""
 
     def __init__(self):
         self.products = 0
         self.sums = 0
+        self.largest_rest = 0
 
     def product(self, entry, value):
         self.products += 1
@@ -167,6 +183,14 @@ class Tally:
 
     def difference(self, left, right):
         return self.sum(left, negative(right))
+
+    def rounded(self, v):
+        rounded, rest = round30(v)
+        self.largest_rest = max(self.largest_rest, abs(rest))
+        return rounded
+
+    def taken(self):
+        return self.products, self.sums, self.largest_rest
 
 
 # --- Coefficients at any k, by (6) to (10) -------------------------------------
@@ -241,11 +265,11 @@ def rotated(c, s, cosine, sine, tally):
     m1 = tally.product(c, s1)
     m2 = tally.product(p1, sine)
     m3 = tally.product(p2, cosine)
-    low = round30(tally.difference(m1, m2))
-    high = round30(tally.sum(m1, m3))
-    assert low == round30(c * cosine - s * sine)        # (19)
-    assert high == round30(s * cosine + c * sine)       # (19)
-    return low, high
+    low = tally.difference(m1, m2)
+    high = tally.sum(m1, m3)
+    assert low == c * cosine - s * sine                 # (19)
+    assert high == s * cosine + c * sine                # (19)
+    return tally.rounded(low), tally.rounded(high)
 
 
 def dct_terms(x, tally):
@@ -261,7 +285,7 @@ def dct_terms(x, tally):
     for k in range(1, N // 2):
         place = 1024 * k // N
         D[k], D[N - k] = rotated(T[place], T[1024 - place], C[k], S[k], tally)
-    D[N // 2] = round30(tally.product(T[512], C[N // 2]))
+    D[N // 2] = tally.rounded(tally.product(T[512], C[N // 2]))
     return D
 
 
@@ -276,45 +300,45 @@ def pair_terms(a, b, tally):
     return real, imaginary
 
 
-# --- The transforms as values and counts ---------------------------------------
+# --- The transforms as values, counts and largest rest -------------------------
 
 def numbers(terms):
     return [0 if term is ALWAYS_ZERO else term for term in terms]
 
 
-def values_and_counts(recursion, x):
+def values_and_taken(recursion, x):
     tally = Tally()
     terms = recursion(list(x), tally)
-    return numbers(terms), tally.products, tally.sums
+    return numbers(terms), *tally.taken()
 
 
 def cosine_dft(x):
-    """(values for k = 0 .. N/2, products, sums)"""
-    return values_and_counts(cosine_terms, x)
+    """(values for k = 0 .. N/2, products, sums, largest rest)"""
+    return values_and_taken(cosine_terms, x)
 
 
 def sine_dft(x):
-    """(values for k = 0 .. N/2, products, sums)"""
-    return values_and_counts(sine_terms, x)
+    """(values for k = 0 .. N/2, products, sums, largest rest)"""
+    return values_and_taken(sine_terms, x)
 
 
 def dct(x):
-    """(values for k = 0 .. N-1, products, sums)"""
-    return values_and_counts(dct_terms, x)
+    """(values for k = 0 .. N-1, products, sums, largest rest)"""
+    return values_and_taken(dct_terms, x)
 
 
 def spectrum(x):
-    """(cosine-DFT, sine-DFT, products, sums), k = 0 .. N/2"""
+    """(cosine-DFT, sine-DFT, products, sums, largest rest), k = 0 .. N/2"""
     tally = Tally()
     C, S = cosine_terms(list(x), tally), sine_terms(list(x), tally)
-    return numbers(C), numbers(S), tally.products, tally.sums
+    return numbers(C), numbers(S), *tally.taken()
 
 
 def pair(a, b):
-    """(real parts, imaginary parts, products, sums), k = 0 .. N-1"""
+    """(real parts, imaginary parts, products, sums, largest rest), k = 0 .. N-1"""
     tally = Tally()
     real, imaginary = pair_terms(list(a), list(b), tally)
-    return numbers(real), numbers(imaginary), tally.products, tally.sums
+    return numbers(real), numbers(imaginary), *tally.taken()
 
 
 # --- The way back from stored DCT-II coefficients ------------------------------
@@ -368,7 +392,7 @@ class SixCounts(NamedTuple):
 def tallied_counts(N):
     """The counts as the recursions make them; the length alone decides them."""
     silence = [0] * N
-    return SixCounts(*dct(silence)[1:], *spectrum(silence)[2:], *pair(silence, silence)[2:])
+    return SixCounts(*dct(silence)[1:3], *spectrum(silence)[2:4], *pair(silence, silence)[2:4])
 
 
 def closed_counts(N):
@@ -438,14 +462,16 @@ class Answer(NamedTuple):
 
     refusal is 0 for an accepted call, else the number of the table "When a call
     is turned down", or 10, 11 or 12 of document 02; place is given with refusals
-    6 and 10 only.  results and counts are those of an accepted call; the way back
-    has no counts.  mark is that of an accepted mark_call.
+    6 and 10 only.  results, counts and largest_rest are those of an accepted call;
+    the way back has no counts and no rest, the count query no rest.  mark is that
+    of an accepted mark_call.
     """
     refusal: int
     place: Optional[int] = None
     results: tuple = ()
     counts: tuple = ()
     mark: Optional[int] = None
+    largest_rest: Optional[int] = None
 
 
 def first_out_of_range(recording, start, end, largest=LARGEST_SAMPLE):
@@ -499,8 +525,8 @@ def spectrum_call(recording, start, length, allowance, cosine_len, sine_len, scr
         lambda N: tallied_counts(N).spectrum_products)
     if refused:
         return refused
-    cosine, sine, products, sums = spectrum(recording[start:start + length])
-    return Answer(0, None, (cosine, sine), (products, sums))
+    cosine, sine, products, sums, largest = spectrum(recording[start:start + length])
+    return Answer(0, None, (cosine, sine), (products, sums), largest_rest=largest)
 
 
 def bad_figures(flat_limit, clip_level):
@@ -525,8 +551,8 @@ def cosine_call(recording, start, length, allowance, result_len, scratch_len):
         lambda N: tallied_counts(N).dct_products)
     if refused:
         return refused
-    values, products, sums = dct(recording[start:start + length])
-    return Answer(0, None, (values,), (products, sums))
+    values, products, sums, largest = dct(recording[start:start + length])
+    return Answer(0, None, (values,), (products, sums), largest_rest=largest)
 
 
 def pair_call(a, b, start, length, allowance, real_len, imaginary_len, scratch_len):
@@ -537,8 +563,8 @@ def pair_call(a, b, start, length, allowance, real_len, imaginary_len, scratch_l
     if refused:
         return refused
     end = start + length
-    real, imaginary, products, sums = pair(a[start:end], b[start:end])
-    return Answer(0, None, (real, imaginary), (products, sums))
+    real, imaginary, products, sums, largest = pair(a[start:end], b[start:end])
+    return Answer(0, None, (real, imaginary), (products, sums), largest_rest=largest)
 
 
 def inverse_call(coefficients, length, values_len):

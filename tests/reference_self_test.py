@@ -65,22 +65,27 @@ def check_circle():
 
 
 def check_rounding():
-    """the rounding: around zero and at ties, both signs"""
+    """the rounding and its rest: around zero and at ties, both signs"""
     one, half = 2 ** 30, 2 ** 29
     for v, expected in ((0, 0), (half - 1, 0), (half, 1), (half + 1, 1), (-half, 0),
                         (-half - 1, -1), (one, 1), (-one, -1), (one + half, 2),
                         (-one - half, -1), (-one - half - 1, -2), (-one - half + 1, -1)):
-        assert ref.round30(v) == expected, v
+        assert ref.round30(v) == (expected, v - one * expected), v
+    for v, rest in ((0, 0), (1, 1), (-1, -1), (half - 1, half - 1), (half, -half), (-half, -half), (-half - 1, half - 1),
+                    (half + 1, 1 - half), (one, 0), (-one, 0), (one + 7, 7), (-one - 7, -7), (3 * half, -half), (-3 * half, -half)):
+        assert ref.round30(v)[1] == rest, v
 
 
 def check_ties():
-    """TIES: the expressions before rounding are exact ties, and go to the larger"""
+    """TIES: the expressions before rounding are exact ties, go to the larger, and leave the largest rest that there is"""
     c, s = ref.T[256], ref.T[768]
     for block, k, value in ref.TIES:
         C, S = block[0] - block[3], block[2] - block[1]     # of the rearranged block, k = 1
         before = c * C - s * S if k == 1 else s * C + c * S
         assert 2 * before in (2 ** 30 * 16_181, 2 ** 30 * -16_181)
         assert ref.dct(block)[0][k] == value
+        assert ref.round30(before) == (value, -2 ** 29)
+        assert ref.dct(block)[3] == 2 ** 29
 
 
 # --- Blocks to try -------------------------------------------------------------
@@ -100,8 +105,8 @@ def check_p1_to_p10():
     assert C(first) == [MOST] * 5 and S(first) == [0] * 5                       # P7
     assert C(second) == [1000000, 707107, 0, -707107, -1000000]                 # P8
     assert S(second) == [0, 707107, 1000000, 707107, 0]                         # P8
-    assert ref.dct([0] * 8)[1:] == (12, 29)                                     # P9
-    assert ref.spectrum([0] * 1024)[2:] == (3_586, 12_804)                      # P10
+    assert ref.dct([0] * 8)[1:3] == (12, 29)                                    # P9
+    assert ref.spectrum([0] * 1024)[2:4] == (3_586, 12_804)                     # P10
 
 
 def check_last_bullet():
@@ -129,15 +134,15 @@ def check_counts():
         counts = ref.closed_counts(N)
         assert ref.tallied_counts(N) == counts == ref.count_query(N).counts
         for x in [random_block(rng, N) for _ in range(3)] + list(extreme_blocks(N)):
-            assert ref.dct(x)[1:] == counts[0:2]
-            assert ref.spectrum(x)[2:] == counts[2:4]
-            assert ref.pair(x, random_block(rng, N))[2:] == counts[4:6]
+            assert ref.dct(x)[1:3] == counts[0:2]
+            assert ref.spectrum(x)[2:4] == counts[2:4]
+            assert ref.pair(x, random_block(rng, N))[2:4] == counts[4:6]
     assert ref.closed_counts(1) == (0, 0, 0, 0, 0, 0)
 
 
 def check_count_recursions():
     """the steps (21) to (26): each transform's counts from those of the shorter"""
-    def counts(transform, N): return transform([0] * N)[1:]
+    def counts(transform, N): return transform([0] * N)[1:3]
     assert counts(ref.cosine_dft, 2) == (0, 2) and counts(ref.sine_dft, 2) == (0, 0)
     assert counts(ref.dct, 2) == (1, 2)
     for N in ref.LENGTHS[2:]:
@@ -195,13 +200,14 @@ def check_limits_themselves():
 
 
 def check_short_blocks_exact():
-    """nothing is rounded in C, S and Pair below N = 8: they are the exact sums"""
+    """nothing is rounded in C, S and Pair below N = 8: they are the exact sums, and no rest is larger than 0"""
     rng = random.Random(4)
     for N in (1, 2, 4):
         for _ in range(50):
             a, b = random_block(rng, N), random_block(rng, N)
-            C, S, _, _ = ref.spectrum(a)
-            real, imaginary, _, _ = ref.pair(a, b)
+            C, S, *_, largest = ref.spectrum(a)
+            real, imaginary, *_, largest_of_both = ref.pair(a, b)
+            assert largest == largest_of_both == 0
             for k in range(N // 2 + 1):
                 assert (C[k] * ref.B, S[k] * ref.B) == (ref.exact_cosine(a, k),
                                                         ref.exact_sine(a, k))
@@ -210,12 +216,128 @@ def check_short_blocks_exact():
                 assert imaginary[k] * ref.B == ref.exact_imaginary(a, b, k)
 
 
+# --- Rests -----------------------------------------------------------------------
+
+def dct_blocks(work):
+    """Every block whose DCT is taken for this work: pairs of a transform, "C", "S" or "D", and its block."""
+    waiting = list(work)
+    while waiting:
+        transform, x = waiting.pop()
+        N = len(x)
+        if transform == "D":
+            yield x
+            if N > 1:
+                x4 = x[::2] + x[::-2]
+                waiting += [("C", x4), ("S", x4)]
+        elif N > 2:
+            sign = 1 if transform == "C" else -1
+            folded = [x[n] + sign * x[N - n] for n in range(1, N // 2, 2)]
+            waiting += [(transform, x[::2]), ("D", [v * sign ** n for n, v in enumerate(folded)])]
+
+
+def rests(work):
+    """The rest of every rounding of this work, by remainders: DCT(k) for all k from 1 on is rounded from one expression by (9) and (10)."""
+    for x in dct_blocks(work):
+        N, x4 = len(x), x[::2] + x[::-2]
+        C, S, D = ref.cosine_dft(x4)[0], ref.sine_dft(x4)[0], ref.dct(x)[0]
+        for k in range(1, N):
+            place, at, sign = 1024 * k // N, min(k, N - k), 1 if 2 * k <= N else -1
+            before = ref.T[place] * C[at] - sign * ref.T[1024 - place] * S[at]
+            rest = (before + 2 ** 29) % 2 ** 30 - 2 ** 29
+            assert before == 2 ** 30 * D[k] + rest
+            yield rest
+
+
+def largest_of(*work):
+    return max(map(abs, rests(work)), default=0)
+
+
+def check_known_rests():
+    """largest rests worked on paper: P3 to P6 by Cosine, P8 by Spectrum, and with silence by Pair in both places"""
+    assert ref.dct([3, 1])[3] == 2 * 759_250_125 - 2 ** 30 == 444_758_426               # DCT(1) is 1
+    assert ref.dct([0, 1])[3] == 2 ** 30 - 759_250_125 == 314_491_699                   # -1
+    assert ref.dct([-1, 1])[3] == 444_758_426                                           # -1, and the rest is below 0
+    assert ref.dct([1, 2, 3, 4])[3] == 3 * 410_903_207 - 992_008_094 == 240_701_527     # DCT(3) is 0; DCT(1) leaves -165702017
+    second, silence = [0, MOST] + [0] * 6, [0] * 8
+    rest = MOST * 759_250_125 - 707_107 * 2 ** 30                                       # in C and in S
+    assert ref.spectrum(second)[4] == ref.pair(second, silence)[4] == ref.pair(silence, second)[4] == abs(rest) == 234_943_168
+
+
+def check_rests_again():
+    """the largest rest is that of all rests, found in another way: Cosine, Spectrum and Pair, at all lengths"""
+    rng = random.Random(29)
+    for N in ref.LENGTHS:
+        for a in [random_block(rng, N) for _ in range(20 if N < 64 else 2)] + list(extreme_blocks(N))[:6 if N < 256 else 1]:
+            b = random_block(rng, N)
+            largest = largest_of(("D", a)), largest_of(("C", a), ("S", a)), largest_of(("C", a), ("S", a), ("C", b), ("S", b))
+            assert (ref.dct(a)[3], ref.spectrum(a)[4], ref.pair(a, b)[4]) == largest
+            assert max(largest) <= 2 ** 29
+            if N < 8:
+                assert largest[1:] == (0, 0)
+            if N == 1:
+                assert largest[0] == 0
+
+
+def check_each_side():
+    """the largest rest from each side alone: cosine-DFT or sine-DFT of Spectrum, a or b of Pair; it is the larger of the two"""
+    rng = random.Random(5)
+    for N in ref.LENGTHS[3:]:
+        seen = set()
+        for _ in range(100 if N < 64 else 12):
+            a, b = ([rng.randint(-MOST, MOST) for _ in range(N)] for _ in range(2))
+            C, S, first, second = ref.cosine_dft(a)[3], ref.sine_dft(a)[3], ref.spectrum(a)[4], ref.spectrum(b)[4]
+            assert first == max(C, S) and ref.pair(a, b)[4] == max(first, second) > 0
+            seen |= {("C" if C > S else "S"), ("a" if first > second else "b")}
+        assert seen == {"C", "S", "a", "b"}
+
+
+def repeated(signs, size, N):
+    return [size * signs[n % len(signs)] for n in range(N)]
+
+
+def check_one_rest():
+    """ONE_REST_DCT, _COSINE and _SINE: one rest that is not 0, where it should be; a tie at DCT(512) of N = 1,024"""
+    def not_0(*work): return [abs(rest) for rest in rests(work) if rest]
+    def size_after(before): return abs(ref.round30(759_250_125 * before)[1])
+    for N, size in itertools.product(ref.LENGTHS[1:], (1, -1, 654_321, -2 ** 19, 2 ** 19, MOST)):
+        x = repeated(ref.ONE_REST_DCT, size, N)
+        assert not_0(("D", x)) == [size_after(N * size)] == [ref.dct(x)[3]]
+        if N < 8:
+            continue
+        for signs, own, other in ((ref.ONE_REST_COSINE, ref.cosine_dft, ref.sine_dft), (ref.ONE_REST_SINE, ref.sine_dft, ref.cosine_dft)):
+            x, silence, rest = repeated(signs, size, N), [0] * N, size_after(N // 2 * size)
+            assert not_0(("C", x), ("S", x)) == [rest]
+            assert (own(x)[3], other(x)[3]) == (rest, 0)
+            assert ref.spectrum(x)[4] == ref.pair(x, silence)[4] == ref.pair(silence, x)[4] == rest
+    assert [ref.dct(repeated(ref.ONE_REST_DCT, size, 1024))[3] for size in (2 ** 19, -2 ** 19)] == [2 ** 29] * 2
+
+
+def check_spectrum_ties():
+    """COSINE_TIE and SINE_TIE, of both signs: a tie on one side alone, 2^29 by Spectrum, and by Pair as a and as b"""
+    silence = [0] * 16
+    for tie, own, other in ((ref.COSINE_TIE, ref.cosine_dft, ref.sine_dft), (ref.SINE_TIE, ref.sine_dft, ref.cosine_dft)):
+        for x in (tie, [-sample for sample in tie]):
+            assert (own(x)[3], other(x)[3]) == (2 ** 29, 0)
+            assert ref.spectrum(x)[4] == ref.pair(x, silence)[4] == ref.pair(silence, x)[4] == 2 ** 29
+
+
+def check_rests_of_calls():
+    """the calls give the largest rest of their block, mark as Spectrum; refused calls, the count query and the way back give none"""
+    for call, good in CALLS.items():
+        recordings = [key for key in good if key in RECORDINGS]
+        block = [0, 0, 5, -7, 11, MOST, 3, 9]
+        answer = call(**{**good, **{key: [TOO_MUCH] * START + block + [TOO_MUCH] * 7 for key in recordings}})
+        largest = ref.dct(block)[3] if call is ref.cosine_call else ref.spectrum(block)[4]
+        assert (answer.refusal, answer.largest_rest) == (0, largest) and largest > 0
+    assert ref.count_query(8).largest_rest is ref.inverse_call([1] * 8, 8, 8).largest_rest is None
+
+
 # --- Direct sums rounded once --------------------------------------------------
 
 def differences_from_direct(x):
     """For each kind of coefficient, the (k, value, direct sum rounded once) that differ."""
-    C, S, _, _ = ref.spectrum(x)
-    real, imaginary, _, _ = ref.pair(x, x)
+    C, S, *_ = ref.spectrum(x)
+    real, imaginary, *_ = ref.pair(x, x)
     kinds = {
         "cosine-DFT": (C, ref.exact_cosine, (x,)),
         "sine-DFT": (S, ref.exact_sine, (x,)),
@@ -339,10 +461,10 @@ def check_places_of_refusal_6():
 
 def check_shortest_calls():
     """N = 1 needs one word of each result, 72 words of scratch and no products"""
-    assert ref.spectrum_call([7], 0, 1, 0, 1, 1, 72) == ref.Answer(0, None, ([7], [0]), (0, 0))
-    assert ref.mark_call([7], 0, 1, 0, 0, 8, 1, 1, 72) == ref.Answer(0, None, ([7], [0]), (0, 0), ref.FLAT)
-    assert ref.cosine_call([7], 0, 1, 0, 1, 72) == ref.Answer(0, None, ([7],), (0, 0))
-    assert ref.pair_call([7], [9], 0, 1, 0, 1, 1, 72) == ref.Answer(0, None, ([7], [9]), (0, 0))
+    assert ref.spectrum_call([7], 0, 1, 0, 1, 1, 72) == ref.Answer(0, None, ([7], [0]), (0, 0), None, 0)
+    assert ref.mark_call([7], 0, 1, 0, 0, 8, 1, 1, 72) == ref.Answer(0, None, ([7], [0]), (0, 0), ref.FLAT, 0)
+    assert ref.cosine_call([7], 0, 1, 0, 1, 72) == ref.Answer(0, None, ([7],), (0, 0), None, 0)
+    assert ref.pair_call([7], [9], 0, 1, 0, 1, 1, 72) == ref.Answer(0, None, ([7], [9]), (0, 0), None, 0)
     assert ref.spectrum_call([7], 0, 1, 0, 0, 1, 72) == ref.Answer(3)
     assert ref.spectrum_call([7], 0, 1, 0, 1, 0, 72) == ref.Answer(3)
     assert ref.cosine_call([7], 0, 1, 0, 1, 71) == ref.Answer(4)
@@ -423,7 +545,7 @@ def check_figures():
     for flat_limit, clip_level in itertools.product((-2 ** 31, -1, 0, 1, 2 ** 31 - 1), (-2 ** 31, -1, 0, 1, 2, 999_999, MOST, TOO_MUCH, 2 ** 31 - 1)):
         answer = ref.mark_call([5, 6], 0, 2, 0, flat_limit, clip_level, 2, 2, 80)
         if flat_limit in (0, 1, 2 ** 31 - 1) and clip_level in (1, 2, 999_999, MOST):
-            assert answer._replace(mark=None) == ref.Answer(0, None, ([11, -1], [0, 0]), (0, 2))
+            assert answer._replace(mark=None) == ref.Answer(0, None, ([11, -1], [0, 0]), (0, 2), None, 0)
         else:
             assert answer == ref.Answer(12)
 

@@ -32,6 +32,7 @@ def line(name, answer, results, scratch_len, length):
     row = [answer.refusal]
     row += [] if answer.place is None else [answer.place]
     row += answer.counts
+    row += [] if answer.largest_rest is None else [answer.largest_rest]
     scratch = [90] * scratch_len
     for words, values in zip(results, answer.results):
         words[: len(values)] = values
@@ -87,13 +88,15 @@ def recording(words, kind, seed):
             -1_000_000 if i % 2 else 1_000_000,
             1_000_000 if i == 4 else 0,
             1 if i in (4, 5) else 0,
-            state % 2_000_001 - 1_000_000)[kind])
+            state % 2_000_001 - 1_000_000,
+            524_288 * reference.ONE_REST_DCT[(i - 3) % 4],
+            654_321 * reference.ONE_REST_SINE[(i - 3) % 8])[kind])
     return samples
 
 
 def run_kinds():
-    for kind in range(6):
-        a, b = recording(1040, kind, 1), recording(1040, 5 - kind, 2)
+    for kind in range(8):
+        a, b = recording(1040, kind, 1), recording(1040, 7 - kind, 2)
         for length in reference.LENGTHS:
             run_roomy(a, b, 3, length)
 
@@ -114,6 +117,9 @@ def run_blocks_to_try():
         run_roomy(padded, padded[::-1], 0, len(block))
     for block, _, _ in reference.TIES:
         run_roomy(list(block), list(block)[::-1], 0, 4)
+    silence = [0] * 16
+    for a, b in ((reference.COSINE_TIE, silence), (silence, reference.SINE_TIE), (reference.SINE_TIE, reference.COSINE_TIE)):
+        run_roomy(list(a), list(b), 0, 16)
     a, b = recording(16, 3, 1), recording(16, 5, 2)
     run_roomy(a, b, 4, 8, 12)
     run_roomy(a, b, 4, 8, 11)

@@ -34,7 +34,7 @@ static int32_t furthest(const int32_t *block, const int32_t *values, size_t leng
 int main(void)
 {
     size_t samples, length, place;
-    uint64_t dct_products, dct_sums, spectrum_products, spectrum_sums, pair_products, pair_sums, products, sums;
+    uint64_t dct_products, dct_sums, spectrum_products, spectrum_sums, pair_products, pair_sums, products, sums, largest_rest;
     uint32_t answer;
 
     /* the recordings of the two abutments */
@@ -57,14 +57,15 @@ int main(void)
 
     /* the second block of a, with just its allowance */
     answer = mealbis_spectrum(a, samples, length, length, spectrum_products, first, MEALBIS_WORDS(first), second, MEALBIS_WORDS(second),
-                              scratch, MEALBIS_WORDS(scratch), &products, &sums, &place);
+                              scratch, MEALBIS_WORDS(scratch), &products, &sums, &largest_rest, &place);
     if (answer == MEALBIS_ACCEPTED) {
         print_rows("Spectrum of a, block 1: k cosine sine", 29, 32);
-        printf("spent %" PRIu64 " products and %" PRIu64 " sums\n", products, sums);
+        printf("spent %" PRIu64 " products and %" PRIu64 " sums; largest rest %" PRIu64 "\n", products, sums, largest_rest);
     }
 
     /* the same block stored as its cosine coefficients, and the strain back from these */
-    answer = mealbis_cosine(a, samples, length, length, dct_products, first, MEALBIS_WORDS(first), scratch, MEALBIS_WORDS(scratch), &products, &sums, &place);
+    answer = mealbis_cosine(a, samples, length, length, dct_products, first, MEALBIS_WORDS(first), scratch, MEALBIS_WORDS(scratch),
+                            &products, &sums, &largest_rest, &place);
     if (answer == MEALBIS_ACCEPTED)
         answer = mealbis_inverse_dct(first, length, length, second, MEALBIS_WORDS(second), &place);
     if (answer == MEALBIS_ACCEPTED) {
@@ -77,19 +78,19 @@ int main(void)
 
     /* the first block of both */
     answer = mealbis_pair(a, samples, b, samples, 0, length, pair_products, first, MEALBIS_WORDS(first), second, MEALBIS_WORDS(second),
-                          scratch, MEALBIS_WORDS(scratch), &products, &sums, &place);
+                          scratch, MEALBIS_WORDS(scratch), &products, &sums, &largest_rest, &place);
     if (answer == MEALBIS_ACCEPTED) {
         print_rows("Pair of a and b, block 0: k real imaginary", 0, 3);
-        printf("spent %" PRIu64 " products and %" PRIu64 " sums\n", products, sums);
+        printf("spent %" PRIu64 " products and %" PRIu64 " sums; largest rest %" PRIu64 "\n", products, sums, largest_rest);
     }
 
     /* refusals: the results stay as they are */
     answer = mealbis_spectrum(a, samples, 0, length, spectrum_products - 1, first, MEALBIS_WORDS(first), second, MEALBIS_WORDS(second),
-                              scratch, MEALBIS_WORDS(scratch), &products, &sums, &place);
+                              scratch, MEALBIS_WORDS(scratch), &products, &sums, &largest_rest, &place);
     printf("one product less allowed: refused %" PRIu32 "\n", answer);
     a[300] = MEALBIS_LARGEST_SAMPLE + 1;
     answer = mealbis_spectrum(a, samples, length, length, spectrum_products, first, MEALBIS_WORDS(first), second, MEALBIS_WORDS(second),
-                              scratch, MEALBIS_WORDS(scratch), &products, &sums, &place);
+                              scratch, MEALBIS_WORDS(scratch), &products, &sums, &largest_rest, &place);
     printf("a sample too large: refused %" PRIu32 ", at place %zu\n", answer, place);
     print_rows("still Pair's: k real imaginary", 0, 1);
     return 0;

@@ -15,7 +15,7 @@
 static int32_t x[LONGEST + 8], y[LONGEST + 8], one[LONGEST + 8], two[LONGEST + 8], kept[LONGEST + 8], stored[LONGEST + 8];
 static int64_t scratch[MEALBIS_SCRATCH_WORDS(LONGEST) + 8];
 static uint8_t file[MEALBIS_FILE_BYTES(8)], made[MEALBIS_FILE_BYTES(LONGEST) + 8], kept_bytes[sizeof made];
-static uint64_t products, sums, six[6];
+static uint64_t products, sums, largest_rest, six[6];
 static size_t place, samples, length, bytes;
 static uint32_t answer, mark;
 static int passed, failed;
@@ -42,6 +42,7 @@ static void fill(void)
     memset(six, 0x55, sizeof six);
     memset(&products, 0x55, sizeof products);
     memset(&sums, 0x55, sizeof sums);
+    memset(&largest_rest, 0x55, sizeof largest_rest);
     memset(&place, 0x55, sizeof place);
     memset(&samples, 0x55, sizeof samples);
     memset(&length, 0x55, sizeof length);
@@ -60,14 +61,14 @@ static void refused(uint32_t number, size_t at, const char *what)
         same = same && scratch[i] == word;
     check(answer == number, what, answer);
     check(place == at, what, place);
-    check(products == 0 && sums == 0, what, number);
+    check(products == 0 && sums == 0 && largest_rest == 0, what, number);
     check(same && !memcmp(one, kept, sizeof one) && !memcmp(two, kept, sizeof two), what, number);
 }
 
-#define SPECTRUM(...) (fill(), answer = mealbis_spectrum(__VA_ARGS__, &products, &sums, &place))
-#define MARK(...) (fill(), answer = mealbis_mark(__VA_ARGS__, &products, &sums, &place, &mark))
-#define COSINE(...) (fill(), answer = mealbis_cosine(__VA_ARGS__, &products, &sums, &place))
-#define PAIR(...) (fill(), answer = mealbis_pair(__VA_ARGS__, &products, &sums, &place))
+#define SPECTRUM(...) (fill(), answer = mealbis_spectrum(__VA_ARGS__, &products, &sums, &largest_rest, &place))
+#define MARK(...) (fill(), answer = mealbis_mark(__VA_ARGS__, &products, &sums, &largest_rest, &place, &mark))
+#define COSINE(...) (fill(), answer = mealbis_cosine(__VA_ARGS__, &products, &sums, &largest_rest, &place))
+#define PAIR(...) (fill(), answer = mealbis_pair(__VA_ARGS__, &products, &sums, &largest_rest, &place))
 #define INVERSE(...) (fill(), answer = mealbis_inverse_dct(__VA_ARGS__, &place))
 #define READ(...) (fill(), answer = mealbis_read(__VA_ARGS__, &samples, &length, &place))
 #define WRITE(...) (fill(), answer = mealbis_write(__VA_ARGS__, &bytes, &place))
@@ -102,6 +103,12 @@ static void calls(void)
     check(one[8] == kept[8] && scratch[0] == 0 && scratch[127] == 0 && scratch[128] != 0, "Cosine writes 8 words and clears 128", 8);
 }
 
+/* The largest rest of a call on n samples of x: one is rounded from a first length on. */
+static void rest_from(size_t first, size_t n, const char *what)
+{
+    check(largest_rest <= MEALBIS_LARGEST_REST && (largest_rest > 0) == (n >= first), what, n);
+}
+
 /* The costs of n samples by the query: just that allowance is accepted and is spent, one product less is refused. */
 static void costs(size_t n)
 {
@@ -109,10 +116,13 @@ static void costs(size_t n)
     memcpy(cost, six, sizeof cost);
     COSINE(x, LONGEST, 0, n, cost[0], one, LONGEST, scratch, MEALBIS_WORDS(scratch));
     check(answer == 0 && products == cost[0] && sums == cost[1], "Cosine with just its products", n);
+    rest_from(2, n, "Cosine's largest rest");
     SPECTRUM(x, LONGEST, 0, n, cost[2], one, LONGEST, two, LONGEST, scratch, MEALBIS_WORDS(scratch));
     check(answer == 0 && products == cost[2] && sums == cost[3], "Spectrum with just its products", n);
+    rest_from(8, n, "Spectrum's largest rest");
     PAIR(x, LONGEST, x, LONGEST, 0, n, cost[4], one, LONGEST, two, LONGEST, scratch, MEALBIS_WORDS(scratch));
     check(answer == 0 && products == cost[4] && sums == cost[5], "Pair, both recordings one, with just its products", n);
+    rest_from(8, n, "Pair's largest rest");
     if (cost[0] > 0)
         COSINE(x, LONGEST, 0, n, cost[0] - 1, one, LONGEST, scratch, MEALBIS_WORDS(scratch)), refused(5, 0, "Cosine, a product less");
     if (cost[2] > 0)
@@ -145,13 +155,16 @@ static void meaning(void)
 {
     static const int32_t wave[8] = {0, 707107, 1000000, 707107, 0, -707107, -1000000, -707107}; /* cos(2 pi n / 8 - pi / 2) */
     static int32_t cosine[2][LONGEST], sine[2][LONGEST];
+    uint64_t of_a, of_b; /* the largest rests */
     size_t n, k;
     SPECTRUM(wave, 8, 0, 8, UINT64_MAX, one, 8, two, 8, scratch, MEALBIS_WORDS(scratch));
     check(answer == 0 && one[1] == 0 && two[1] >= 3999999 && two[1] <= 4000002, "a wave that lags by a quarter", 8);
     for (n = 4; n <= LONGEST; n *= 2) {
         int same = 1;
         SPECTRUM(x, LONGEST, 0, n, UINT64_MAX, cosine[0], LONGEST, sine[0], LONGEST, scratch, MEALBIS_WORDS(scratch));
+        of_a = largest_rest;
         SPECTRUM(y + 1, LONGEST, 0, n, UINT64_MAX, cosine[1], LONGEST, sine[1], LONGEST, scratch, MEALBIS_WORDS(scratch));
+        of_b = largest_rest;
         PAIR(x, LONGEST, y + 1, LONGEST, 0, n, UINT64_MAX, one, LONGEST, two, LONGEST, scratch, MEALBIS_WORDS(scratch));
         for (k = 1; k < n / 2; k++)
             same = same && cosine[0][k] == (one[k] + one[n - k]) / 2 && sine[0][k] == (two[n - k] - two[k]) / 2
@@ -159,7 +172,30 @@ static void meaning(void)
         for (k = 0; k < n; k += n / 2)
             same = same && cosine[0][k] == one[k] && cosine[1][k] == two[k] && sine[0][k] == 0 && sine[1][k] == 0;
         check(same, "the spectra of a and b from Pair's", n);
+        check(largest_rest == (of_a > of_b ? of_a : of_b), "Pair's largest rest from those of a and b", n);
     }
+}
+
+static void rest_is(uint64_t size, const char *what)
+{
+    check(answer == 0 && largest_rest == size, what, largest_rest);
+}
+
+/* The largest rest of blocks worked by hand. A tie leaves the largest that there is, in the cosine-DFT alone or in the sine-DFT alone. */
+static void rests(void)
+{
+    static const int32_t two_samples[2] = {3, 1}, tie[4] = {13726, 0, 11996, 0}, silence[16] = {0};
+    static const int32_t cosine_tie[16] = {0, 6863, 0, 0, 0, 5998, 0, 0, 0, 0, 0, 5998, 0, 0, 0, 6863};
+    static const int32_t sine_tie[16] = {0, 6863, 0, 0, 0, 5998, 0, 0, 0, 0, 0, -5998, 0, 0, 0, -6863};
+    static const int32_t impulse[8] = {0, 1000000, 0, 0, 0, 0, 0, 0};
+    COSINE(two_samples, 2, 0, 2, 1, one, 2, scratch, 80), rest_is(444758426, "the rest of DCT(1)");
+    COSINE(tie, 4, 0, 4, 4, one, 4, scratch, 96), rest_is(MEALBIS_LARGEST_REST, "the rest of a tie, Cosine");
+    SPECTRUM(impulse, 8, 0, 8, 2, one, 5, two, 5, scratch, 128), rest_is(234943168, "the rests of P8");
+    SPECTRUM(cosine_tie, 16, 0, 16, 10, one, 9, two, 9, scratch, 192), rest_is(MEALBIS_LARGEST_REST, "a tie in the cosine");
+    SPECTRUM(sine_tie, 16, 0, 16, 10, one, 9, two, 9, scratch, 192), rest_is(MEALBIS_LARGEST_REST, "a tie in the sine");
+    SPECTRUM(silence, 16, 0, 16, 10, one, 9, two, 9, scratch, 192), rest_is(0, "the rests of silence");
+    PAIR(sine_tie, 16, silence, 16, 0, 16, 20, one, 16, two, 16, scratch, 192), rest_is(MEALBIS_LARGEST_REST, "a tie in a");
+    PAIR(silence, 16, sine_tie, 16, 0, 16, 20, one, 16, two, 16, scratch, 192), rest_is(MEALBIS_LARGEST_REST, "a tie in b");
 }
 
 static void mark_refused(uint32_t number, size_t at, const char *what)
@@ -181,14 +217,16 @@ static void marked(const int32_t *recording, size_t start, int32_t flat_limit, i
 static void marked_as_spectrum(size_t n)
 {
     static int32_t cosine[MEALBIS_WORDS(one)], sine[MEALBIS_WORDS(two)];
-    uint64_t cost[2];
+    uint64_t cost[2], rest;
     SPECTRUM(x, LONGEST, 0, n, UINT64_MAX, one, LONGEST, two, LONGEST, scratch, MEALBIS_WORDS(scratch));
     memcpy(cosine, one, sizeof one);
     memcpy(sine, two, sizeof two);
     cost[0] = products;
     cost[1] = sums;
+    rest = largest_rest;
     MARK(x, LONGEST, 0, n, cost[0], INT32_MAX, 1000000, one, LONGEST, two, LONGEST, scratch, MEALBIS_WORDS(scratch));
     check(answer == 0 && place == 0 && products == cost[0] && sums == cost[1], "mark, the counts of Spectrum", n);
+    check(largest_rest == rest, "mark, the largest rest of Spectrum", n);
     check(!memcmp(cosine, one, sizeof one) && !memcmp(sine, two, sizeof two), "mark, the coefficients of Spectrum", n);
     check(mark == BOTH, "mark, the largest flat limit", n); /* x[0] is -1000000 */
     check(scratch[0] == 0 && scratch[8 * n + 63] == 0 && scratch[8 * n + 64] != 0, "mark, scratch cleared", n);
@@ -410,17 +448,19 @@ static unsigned char stack[65536];
 static ucontext_t home, away;
 static int which;
 
+#define LENT scratch, MEALBIS_WORDS(scratch), &products, &sums, &largest_rest, &place
+
 static void on_stack(void)
 {
     switch (which) {
-    case 1: mealbis_spectrum(x, LONGEST, 0, LONGEST, UINT64_MAX, one, LONGEST, two, LONGEST, scratch, MEALBIS_WORDS(scratch), &products, &sums, &place); break;
-    case 2: mealbis_cosine(x, LONGEST, 0, LONGEST, UINT64_MAX, one, LONGEST, scratch, MEALBIS_WORDS(scratch), &products, &sums, &place); break;
-    case 3: mealbis_pair(x, LONGEST, y, LONGEST, 0, LONGEST, UINT64_MAX, one, LONGEST, two, LONGEST, scratch, MEALBIS_WORDS(scratch), &products, &sums, &place); break;
+    case 1: mealbis_spectrum(x, LONGEST, 0, LONGEST, UINT64_MAX, one, LONGEST, two, LONGEST, LENT); break;
+    case 2: mealbis_cosine(x, LONGEST, 0, LONGEST, UINT64_MAX, one, LONGEST, LENT); break;
+    case 3: mealbis_pair(x, LONGEST, y, LONGEST, 0, LONGEST, UINT64_MAX, one, LONGEST, two, LONGEST, LENT); break;
     case 4: mealbis_counts(LONGEST, six, six + 1, six + 2, six + 3, six + 4, six + 5); break;
     case 5: mealbis_read(file, sizeof file, one, 8, two, 8, &samples, &length, &place); break;
     case 6: mealbis_inverse_dct(x, LONGEST, LONGEST, one, LONGEST, &place); break;
     case 7: mealbis_write(x, LONGEST, y, LONGEST, LONGEST, made, sizeof made, &bytes, &place); break;
-    case 8: mealbis_mark(x, LONGEST, 0, LONGEST, UINT64_MAX, 0, 1000000, one, LONGEST, two, LONGEST, scratch, MEALBIS_WORDS(scratch), &products, &sums, &place, &mark); break;
+    case 8: mealbis_mark(x, LONGEST, 0, LONGEST, UINT64_MAX, 0, 1000000, one, LONGEST, two, LONGEST, LENT, &mark); break;
     }
 }
 
@@ -453,6 +493,7 @@ int main(int argc, char **argv)
     calls();
     counts();
     meaning();
+    rests();
     marks();
     mark_refusals();
     inverses();

@@ -43,12 +43,12 @@ static uint32_t mark_blocks(const int32_t *recording, size_t samples, size_t len
 {
     static int32_t cosine[MEALBIS_SPECTRUM_WORDS(MEALBIS_LONGEST_BLOCK)], sine[MEALBIS_SPECTRUM_WORDS(MEALBIS_LONGEST_BLOCK)];
     static int64_t scratch[MEALBIS_SCRATCH_WORDS(MEALBIS_LONGEST_BLOCK)];
-    uint64_t products, sums;
+    uint64_t products, sums, largest_rest;
     size_t place;
     for (size_t block = 0; block < samples / length; block++) {
         uint32_t answer = mealbis_mark(recording, samples, block * length, length, UINT64_MAX, flat_limit, clip_level,
                                        cosine, MEALBIS_WORDS(cosine), sine, MEALBIS_WORDS(sine), scratch, MEALBIS_WORDS(scratch),
-                                       &products, &sums, &place, &mark[block]);
+                                       &products, &sums, &largest_rest, &place, &mark[block]);
         if (answer != MEALBIS_ACCEPTED)
             return answer;
     }

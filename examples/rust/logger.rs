@@ -37,7 +37,7 @@ fn main() {
     // the second block of a, with just its allowance
     if let Ok(spent) = spectrum(a, length, length, spectrum_products, &mut first, &mut second, &mut scratch) {
         print_rows("Spectrum of a, block 1: k cosine sine", &first, &second, 29..32);
-        println!("spent {} products and {} sums", spent.products, spent.sums);
+        println!("spent {} products and {} sums; largest rest {}", spent.products, spent.sums, spent.largest_rest);
     }
 
     // the same block stored as its cosine coefficients, and the strain back from these
@@ -54,7 +54,7 @@ fn main() {
     // the first block of both
     if let Ok(spent) = pair(a, b, 0, length, pair_products, &mut first, &mut second, &mut scratch) {
         print_rows("Pair of a and b, block 0: k real imaginary", &first, &second, 0..3);
-        println!("spent {} products and {} sums", spent.products, spent.sums);
+        println!("spent {} products and {} sums; largest rest {}", spent.products, spent.sums, spent.largest_rest);
     }
 
     // refusals: the results stay as they are

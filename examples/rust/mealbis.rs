@@ -7,17 +7,17 @@ extern "C" {
     fn mealbis_spectrum(
         recording: *const i32, recording_words: usize, start: usize, length: usize, allowance: u64,
         cosine: *mut i32, cosine_words: usize, sine: *mut i32, sine_words: usize, scratch: *mut i64, scratch_words: usize,
-        products: &mut u64, sums: &mut u64, place: &mut usize,
+        products: &mut u64, sums: &mut u64, largest_rest: &mut u64, place: &mut usize,
     ) -> u32;
     fn mealbis_mark(
         recording: *const i32, recording_words: usize, start: usize, length: usize, allowance: u64, flat_limit: i32, clip_level: i32,
         cosine: *mut i32, cosine_words: usize, sine: *mut i32, sine_words: usize, scratch: *mut i64, scratch_words: usize,
-        products: &mut u64, sums: &mut u64, place: &mut usize, mark: &mut u32,
+        products: &mut u64, sums: &mut u64, largest_rest: &mut u64, place: &mut usize, mark: &mut u32,
     ) -> u32;
     fn mealbis_cosine(
         recording: *const i32, recording_words: usize, start: usize, length: usize, allowance: u64,
         coefficients: *mut i32, coefficients_words: usize, scratch: *mut i64, scratch_words: usize,
-        products: &mut u64, sums: &mut u64, place: &mut usize,
+        products: &mut u64, sums: &mut u64, largest_rest: &mut u64, place: &mut usize,
     ) -> u32;
     fn mealbis_inverse_dct(
         coefficients: *const i32, coefficients_words: usize, length: usize, values: *mut i32, values_words: usize, place: &mut usize,
@@ -25,7 +25,7 @@ extern "C" {
     fn mealbis_pair(
         a: *const i32, a_words: usize, b: *const i32, b_words: usize, start: usize, length: usize, allowance: u64,
         re: *mut i32, re_words: usize, im: *mut i32, im_words: usize, scratch: *mut i64, scratch_words: usize,
-        products: &mut u64, sums: &mut u64, place: &mut usize,
+        products: &mut u64, sums: &mut u64, largest_rest: &mut u64, place: &mut usize,
     ) -> u32;
     fn mealbis_counts(
         length: usize, dct_products: &mut u64, dct_sums: &mut u64, spectrum_products: &mut u64, spectrum_sums: &mut u64,
@@ -44,10 +44,11 @@ extern "C" {
 // A refusal: its number, and the place of refusals 6 and 10.
 pub struct Refused(pub u32, pub usize);
 
-// What a call spent.
+// What a call spent, and the largest size of a rest among its roundings.
 pub struct Spent {
     pub products: u64,
     pub sums: u64,
+    pub largest_rest: u64,
 }
 
 // The marks of a block.
@@ -63,14 +64,14 @@ pub struct Figures {
 }
 
 pub fn spectrum(recording: &[i32], start: usize, length: usize, allowance: u64, cosine: &mut [i32], sine: &mut [i32], scratch: &mut [i64]) -> Result<Spent, Refused> {
-    let (mut products, mut sums, mut place) = (0, 0, 0);
+    let (mut products, mut sums, mut largest_rest, mut place) = (0, 0, 0, 0);
     match unsafe {
         mealbis_spectrum(
             recording.as_ptr(), recording.len(), start, length, allowance, cosine.as_mut_ptr(), cosine.len(), sine.as_mut_ptr(), sine.len(),
-            scratch.as_mut_ptr(), scratch.len(), &mut products, &mut sums, &mut place,
+            scratch.as_mut_ptr(), scratch.len(), &mut products, &mut sums, &mut largest_rest, &mut place,
         )
     } {
-        0 => Ok(Spent { products, sums }),
+        0 => Ok(Spent { products, sums, largest_rest }),
         number => Err(Refused(number, place)),
     }
 }
@@ -79,27 +80,28 @@ pub fn spectrum(recording: &[i32], start: usize, length: usize, allowance: u64, 
 pub fn mark(
     recording: &[i32], start: usize, length: usize, allowance: u64, figures: Figures, cosine: &mut [i32], sine: &mut [i32], scratch: &mut [i64],
 ) -> Result<(Spent, u32), Refused> {
-    let (mut products, mut sums, mut place, mut mark) = (0, 0, 0, 0);
+    let (mut products, mut sums, mut largest_rest, mut place, mut mark) = (0, 0, 0, 0, 0);
     match unsafe {
         mealbis_mark(
-            recording.as_ptr(), recording.len(), start, length, allowance, figures.flat_limit, figures.clip_level, cosine.as_mut_ptr(), cosine.len(),
-            sine.as_mut_ptr(), sine.len(), scratch.as_mut_ptr(), scratch.len(), &mut products, &mut sums, &mut place, &mut mark,
+            recording.as_ptr(), recording.len(), start, length, allowance, figures.flat_limit, figures.clip_level,
+            cosine.as_mut_ptr(), cosine.len(), sine.as_mut_ptr(), sine.len(), scratch.as_mut_ptr(), scratch.len(),
+            &mut products, &mut sums, &mut largest_rest, &mut place, &mut mark,
         )
     } {
-        0 => Ok((Spent { products, sums }, mark)),
+        0 => Ok((Spent { products, sums, largest_rest }, mark)),
         number => Err(Refused(number, place)),
     }
 }
 
 pub fn cosine(recording: &[i32], start: usize, length: usize, allowance: u64, coefficients: &mut [i32], scratch: &mut [i64]) -> Result<Spent, Refused> {
-    let (mut products, mut sums, mut place) = (0, 0, 0);
+    let (mut products, mut sums, mut largest_rest, mut place) = (0, 0, 0, 0);
     match unsafe {
         mealbis_cosine(
             recording.as_ptr(), recording.len(), start, length, allowance, coefficients.as_mut_ptr(), coefficients.len(),
-            scratch.as_mut_ptr(), scratch.len(), &mut products, &mut sums, &mut place,
+            scratch.as_mut_ptr(), scratch.len(), &mut products, &mut sums, &mut largest_rest, &mut place,
         )
     } {
-        0 => Ok(Spent { products, sums }),
+        0 => Ok(Spent { products, sums, largest_rest }),
         number => Err(Refused(number, place)),
     }
 }
@@ -113,14 +115,14 @@ pub fn inverse_dct(coefficients: &[i32], length: usize, values: &mut [i32]) -> R
 }
 
 pub fn pair(a: &[i32], b: &[i32], start: usize, length: usize, allowance: u64, real: &mut [i32], imaginary: &mut [i32], scratch: &mut [i64]) -> Result<Spent, Refused> {
-    let (mut products, mut sums, mut place) = (0, 0, 0);
+    let (mut products, mut sums, mut largest_rest, mut place) = (0, 0, 0, 0);
     match unsafe {
         mealbis_pair(
             a.as_ptr(), a.len(), b.as_ptr(), b.len(), start, length, allowance, real.as_mut_ptr(), real.len(), imaginary.as_mut_ptr(), imaginary.len(),
-            scratch.as_mut_ptr(), scratch.len(), &mut products, &mut sums, &mut place,
+            scratch.as_mut_ptr(), scratch.len(), &mut products, &mut sums, &mut largest_rest, &mut place,
         )
     } {
-        0 => Ok(Spent { products, sums }),
+        0 => Ok(Spent { products, sums, largest_rest }),
         number => Err(Refused(number, place)),
     }
 }

@@ -149,22 +149,31 @@ pub fn sample(random: &mut Random) -> i32 {
 
 // ---- calls that are accepted
 
-// The block stands somewhere in a recording whose other samples are mostly out of range: a call does not examine them.
+// A call on the block, for Pair with another one or with itself.
 fn accepted(kind: Kind, x: &[i32], rules: &Rules, random: &mut Random) -> Call {
-    let n = x.len();
-    let start = starts(random);
-    let mut recordings = vec![around(start, x, random)];
-    let same_words = random.one_in(8);
-    if kind == Kind::Pair {
-        let b = if same_words { recordings[0].clone() } else { around(start, &companion(x, &rules.circle, random), random) };
-        recordings.push(b);
+    if kind != Kind::Pair {
+        return accepted_on(kind, &[x], rules, random);
     }
+    let other = companion(x, &rules.circle, random);
+    let mut call = accepted_on(kind, &[x, &other], rules, random);
+    if random.one_in(8) {
+        call.same_words = true;
+        call.recordings[1] = call.recordings[0].clone();
+    }
+    call
+}
+
+// Each block stands somewhere in a recording whose other samples are mostly out of range: a call does not examine them.
+pub fn accepted_on(kind: Kind, blocks: &[&[i32]], rules: &Rules, random: &mut Random) -> Call {
+    let n = blocks[0].len();
+    let start = starts(random);
+    let recordings = blocks.iter().map(|x| around(start, x, random)).collect();
     let products = rules.counts(n).unwrap().of_kind(kind).products;
     let more = products + random.below(1000) as u64;
     Call {
         kind,
         recordings,
-        same_words,
+        same_words: false,
         start,
         length: n,
         allowance: random.of(&[products, products, products + 1, more, u64::MAX]),

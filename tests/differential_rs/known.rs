@@ -4,12 +4,12 @@ use crate::random::Random;
 use crate::run::Run;
 use crate::transforms::{round, Tally};
 
-// A call that document 01 answers: the number, the place, and the results where it gives them.
+// A call that document 01 answers: the number, the place, and the results where it gives them, with the largest rest worked by hand.
 struct Known {
     call: Call,
     number: u32,
     place: usize,
-    results: Option<Vec<Vec<i32>>>,
+    results: Option<(Vec<Vec<i32>>, u64)>,
 }
 
 pub fn known_calls() -> usize {
@@ -32,7 +32,8 @@ pub fn self_check(rules: &Rules) {
         let answer = rules.answer(&known.call);
         assert_eq!((answer.number, answer.place), (known.number, known.place));
         if let Some(results) = &known.results {
-            assert_eq!(&answer.outcome.expect("an accepted block").results, results);
+            let outcome = answer.outcome.expect("an accepted block");
+            assert_eq!(&(outcome.results, outcome.largest_rest), results);
         }
     }
 }
@@ -46,7 +47,8 @@ fn check_circle(rules: &Rules) {
 
 fn check_rounding() {
     let half = 1 << 29;
-    assert_eq!([half - 1, half, -half - 1, -half, 3 * half, -3 * half].map(round), [0, 1, -1, 0, 2, -1]);
+    assert_eq!([half - 1, half, -half - 1, -half, 3 * half, -3 * half].map(|v| round(v).0), [0, 1, -1, 0, 2, -1]);
+    assert_eq!([half - 1, half, -half - 1, -half, 3 * half, -5].map(|v| round(v).1), [half - 1, -half, half - 1, -half, -half, -5]);
 }
 
 // the closed forms; Spectrum's and Pair's from N = 2 on
@@ -68,28 +70,30 @@ fn check_counts(rules: &Rules) {
     assert_eq!(rules.counts(1024).unwrap().spectrum, tally(3586, 12804));
 }
 
-// ---- P1 to P8 and the pair of document 01
+// ---- P1 to P8 and the pair of document 01, and ties
 
 fn blocks_to_try() -> Vec<Known> {
     use Kind::*;
     let impulse = |at: usize| (0..8).map(|n| if n == at { LARGEST } else { 0 }).collect::<Vec<i32>>();
     vec![
-        block(Spectrum, &[&[7]], &[&[7], &[0]]),
-        block(Cosine, &[&[7]], &[&[7]]),
-        block(Spectrum, &[&[1, 2, 3, 4]], &[&[10, -2, -2], &[0, -2, 0]]),
-        block(Cosine, &[&[1, 2, 3, 4]], &[&[10, -3, 0, 0]]),
-        block(Cosine, &[&[3, 1]], &[&[4, 1]]),
-        block(Cosine, &[&[0, 1]], &[&[1, -1]]),
-        block(Cosine, &[&[-1, 1]], &[&[0, -1]]),
-        block(Spectrum, &[&impulse(0)], &[&[LARGEST; 5], &[0; 5]]),
-        block(Spectrum, &[&impulse(1)], &[&[1000000, 707107, 0, -707107, -1000000], &[0, 707107, 1000000, 707107, 0]]),
-        block(Pair, &[&[3, 1], &[0, 2]], &[&[4, 2], &[2, -2]]),
+        block(Spectrum, &[&[7]], &[&[7], &[0]], 0),
+        block(Cosine, &[&[7]], &[&[7]], 0),
+        block(Spectrum, &[&[1, 2, 3, 4]], &[&[10, -2, -2], &[0, -2, 0]], 0),
+        block(Cosine, &[&[1, 2, 3, 4]], &[&[10, -3, 0, 0]], 240_701_527),
+        block(Cosine, &[&[3, 1]], &[&[4, 1]], 444_758_426),
+        block(Cosine, &[&[0, 1]], &[&[1, -1]], 314_491_699),
+        block(Cosine, &[&[-1, 1]], &[&[0, -1]], 444_758_426),
+        block(Spectrum, &[&impulse(0)], &[&[LARGEST; 5], &[0; 5]], 0),
+        block(Spectrum, &[&impulse(1)], &[&[1000000, 707107, 0, -707107, -1000000], &[0, 707107, 1000000, 707107, 0]], 234_943_168),
+        block(Pair, &[&[3, 1], &[0, 2]], &[&[4, 2], &[2, -2]], 0),
+        block(Cosine, &[&[13726, 0, 11996, 0]], &[&[25722, 8091, 1223, 16336]], 1 << 29),
+        block(Cosine, &[&[11996, 0, -13726, 0]], &[&[-1730, 16336, 18188, -8090]], 1 << 29),
     ]
 }
 
-fn block(kind: Kind, recordings: &[&[i32]], results: &[&[i32]]) -> Known {
+fn block(kind: Kind, recordings: &[&[i32]], results: &[&[i32]], largest_rest: u64) -> Known {
     let call = generous(kind, recordings, 0, recordings[0].len(), u64::MAX);
-    Known { call, number: 0, place: 0, results: Some(results.iter().map(|words| words.to_vec()).collect()) }
+    Known { call, number: 0, place: 0, results: Some((results.iter().map(|words| words.to_vec()).collect(), largest_rest)) }
 }
 
 // a call with result buffers and scratch for every length up to 2,048

@@ -6,19 +6,19 @@ extern "C" {
     pub fn mealbis_spectrum(
         recording: *const i32, recording_len: usize, start: usize, length: usize, allowance: u64,
         cosine: *mut i32, cosine_len: usize, sine: *mut i32, sine_len: usize, scratch: *mut i64, scratch_len: usize,
-        products: *mut u64, sums: *mut u64, place: *mut usize,
+        products: *mut u64, sums: *mut u64, largest_rest: *mut u64, place: *mut usize,
     ) -> u32;
 
     pub fn mealbis_mark(
         recording: *const i32, recording_len: usize, start: usize, length: usize, allowance: u64, flat_limit: i32, clip_level: i32,
         cosine: *mut i32, cosine_len: usize, sine: *mut i32, sine_len: usize, scratch: *mut i64, scratch_len: usize,
-        products: *mut u64, sums: *mut u64, place: *mut usize, mark: *mut u32,
+        products: *mut u64, sums: *mut u64, largest_rest: *mut u64, place: *mut usize, mark: *mut u32,
     ) -> u32;
 
     pub fn mealbis_cosine(
         recording: *const i32, recording_len: usize, start: usize, length: usize, allowance: u64,
         coefficients: *mut i32, coefficients_len: usize, scratch: *mut i64, scratch_len: usize,
-        products: *mut u64, sums: *mut u64, place: *mut usize,
+        products: *mut u64, sums: *mut u64, largest_rest: *mut u64, place: *mut usize,
     ) -> u32;
 
     pub fn mealbis_inverse_dct(
@@ -29,7 +29,7 @@ extern "C" {
     pub fn mealbis_pair(
         a: *const i32, a_len: usize, b: *const i32, b_len: usize, start: usize, length: usize, allowance: u64,
         real: *mut i32, real_len: usize, imaginary: *mut i32, imaginary_len: usize, scratch: *mut i64, scratch_len: usize,
-        products: *mut u64, sums: *mut u64, place: *mut usize,
+        products: *mut u64, sums: *mut u64, largest_rest: *mut u64, place: *mut usize,
     ) -> u32;
 
     pub fn mealbis_counts(

@@ -2,8 +2,8 @@
 //
 //     tests/differential [--seed S] [--seconds T | --rounds R] [--table FILE] [--item CLASS INDEX]
 //
-// Document 01 and requests (i) to (iii) of document 02 are implemented here once more, and the exact sums are evaluated term by term. The answer of every call, its counts,
-// its results and the words that it must not touch are compared with them.
+// Document 01 and requests (i) to (iii) and (v) of document 02 are implemented here once more, and the exact sums are evaluated term by
+// term. The answer of every call, its counts, its largest rest, its results and the words that it must not touch are compared with them.
 // Each class of calls is gone through once, then in rounds until the time is up or R rounds are made. --table writes docs/DISTANCES.md, --item repeats one item.
 // The last line is 'N passed, 0 failed', N the calls compared.
 mod back;
@@ -18,6 +18,7 @@ mod library;
 mod marked;
 mod random;
 mod record;
+mod rests;
 mod run;
 mod stored;
 mod ties;
@@ -62,6 +63,7 @@ fn classes() -> Vec<Class> {
         class("marked", marked::item, (blocks::PATTERNS * 11) as u64 * 2, 11),
         class("flawed-marked", marked::flawed_item, marked::SETS, 16),
         class("extreme-marked", marked::extreme_item, 2000, 20),
+        class("rests", rests::item, rests::ITEMS, 11),
     ]
 }
 
@@ -83,6 +85,7 @@ fn main() {
     stored::self_check(&run.rules.circle);
     written::self_check();
     marked::self_check(&run.rules);
+    rests::self_check(&run.rules.circle);
     let rounds = match &words.item {
         Some((name, index)) => one_item(&mut run, words.seed, name, *index),
         None => whole_run(&mut run, &words),
@@ -105,6 +108,7 @@ fn whole_run(run: &mut Run, words: &Words) -> u64 {
     }
     require_sets(run);
     require_rules(run);
+    require_ties(run);
     rounds
 }
 
@@ -163,6 +167,13 @@ fn require_sets(run: &mut Run) {
 fn require_rules(run: &mut Run) {
     if run.record.rules.contains(&0) {
         missing(run, format!("marked blocks by the rules that they meet, none, flat, clipped, both: {:?}", run.record.rules));
+    }
+}
+
+// So must a tie in each kind of call.
+fn require_ties(run: &mut Run) {
+    if run.record.ties.contains(&0) {
+        missing(run, format!("calls of Spectrum, Cosine and Pair with a tie: {:?}", run.record.ties));
     }
 }
 

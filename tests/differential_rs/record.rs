@@ -33,6 +33,8 @@ pub struct Record {
     trips: [(u64, u32, u128); 11],
     // marked blocks by the rules that they meet: none, flat, clipped, both
     pub rules: [u64; 4],
+    // accepted calls of Spectrum, Cosine and Pair that round a tie, whose rest is the largest that there is
+    pub ties: [u64; 3],
 }
 
 impl Record {
@@ -79,6 +81,8 @@ impl Record {
         lines.push(format!("sent back              {}", by_length(&self.trips.map(|trips| trips.0))));
         let [none, flat, clipped, both] = self.rules;
         lines.push(format!("rules of marks met     none: {none}, flat: {flat}, clipped: {clipped}, both: {both}"));
+        let [spectrum, cosine, pair] = self.ties;
+        lines.push(format!("calls with a tie       Spectrum: {spectrum}, Cosine: {cosine}, Pair: {pair}"));
         for (function, name) in FUNCTIONS.iter().enumerate() {
             let of = &self.answers[function];
             let numbers: Vec<String> = (0..of.len()).filter(|&number| of[number] > 0).map(|number| format!("{}: {}", number, of[number])).collect();

@@ -45,14 +45,17 @@ impl Run {
         if wrong.is_empty() && number == 0 {
             (apart, wrong) = self.distances(call, &lent.result_words(), wanted, random);
         }
-        self.note(call, answer.number);
+        self.note(call, &answer);
         self.fail(wrong, || described(call));
         (apart, lent)
     }
 
-    fn note(&mut self, call: &Call, number: u32) {
+    fn note(&mut self, call: &Call, answer: &Answer) {
         let holding: Vec<u32> = (1..=6).filter(|&condition| self.rules.holds(call, condition)).collect();
-        self.record.answer(function_of(call.kind), number, &holding);
+        self.record.answer(function_of(call.kind), answer.number, &holding);
+        if answer.outcome.as_ref().is_some_and(|outcome| outcome.largest_rest == 1 << 29) {
+            self.record.ties[function_of(call.kind)] += 1;
+        }
     }
 
     fn distances(&mut self, call: &Call, results: &[&[i32]], wanted: usize, random: &mut Random) -> (u128, Vec<String>) {
@@ -236,14 +239,20 @@ struct LentCall {
 struct LentCounts {
     products: Lent<u64>,
     sums: Lent<u64>,
+    largest_rest: Lent<u64>,
     place: Lent<usize>,
 }
 
 impl LentCounts {
-    fn expect_counts(&mut self, counts: &[u64; 2], place: usize) {
-        self.products.expect(&counts[..1]);
-        self.sums.expect(&counts[1..]);
+    fn expect_counts(&mut self, [products, sums, largest_rest]: [u64; 3], place: usize) {
+        self.products.expect(&[products]);
+        self.sums.expect(&[sums]);
+        self.largest_rest.expect(&[largest_rest]);
         self.place.expect(&[place]);
+    }
+
+    fn differences(&self) -> [Option<String>; 4] {
+        [self.products.difference(), self.sums.difference(), self.largest_rest.difference(), self.place.difference()]
     }
 }
 
@@ -261,6 +270,7 @@ impl LentCall {
             counts: LentCounts {
                 products: Lent::filled("the products", 1, random),
                 sums: Lent::filled("the sums", 1, random),
+                largest_rest: Lent::filled("the largest rest", 1, random),
                 place: Lent::filled("the place", 1, random),
             },
         }
@@ -268,14 +278,14 @@ impl LentCall {
 
     fn expect(&mut self, answer: &Answer, length: usize) {
         let Some(outcome) = &answer.outcome else {
-            self.counts.expect_counts(&[0, 0], answer.place);
+            self.counts.expect_counts([0; 3], answer.place);
             return;
         };
         for (lent, words) in self.results.iter_mut().zip(&outcome.results) {
             lent.expect(words);
         }
         self.scratch.expect(&vec![0; 8 * length + 64]);
-        self.counts.expect_counts(&[outcome.tally.products, outcome.tally.sums], 0);
+        self.counts.expect_counts([outcome.tally.products, outcome.tally.sums, outcome.largest_rest], 0);
     }
 
     // Spectrum with a mark where there are a flat limit, a clip level and a word for the mark
@@ -287,23 +297,31 @@ impl LentCall {
         let (b, b_len) = if call.same_words { lent[0] } else { lent[lent.len() - 1] };
         let ((y, y_len), (z, z_len)) = (out[0], out[out.len() - 1]);
         let (work, work_len) = (self.scratch.pointer(), self.scratch.len());
-        let (products, sums, place) = (self.counts.products.pointer(), self.counts.sums.pointer(), self.counts.place.pointer());
+        let (products, sums) = (self.counts.products.pointer(), self.counts.sums.pointer());
+        let (rest, place) = (self.counts.largest_rest.pointer(), self.counts.place.pointer());
         unsafe {
             match call.kind {
                 Kind::Spectrum if marked.is_some() => {
                     let (flat, clip, mark) = marked.unwrap();
-                    mealbis_mark(a, a_len, start, length, allowance, flat, clip, y, y_len, z, z_len, work, work_len, products, sums, place, mark)
+                    mealbis_mark(
+                        a, a_len, start, length, allowance, flat, clip, y, y_len, z, z_len, work, work_len, products, sums, rest, place, mark,
+                    )
                 }
-                Kind::Spectrum => mealbis_spectrum(a, a_len, start, length, allowance, y, y_len, z, z_len, work, work_len, products, sums, place),
-                Kind::Cosine => mealbis_cosine(a, a_len, start, length, allowance, y, y_len, work, work_len, products, sums, place),
-                Kind::Pair => mealbis_pair(a, a_len, b, b_len, start, length, allowance, y, y_len, z, z_len, work, work_len, products, sums, place),
+                Kind::Spectrum => mealbis_spectrum(
+                    a, a_len, start, length, allowance, y, y_len, z, z_len, work, work_len, products, sums, rest, place,
+                ),
+                Kind::Cosine => mealbis_cosine(a, a_len, start, length, allowance, y, y_len, work, work_len, products, sums, rest, place),
+                Kind::Pair => mealbis_pair(
+                    a, a_len, b, b_len, start, length, allowance, y, y_len, z, z_len, work, work_len, products, sums, rest, place,
+                ),
             }
         }
     }
 
     fn differences(&self) -> Vec<String> {
         let mut found: Vec<Option<String>> = self.recordings.iter().chain(&self.results).map(Lent::difference).collect();
-        found.extend([self.scratch.difference(), self.counts.products.difference(), self.counts.sums.difference(), self.counts.place.difference()]);
+        found.push(self.scratch.difference());
+        found.extend(self.counts.differences());
         differences(&found)
     }
 

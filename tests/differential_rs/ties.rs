@@ -32,6 +32,20 @@ pub fn dft(n: usize, circle: &Circle, random: &mut Random) -> Option<Vec<i32>> {
     Some(x)
 }
 
+// The same with the tie in one of the two alone: half of each inner sample stands at either of the two places that (12) adds and (15) takes
+// from each other, with one sign for the cosine-DFT and with two for the sine-DFT.
+pub fn one_sided(n: usize, of_sine: bool, circle: &Circle, random: &mut Random) -> Option<Vec<i32>> {
+    let even = |x: &Vec<i32>| x.iter().all(|v| v % 2 == 0);
+    let inner = (0..10).find_map(|_| dct(n / 4, circle, random).filter(even))?;
+    let mut x = vec![0; n];
+    for (i, &v) in inner.iter().enumerate() {
+        let (early, late) = (2 * i + 1, n - 2 * i - 1);
+        x[early] = if of_sine && i % 2 == 1 { -v / 2 } else { v / 2 };
+        x[late] = if of_sine { -x[early] } else { x[early] };
+    }
+    Some(x)
+}
+
 // A block whose DCT has C(N/2) = N · 2^19: at N = 1,024 this is 2^29, and T(512), which is odd, makes it a tie at DCT(N/2).
 pub fn middle(n: usize, random: &mut Random) -> Vec<i32> {
     let size = random.of(&[1 << 19, -1 << 19]);

@@ -1,4 +1,4 @@
-// Document 01's transforms, by its equations (n), with every product and sum counted where it is made.
+// Document 01's transforms, by its equations (n), with every product and sum counted, and every rest looked at, where it is made.
 use crate::circle::Circle;
 
 #[derive(Clone, Copy, Default, PartialEq, Debug)]
@@ -7,16 +7,18 @@ pub struct Tally {
     pub sums: u64,
 }
 
-// What an accepted block gives: the words of each result buffer and the counts.
+// What an accepted block gives: the words of each result buffer, the counts and the largest size of a rest.
 #[derive(PartialEq, Debug)]
 pub struct Outcome {
     pub results: Vec<Vec<i32>>,
     pub tally: Tally,
+    pub largest_rest: u64,
 }
 
 pub struct Transforms<'a> {
     circle: &'a Circle,
     tally: Tally,
+    largest_rest: u64,
 }
 
 // ---- the calls on a block
@@ -57,7 +59,7 @@ pub fn pair(circle: &Circle, a: &[i32], b: &[i32]) -> Outcome {
 
 impl<'a> Transforms<'a> {
     fn new(circle: &'a Circle) -> Transforms<'a> {
-        Transforms { circle, tally: Tally::default() }
+        Transforms { circle, tally: Tally::default(), largest_rest: 0 }
     }
 
     // k = 0 .. N/2
@@ -120,7 +122,8 @@ impl<'a> Transforms<'a> {
         for k in 1..n / 2 {
             (y[k], y[n - k]) = self.rotated(1024 * k / n, c[k], s[k]);
         }
-        y[n / 2] = round(self.times(self.circle.t(512), c[n / 2]));
+        let middle = self.times(self.circle.t(512), c[n / 2]);
+        y[n / 2] = self.rounded(middle);
         y
     }
 
@@ -132,7 +135,13 @@ impl<'a> Transforms<'a> {
         let (m1, m2, m3) = (self.times(s1, c), self.times(big_s, p1), self.times(big_c, p2));
         let (first, second) = (self.minus(m1, m2), self.plus(m1, m3));
         assert_eq!((first, second), (c * big_c - s * big_s, s * big_c + c * big_s));
-        (round(first), round(second))
+        (self.rounded(first), self.rounded(second))
+    }
+
+    fn rounded(&mut self, v: i64) -> i64 {
+        let (y, rest) = round(v);
+        self.largest_rest = self.largest_rest.max(rest.unsigned_abs());
+        y
     }
 
     // ---- counted operations
@@ -154,7 +163,7 @@ impl<'a> Transforms<'a> {
 
     fn outcome(&self, coefficients: &[Vec<i64>]) -> Outcome {
         let narrowed = |y: &Vec<i64>| y.iter().map(|&v| i32::try_from(v).expect("a coefficient fits")).collect();
-        Outcome { results: coefficients.iter().map(narrowed).collect(), tally: self.tally }
+        Outcome { results: coefficients.iter().map(narrowed).collect(), tally: self.tally, largest_rest: self.largest_rest }
     }
 }
 
@@ -211,7 +220,10 @@ fn dct_at(y: &[i64], k: usize) -> i64 {
     }
 }
 
-// the nearest multiple of 2^30, a tie going to the larger, over 2^30
-pub fn round(v: i64) -> i64 {
-    (v + (1 << 29)).div_euclid(1 << 30)
+// The nearest multiple of 2^30, a tie going to the larger, over 2^30; and its rest, which is the last 30 binary digits read with a sign.
+pub fn round(v: i64) -> (i64, i64) {
+    let y = (v + (1 << 29)).div_euclid(1 << 30);
+    let rest = v << 34 >> 34;
+    assert_eq!(v, y * (1 << 30) + rest);
+    (y, rest)
 }

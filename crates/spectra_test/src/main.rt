@@ -18,9 +18,14 @@ ghost use lib.ListN.{length};
 
 // ---- what is written
 
+fn write_counts(products: u64, sums: u64) {
+    write_count(products);
+    write_count(sums);
+}
+
 fn write_tally(tally: Tally) {
-    write_count(tally.products);
-    write_count(tally.sums);
+    write_counts(tally.products, tally.sums);
+    write_count(tally.largest_rest);
 }
 
 fn write_refusal(refusal: Refusal) {
@@ -81,7 +86,17 @@ fn random_sample(state: u64) -> i32 {
     }
 }
 
-// The sample at place i of a kind of recording: the ends of the range, alternating signs, one large sample, two ones, or random.
+// The sample at a place below 8 of a wave that is 0, +, +, +, 0, -, -, - from place 3 on.
+fn wave_sample(i: usize) -> i32 {
+    match i {
+        3 => 0,
+        7 => 0,
+        _ => if i < 3 { -654321 } else { 654321 },
+    }
+}
+
+// The sample at place i of a kind of recording: the ends of the range, alternating signs, one large sample, two ones, random, or a wave of
+// which a block from place 3 has one rest that is not 0: that of DCT(N/2) in Cosine, one of the sine-DFT in Spectrum.
 fn sample(kind: usize, i: usize, state: u64) -> i32 {
     match kind {
         0 => 1000000,
@@ -89,7 +104,9 @@ fn sample(kind: usize, i: usize, state: u64) -> i32 {
         2 => if i % 2 == 0 { 1000000 } else { -1000000 },
         3 => if i == 4 { 1000000 } else { 0 },
         4 => if i == 4 || i == 5 { 1 } else { 0 },
-        _ => random_sample(state),
+        5 => random_sample(state),
+        6 => if i % 4 < 2 { -524288 } else { 524288 },
+        _ => wave_sample(i % 8),
     }
 }
 
@@ -208,9 +225,9 @@ fn run_query(length: usize) {
     match count_query(length) {
         CountsAnswer::BadLength => write_count(1),
         CountsAnswer::Counted(counts) => {
-            write_tally(counts.dct);
-            write_tally(counts.spectrum);
-            write_tally(counts.pair);
+            write_counts(counts.dct.products, counts.dct.sums);
+            write_counts(counts.spectrum.products, counts.spectrum.sums);
+            write_counts(counts.pair.products, counts.pair.sums);
         }
     }
     io::write_all(STDOUT_FILENO, b"\n");
@@ -239,10 +256,10 @@ fn run_roomy(a: &[i32], b: &[i32], start: usize, length: usize, allowance: u64) 
 // ---- every length of every kind of block, from start 3
 
 fn run_kind(kind: usize, level: usize)
-    requires { ⌜ (kind ≤ 5) × (level ≤ 10) ⌝ }
+    requires { ⌜ (kind ≤ 7) × (level ≤ 10) ⌝ }
 {
     let a = recording(kind, 1);
-    let b = recording(5 - kind, 2);
+    let b = recording(7 - kind, 2);
     run_roomy(&a, &b, 3, 1 << level, 20000);
 }
 
@@ -291,6 +308,16 @@ fn run_small(x0: i32, x1: i32, x2: i32, x3: i32, length: usize) {
     run_roomy(&a, &b, 0, length, 20000);
 }
 
+// A tie in the cosine-DFT alone, or in the sine-DFT alone.
+fn run_ties() {
+    let silence = [0i32; 16];
+    let cosine_tie = [0, 6863, 0, 0, 0, 5998, 0, 0, 0, 0, 0, 5998, 0, 0, 0, 6863];
+    let sine_tie = [0, 6863, 0, 0, 0, 5998, 0, 0, 0, 0, 0, -5998, 0, 0, 0, -6863];
+    run_roomy(&cosine_tie, &silence, 0, 16, 20000);
+    run_roomy(&silence, &sine_tie, 0, 16, 20000);
+    run_roomy(&sine_tie, &cosine_tie, 0, 16, 20000);
+}
+
 fn run_blocks_to_try() {
     run_small(7, 0, 0, 0, 1);
     run_small(1, 2, 3, 4, 4);
@@ -301,6 +328,7 @@ fn run_blocks_to_try() {
     run_small(-13726, 0, -11996, 0, 4);
     run_small(-11996, 0, 13726, 0, 4);
     run_small(11996, 0, -13726, 0, 4);
+    run_ties();
     let mut a = recording(3, 1);
     let b = recording(5, 2);
     run_roomy(&a, &b, 4, 8, 12);
@@ -345,7 +373,7 @@ enum Part {
 // A kind and one of 11 lengths; two refusals; a length; a power of 2 up to 4096.
 fn run_turn(part: Part, n: usize) {
     match part {
-        Part::Kinds => run_kind(n / 11 % 6, n % 11),
+        Part::Kinds => run_kind(n / 11 % 8, n % 11),
         Part::Refusals => run_refusals(n / 10, n % 10),
         Part::Starts => run_starts(n),
         Part::Queries => run_queries_near(1 << (n % 13)),
@@ -359,7 +387,7 @@ fn run_part(part: Part, turns: usize) {
 }
 
 fn main() {
-    run_part(Part::Kinds, 66);
+    run_part(Part::Kinds, 88);
     run_part(Part::Refusals, 100);
     run_blocks_to_try();
     run_part(Part::Starts, 10);
