@@ -23,7 +23,7 @@ use Rattle.ffct.proofs.Counts.{FewOperations, few-operations}
 use Rattle.ffct.proofs.Sizes.{accepted-inner, dft-size, dct-within}
 use Rattle.ffct.proofs.ElevenLengths.{is-power, as-len, level-le, length-le}
 use Rattle.counts.specs.declared.tally.Tally.{Tally}
-use Rattle.counts.specs.Tally.{Tallied}
+use Rattle.counts.specs.Tally.{TalliedAs}
 use Rattle.transforms.specs.Pairs.{paired}
 use Rattle.transforms.specs.Steps.{Ready, Gives, DftReady, DftDone, DctReady, DctDone, dftRoom, dctRoom}
 use Rattle.transforms.proofs.Pairs.{paired-same}
@@ -98,10 +98,8 @@ module _ {n : ℕ} {x : Samples} {at : ℕ} {w v : List ℤ} {spent : Tally} (r 
     }
 
     module _ {v₁ : List ℤ} {t₁ : Tally} (cosined : DftDone cosineDft n 1 at v v₁ spent t₁) where
-      cosine-tallied :
-          let t = cosineDft (level n) x in
-          Tallied (t .products) (t .sums) (t .largestRest) spent t₁
-      cosine-tallied = subst (λ t. Tallied (t .products) (t .sums) (t .largestRest) spent t₁) cosine-is (cosined .tallied)
+      cosine-tallied : TalliedAs (cosineDft (level n) x) spent t₁
+      cosine-tallied = subst (λ t. TalliedAs t spent t₁) cosine-is (cosined .tallied)
 
       block₁ : (i : ℕ) → i < n → paired n 1 (word v₁) i ≡ x i
       block₁ i h = paired-same n 1 (word v₁) (word v) (omega arith) (λ j o. cosined .front j (omega (arith, r .behind))) i h ∙ block₀ i h
@@ -122,7 +120,7 @@ module _ {n : ℕ} {x : Samples} {at : ℕ} {w v : List ℤ} {spent : Tally} (r 
       pub dfts-made : {v₂ : List ℤ} {t₂ : Tally} → DftDone sineDft n 1 (at + n / 2 + 1) v₁ v₂ t₁ t₂ → DftsMade n x at w v₂ spent t₂
       unfolding spectrum
       dfts-made {v₂} {t₂} sined =
-          let sine-tallied = subst (λ t. Tallied (t .products) (t .sums) (t .largestRest) t₁ t₂) sine-is (sined .tallied) in
+          let sine-tallied = subst (λ t. TalliedAs t t₁ t₂) sine-is (sined .tallied) in
           record {
             cosineWords = λ k h. sined .front (at + k) (omega arith) ∙ cosined .coefficients k h ∙ ap (λ t. t .at k) cosine-is;
             sineWords = λ k h. sined .coefficients k h ∙ ap (λ t. t .at k) sine-is;

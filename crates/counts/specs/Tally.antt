@@ -1,6 +1,7 @@
 -- What a step adds to the tally that it is handed.
 use mathlib.Core.Path.{_≡_}
 use Prim.Native.Nat.{ℕ, _+_, _^_, _≤_, max}
+use Rattle.ffct.specs.Transforms.{Transform}
 use Rattle.counts.specs.declared.tally.Tally.{Tally}
 
 -- p products and a sums more, and roundings whose largest rest is r in size
@@ -8,6 +9,10 @@ pub record Tallied (p a r : ℕ) (before after : Tally) : Type 0 where
   pub products : after .products ≡ before .products + p
   pub sums : after .sums ≡ before .sums + a
   pub rest : after .«largest_rest» ≡ max (before .«largest_rest») r
+
+-- what a transform t makes
+abbrev pub TalliedAs : Transform → Tally → Tally → Type 0
+TalliedAs t before after = Tallied (t .products) (t .sums) (t .largestRest) before after
 
 -- a sums more, and nothing else
 pub record Summed (a : ℕ) (before after : Tally) : Type 0 where

@@ -50,7 +50,8 @@ pub dft-same : (L : ℕ) → DftSame L
 unfolding cosineDft dct
 dft-same zero x y e = (ap (λ z. record { at = λ k. z; products = 0; sums = 0; largestRest = 0 }) (e 0 (omega arith)), refl)
 dft-same (suc zero) x y e = (
-  ap₂ (λ u v. record { at = λ k. cond (eqb k 0) (u +ℤ v) (u -ℤ v); products = 0; sums = 2; largestRest = 0 }) (e 0 (omega arith)) (e 1 (omega arith)),
+  ap₂ (λ u v. record { at = λ k. cond (eqb k 0) (u +ℤ v) (u -ℤ v); products = 0; sums = 2; largestRest = 0 })
+      (e 0 (omega arith)) (e 1 (omega arith)),
   refl,
 )
 dft-same (suc (suc L)) x y e =

@@ -181,7 +181,9 @@ module _ (m w : ℕ) (y C S : ℕ → ℤ) (X e : ℕ) (q : 2 * m * w ≡ 1024) 
       middle l = rw (rotated-some (2 * m) C S k (omega arith), unrounded-middle m w C S q k l, ap (dctSum w (2 * m) y) l) at-middle
 
       high : m < k → E k
-      high l = rw (rotated-some (2 * m) C S k (omega arith), unrounded-high m w C S q k l) (at-high k (2 * m - k) (omega arith) (omega arith))
+      high l =
+          rw (rotated-some (2 * m) C S k (omega arith), unrounded-high m w C S q k l)
+          (at-high k (2 * m - k) (omega arith) (omega arith))
 
 -- ---- one and two samples: no error
 no-gap : (z : ℤ) → z -ℤ z within 0

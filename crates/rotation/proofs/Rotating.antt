@@ -16,7 +16,8 @@ use Rattle.ffct.proofs.ElevenLengths.{twice-half, divides}
 use Rattle.ffct.proofs.Steps.{rotated-zero, rotated-some, unrounded-low, unrounded-middle, unrounded-high}
 use Rattle.counts.specs.declared.tally.Tally.{Tally}
 use Rattle.counts.specs.Tally.{Tallied}
-use Rattle.rotation.specs.Rotation.{cosineAt, sineAt, lowAt, highAt, PairReady, PairPut, SingleReady, SinglePut, RotationReady, Rotated}
+use Rattle.rotation.specs.Rotation.{cosineAt, sineAt, lowAt, highAt}
+use Rattle.rotation.specs.Rotation.{PairReady, PairPut, SingleReady, SinglePut, RotationReady, Rotated}
 
 -- the size of the rest of DCT(i + 1)
 abbrev restAt : ℕ → List ℤ → ℕ → ℕ
@@ -28,7 +29,8 @@ pub record Run (n : ℕ) (before : List ℤ) (spent : Tally) (a : ℕ) (after : 
   pub tallied : Tallied (3 * a) (3 * a) (largest a (both-ends (n / 2 - 1) (restAt n before))) spent total
 
 pub none-made : {n a : ℕ} {before : List ℤ} {spent : Tally} → a ≡ 0 → Run n before spent a before spent
-none-made {n} {a} {before} {spent} e = rw e (record { words = ends-none; tallied = omega (arith, largest-none (both-ends (n / 2 - 1) (restAt n before))) })
+none-made {n} {before = before} e =
+    rw e (record { words = ends-none; tallied = omega (arith, largest-none (both-ends (n / 2 - 1) (restAt n before))) })
 
 module _ {n : ℕ} {before : List ℤ} {spent : Tally} (r : RotationReady n before spent) where
   abbrev h : ℕ
@@ -124,7 +126,8 @@ module _ {n : ℕ} {before : List ℤ} {spent : Tally} (r : RotationReady n befo
       room = omega (arith, r .room, run .tallied);
     }
 
-    pub all-made : {after′ : List ℤ} {total′ : Tally} → a + 1 ≡ h → SinglePut n after after′ total total′ → Rotated n before after′ spent total′
+    pub all-made : {after′ : List ℤ} {total′ : Tally} → a + 1 ≡ h → SinglePut n after after′ total total′ →
+        Rotated n before after′ spent total′
     unfolding rotationRest
     all-made o put = record {
       words = ends-two (omega (arith, r .some, even)) (λ e. even) (run .words) (put .both)

@@ -10,7 +10,8 @@ ghost use mathlib.Core.Path.{_≡_};
 ghost use lib.IntN.{natAbs};
 ghost use Rattle.circle.specs.Circle.{IsQuarterWave};
 ghost use Rattle.ffct.specs.Block.{largestSum};
-ghost use Rattle.rotation.specs.Rotation.{PairRotated, MiddleRotated, PairReady, PairPut, SingleReady, SinglePut, RotationReady, Rotated};
+ghost use Rattle.rotation.specs.Rotation.{PairRotated, MiddleRotated};
+ghost use Rattle.rotation.specs.Rotation.{PairReady, PairPut, SingleReady, SinglePut, RotationReady, Rotated};
 
 // DCT(k) and DCT(n - k), with the products and sums that they take and the larger size of their two rests.
 pub struct Rotation {

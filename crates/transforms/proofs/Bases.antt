@@ -23,7 +23,7 @@ use Rattle.ffct.specs.Transforms.{unrounded, rotated, rotationRest}
 use Rattle.ffct.proofs.Lengths.{len, len-pos}
 use Rattle.ffct.proofs.ElevenLengths.{as-len}
 use Rattle.counts.specs.declared.tally.Tally.{Tally}
-use Rattle.counts.specs.Tally.{Tallied, Summed}
+use Rattle.counts.specs.Tally.{Tallied, TalliedAs, Summed}
 use Rattle.transforms.specs.Pairs.{paired}
 use Rattle.transforms.specs.Steps.{Gives, DftReady, DftDone, DctReady, DctDone, FoldReady, Folded, DifferenceReady, DifferencePut}
 use Rattle.transforms.proofs.Pairs.{paired-near, paired-far, paired-odd, paired-mirror}
@@ -32,7 +32,7 @@ use Rattle.transforms.proofs.Folding.{beside-ready}
 
 -- words written are the coefficients
 pub gives : {t : Transform} {at m : ℕ} {before after : List ℤ} {spent total : Tally} → Written at m (t .at) before after →
-    Tallied (t .products) (t .sums) (t .largestRest) spent total → Gives t at m before after spent total
+    TalliedAs t spent total → Gives t at m before after spent total
 gives w t = record { coefficients = w .new; front = w .low; tallied = t; len = w .len }
 
 -- ---- the samples of a block of one or two in pairs
@@ -55,7 +55,8 @@ module _ {s at : ℕ} {w : List ℤ} {spent : Tally} where
   cosine-two r e d t =
       let x = paired-0 2 s (word w) (omega arith) in
       let y = paired-1 s (word w) in
-      gives (written-more (written-one (omega (arith, r .fits)) (e ∙ rw (x, y))) (omega (arith, r .fits)) (d ∙ rw (x, y))) (omega (arith, t))
+      gives (written-more (written-one (omega (arith, r .fits)) (e ∙ rw (x, y))) (omega (arith, r .fits)) (d ∙ rw (x, y)))
+      (omega (arith, t))
 
 -- the sine-DFT of one or two samples
 none : (L : ℕ) (x : Samples) → len L ≤ 2 →

@@ -21,7 +21,7 @@ use Rattle.ffct.proofs.Sizes.{dft-size}
 use Rattle.ffct.proofs.Blocks.{Same, dft-same, rotated-same, rotation-rest-same}
 use Rattle.ffct.proofs.Steps.{dct-step, dct-products, dct-sums, dct-rest}
 use Rattle.counts.specs.declared.tally.Tally.{Tally}
-use Rattle.counts.specs.Tally.{Tallied}
+use Rattle.counts.specs.Tally.{TalliedAs}
 use Rattle.transforms.specs.Pairs.{paired}
 use Rattle.rotation.specs.Rotation.{cosineAt, sineAt, RotationReady, Rotated}
 use Rattle.transforms.specs.Steps.{Ready, DftReady, DftDone, DctReady, DctDone}
@@ -85,8 +85,8 @@ module _ {n : ℕ} {w₀ : List ℤ} {spent : Tally} (start : DctReady n w₀ sp
 
   -- ---- after the cosine-DFT
   module _ {w₁ : List ℤ} {t₁ : Tally} (cosined : DftDone cosineDft n 1 n w₀ w₁ spent t₁) where
-    cosine-tallied : Tallied (C .products) (C .sums) (C .largestRest) spent t₁
-    cosine-tallied = subst (λ t. Tallied (t .products) (t .sums) (t .largestRest) spent t₁) cosine-is (cosined .tallied)
+    cosine-tallied : TalliedAs C spent t₁
+    cosine-tallied = subst (λ t. TalliedAs t spent t₁) cosine-is (cosined .tallied)
 
     block₁ : (i : ℕ) → i < n → paired n 1 (word w₁) i ≡ paired n 1 (word w₀) i
     block₁ = paired-same n 1 (word w₁) (word w₀) (omega arith) (λ j h. cosined .front j (omega arith))
@@ -109,8 +109,8 @@ module _ {n : ℕ} {w₀ : List ℤ} {spent : Tally} (start : DctReady n w₀ sp
 
     -- ---- after the sine-DFT
     module _ {w₂ : List ℤ} {t₂ : Tally} (sined : DftDone sineDft n 1 at w₁ w₂ t₁ t₂) where
-      sine-tallied : Tallied (S .products) (S .sums) (S .largestRest) t₁ t₂
-      sine-tallied = subst (λ t. Tallied (t .products) (t .sums) (t .largestRest) t₁ t₂) sine-is (sined .tallied)
+      sine-tallied : TalliedAs S t₁ t₂
+      sine-tallied = subst (λ t. TalliedAs t t₁ t₂) sine-is (sined .tallied)
 
       cosine-word : (k : ℕ) → k ≤ n / 2 → cosineAt n w₂ k ≡ cosineDft (level n) (paired n 1 (word w₀)) .at k
       cosine-word k h = sined .front (n + k) (omega arith) ∙ cosined .coefficients k (omega arith)

@@ -27,7 +27,7 @@ use Rattle.ffct.proofs.Sizes.{Inner, dft-size, dct-within}
 use Rattle.ffct.proofs.Blocks.{Same, dft-same, dct-same, sine-first, sine-last, cosine-beyond-same, sine-beyond-same, dct-beyond-same}
 use Rattle.ffct.proofs.Steps.{cosine-step, cosine-products, cosine-sums, cosine-rest, sine-step, sine-products, sine-sums, sine-rest}
 use Rattle.counts.specs.declared.tally.Tally.{Tally}
-use Rattle.counts.specs.Tally.{Tallied}
+use Rattle.counts.specs.Tally.{TalliedAs}
 use Rattle.transforms.specs.Pairs.{paired}
 use Rattle.transforms.specs.Steps.{Ready, Gives, DftReady, DftDone, DctReady, DctDone, FoldReady, Folded}
 use Rattle.transforms.specs.Steps.{evenAt, oddAt, cosineJoin, sineJoin, JoinReady, Joined}
@@ -165,8 +165,8 @@ module _ {transform : ℕ → Samples → Transform} {fold : ℕ → Samples →
 
   -- ---- after the even samples are transformed
   module _ {w₁ : List ℤ} {t₁ : Tally} (evened : DftDone transform (n / 2) (2 * s) at w₀ w₁ spent t₁) where
-    even-tallied : Tallied (even .products) (even .sums) (even .largestRest) spent t₁
-    even-tallied = subst (λ t. Tallied (t .products) (t .sums) (t .largestRest) spent t₁) even-is (evened .tallied)
+    even-tallied : TalliedAs even spent t₁
+    even-tallied = subst (λ t. TalliedAs t spent t₁) even-is (evened .tallied)
 
     -- the block is as it was
     block₁ : (i : ℕ) → i < n → paired n s (word w₁) i ≡ x i
@@ -210,8 +210,8 @@ module _ {transform : ℕ → Samples → Transform} {fold : ℕ → Samples →
 
       -- ---- after the DCT
       module _ {w₃ : List ℤ} {t₃ : Tally} (oddened : Gives (dct l (word (part b w₂))) b (n / 4) w₂ w₃ t₂ t₃) where
-        odd-tallied : Tallied (odd .products) (odd .sums) (odd .largestRest) t₂ t₃
-        odd-tallied = subst (λ t. Tallied (t .products) (t .sums) (t .largestRest) t₂ t₃) odd-is (oddened .tallied)
+        odd-tallied : TalliedAs odd t₂ t₃
+        odd-tallied = subst (λ t. TalliedAs t t₂ t₃) odd-is (oddened .tallied)
 
         length₃ : length w₃ ≡ length w₀
         length₃ = oddened .len ∙ folded .words .len ∙ evened .len

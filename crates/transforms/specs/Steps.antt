@@ -11,7 +11,7 @@ use Rattle.words.specs.Words.{Samples, word, Written}
 use Rattle.ffct.specs.Block.{isLength, level, largestSum}
 use Rattle.ffct.specs.Transforms.{Transform, dct, cosineBeyond, sineBeyond, dctBeyond, apart}
 use Rattle.counts.specs.declared.tally.Tally.{Tally}
-use Rattle.counts.specs.Tally.{Tallied, Summed, HasRoom}
+use Rattle.counts.specs.Tally.{TalliedAs, Summed, HasRoom}
 use Rattle.transforms.specs.Pairs.{paired}
 
 -- ---- the transforms
@@ -27,7 +27,7 @@ pub record Ready (n : ℕ) (x : Samples) : Type 0 where
 pub record Gives (t : Transform) (at m : ℕ) (before after : List ℤ) (spent total : Tally) : Type 0 where
   pub coefficients : (k : ℕ) → k < m → word after (at + k) ≡ t .at k
   pub front : (k : ℕ) → k < at → word after k ≡ word before k
-  pub tallied : Tallied (t .products) (t .sums) (t .largestRest) spent total
+  pub tallied : TalliedAs t spent total
   pub len : length after ≡ length before
 
 -- the words that a DCT of n samples works in: the samples, which its coefficients replace, and its two DFTs, 3 n words in all; for one

@@ -40,7 +40,8 @@ module _ (c : tie.Start) where
 
   multiple-fits : SFits w64 (int (2 ^ 30) *ℤ round (c .args .v))
   multiple-fits =
-      within-fits (within-eq (rounded-multiple (c .args .v)) (within-sub (size-within (c .args .v) (c .pre)) (rest-within (c .args .v)))) (lit< tt)
+      let v = c .args .v in
+      within-fits (within-eq (rounded-multiple v) (within-sub (size-within v (c .pre)) (rest-within v))) (lit< tt)
 
   power : Word w64 1073741824 (int (2 ^ 30))
   power = natural (lit< tt)

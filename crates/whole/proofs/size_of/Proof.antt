@@ -16,7 +16,9 @@ module _ (c : tie.Then1) where
   fits = within-fits (within-neg (size-within (c .before .args .z) (c .before .pre))) (lit< tt)
 
   turned : toZ w64 (ofZ w64 (pos 0 -ℤ toZ w64 (ofZ w64 (c .before .args .z)))) ≡ pos (natAbs (c .before .args .z))
-  turned = negated (word (c .before .fits .z)) fits .is ∙ negative-turned (c .before .args .z) (rw (toZ-ofZ (c .before .fits .z)) at (c .if1 .taken))
+  turned =
+      let f = c .before .fits .z in
+      negated (word f) fits .is ∙ negative-turned (c .before .args .z) (rw (toZ-ofZ f) at (c .if1 .taken))
 
 pub size-of-spec : {M : Type 1} → statement M
 size-of-spec =
@@ -25,6 +27,6 @@ size-of-spec =
     (λ c. negates (word (c .before .fits .z)) (fits c))  -- sub-result
     (λ c. rw (turned c) (tt, fits-natAbs tt (c .before .fits .z)))  -- cast-result
     (λ c. ap natAbs (turned c))  -- returns
-    (λ c. rw (toZ-ofZ (c .before .fits .z))
-    (not-negative (c .before .args .z) (rw (toZ-ofZ (c .before .fits .z)) at (c .if1 .left)), fits-natAbs tt (c .before .fits .z)))  -- cast-result-2
+    (λ c. let f = c .before .fits .z in
+    rw (toZ-ofZ f) (not-negative (c .before .args .z) (rw (toZ-ofZ f) at (c .if1 .left)), fits-natAbs tt f))  -- cast-result-2
     (λ c. search needs))  -- returns-2
