@@ -1,7 +1,7 @@
 // The calls for programs in C and in Rust: plain numbers, slices as pointer and length, and the answer as the number of document 01 or 02,
 // 0 where the call is accepted. Counts, the largest rest, sizes and place come back through lent words, which are written in every answer.
-// No function asks anything of its input, and each promises the record of the call that it makes (specs/Promises.antt). include/mealbis.h is
-// written for who calls them.
+// No function asks anything of its input, and each promises the record of the call that it makes (specs/Promises.antt). include/mealbis.h
+// is written for who calls them.
 pub mod version;
 
 use pairfile::reader;

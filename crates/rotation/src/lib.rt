@@ -14,7 +14,7 @@ ghost use Rattle.rotation.specs.Rotation.{PairRotated, MiddleRotated};
 ghost use Rattle.rotation.specs.Rotation.{PairReady, PairPut, SingleReady, SinglePut, RotationReady, Rotated};
 
 // DCT(k) and DCT(n - k), with the products and sums that they take and the larger size of their two rests.
-pub struct Rotation {
+struct Rotation {
     pub low: i64,
     pub high: i64,
     pub products: u64,
@@ -23,7 +23,7 @@ pub struct Rotation {
 }
 
 // (20), from the cosine-DFT and the sine-DFT at k, c and s being the table's entries. (c + s and s - c are sums of table entries alone.)
-pub fn rotate_pair(c: i64, s: i64, cosine: i64, sine: i64) -> Rotation
+fn rotate_pair(c: i64, s: i64, cosine: i64, sine: i64) -> Rotation
     requires { ⌜ (natAbs cosine ≤ largestSum + 128) × (natAbs sine ≤ largestSum + 128) ⌝ }
     requires { ⌜ (natAbs c ≤ 2 ^ 30) × (natAbs s ≤ 2 ^ 30) ⌝ }
     ensures { λ r. ⌜ PairRotated c s cosine sine (r .low) (r .high) (r .products) (r .sums) (r .rest) ⌝ }
@@ -76,14 +76,7 @@ pub fn rotate_middle(wave: &[i32; 1025], cosine: i64) -> Middle
 }
 
 // DCT(k) and DCT(n - k) in their places, from the cosine-DFT at n and the sine-DFT at n + n / 2 + 1; j is the place of c in the table.
-pub fn put_pair(
-    wave: &[i32; 1025],
-    w: &mut [i64],
-    n: usize,
-    j: usize,
-    k: usize,
-    spent: Tally,
-) -> Tally
+fn put_pair(wave: &[i32; 1025], w: &mut [i64], n: usize, j: usize, k: usize, spent: Tally) -> Tally
     requires { ⌜ IsQuarterWave (now wave) × (j ≤ 1024) × PairReady n k (now w) spent ⌝ }
     ensures { λ r. ⌜ PairPut j n k (now (w .entry)) (now (w .exit)) spent r ⌝ }
 {
@@ -104,7 +97,7 @@ pub fn put_pair(
 }
 
 // DCT(0) and DCT(n / 2) in their places, which belong to no pair.
-pub fn put_single(wave: &[i32; 1025], w: &mut [i64], n: usize, spent: Tally) -> Tally
+fn put_single(wave: &[i32; 1025], w: &mut [i64], n: usize, spent: Tally) -> Tally
     requires { ⌜ IsQuarterWave (now wave) × SingleReady n (now w) spent ⌝ }
     ensures { λ r. ⌜ SinglePut n (now (w .entry)) (now (w .exit)) spent r ⌝ }
 {
