@@ -23,17 +23,13 @@ use Rattle.ffct.proofs.Counts.{FewOperations, few-operations}
 use Rattle.ffct.proofs.Sizes.{accepted-inner, dft-size, dct-within}
 use Rattle.ffct.proofs.ElevenLengths.{is-power, as-len, level-le, length-le}
 use Rattle.counts.specs.declared.tally.Tally.{Tally}
-use Rattle.counts.specs.Tally.{TalliedAs}
+use Rattle.counts.specs.Tally.{none, TalliedAs}
 use Rattle.transforms.specs.Pairs.{paired}
 use Rattle.transforms.specs.Steps.{Ready, Gives, DftReady, DftDone, DctReady, DctDone, dftRoom, dctRoom}
 use Rattle.transforms.proofs.Pairs.{paired-same}
 use Rattle.blocks.specs.Buffers.{wordsFrom, inPairs}
 use Rattle.blocks.specs.Blocks.{InRange, Cleared, DftsReady, DftsMade, SpectrumMade, CosineMade}
 use Rattle.blocks.proofs.Pairing.{paired-back}
-
--- no product or sum is made yet
-abbrev pub none : Tally
-none = record { products = 0; sums = 0; «largest_rest» = 0 }
 
 module _ {n : ℕ} {x : Samples} (r : InRange n x) where
   pub accepted : AcceptedBlock (level n) x

@@ -13,9 +13,10 @@ use Rattle.ffct.proofs.Lengths.{pow-len}
 use Rattle.ffct.proofs.ElevenLengths.{is-power, length-pos, length-le, half}
 use Rattle.ffct.proofs.Blocks.{sine-first, sine-last, cosine-beyond-same, sine-beyond-same}
 use Rattle.counts.specs.declared.tally.Tally.{Tally}
+use Rattle.counts.specs.Tally.{none}
 use Rattle.blocks.specs.Buffers.{cosineOfA, sineOfA, Joinable, PartsReady, PartsPut}
 use Rattle.blocks.specs.Blocks.{InRange, Cleared, DftsReady, DftsMade, PairMade}
-use Rattle.blocks.proofs.BlockRuns.{none, cosine-small, sine-small, spectrum-few, dfts-ready, cleared}
+use Rattle.blocks.proofs.BlockRuns.{cosine-small, sine-small, spectrum-few, dfts-ready, cleared}
 
 -- where the sine-DFT is zero
 sine-half : (L n : ℕ) (x : Samples) → n ≡ 2 ^ L → sineDft L x .at (n / 2) ≡ pos 0

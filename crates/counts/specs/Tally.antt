@@ -4,6 +4,10 @@ use Prim.Native.Nat.{ℕ, _+_, _^_, _≤_, max}
 use Rattle.ffct.specs.Transforms.{Transform}
 use Rattle.counts.specs.declared.tally.Tally.{Tally}
 
+-- nothing made yet
+abbrev pub none : Tally
+none = record { products = 0; sums = 0; «largest_rest» = 0 }
+
 -- p products and a sums more, and roundings whose largest rest is r in size
 pub record Tallied (p a r : ℕ) (before after : Tally) : Type 0 where
   pub products : after .products ≡ before .products + p

@@ -3,6 +3,7 @@ use Prim.Native.Nat.{ℕ}
 use Rattle.counts.specs.declared.tally.Tally.{Tally}
 use Rattle.counts.specs.declared.cost.Cost.{Cost}
 use Rattle.counts.specs.declared.Counts.{Counts}
+use Rattle.counts.specs.Tally.{none}
 use Rattle.refusals.specs.Refusals.{Verdict, refused, accepted}
 use Rattle.refusals.specs.Tests as refusal
 use Rattle.spectra.specs.declared.Answer.{Answer}
@@ -15,9 +16,6 @@ verdictOf (Refused r) = refusal.verdictOf r
 verdictOf (Done tally) = accepted
 
 -- the counts that an accepted call spent, and its largest rest; else none
-abbrev pub none : Tally
-none = record { products = 0; sums = 0; «largest_rest» = 0 }
-
 abbrev pub spent : Answer → Tally
 spent (Refused r) = none
 spent (Done tally) = tally

@@ -1,13 +1,13 @@
 -- The answers of the call that marks a block, by the numbers and values of documents 01 and 02.
 use Prim.Native.Nat.{ℕ}
 use Rattle.counts.specs.declared.tally.Tally.{Tally}
+use Rattle.counts.specs.Tally.{none}
 use Rattle.refusals.specs.Refusals.{Verdict, refused, accepted}
 use Rattle.refusals.specs.Tests as refusal
 use Rattle.spectra.specs.declared.marks.Mark.{Mark}
 use Rattle.spectra.specs.declared.marks.Mark.the-variants.{Flat, Clipped, Plain}
 use Rattle.spectra.specs.declared.marks.MarkAnswer.{MarkAnswer}
 use Rattle.spectra.specs.declared.marks.MarkAnswer.the-variants.{Refused, BadFigures, Marked}
-use Rattle.spectra.specs.Answers.{none}
 
 abbrev pub verdictOf : MarkAnswer → Verdict
 verdictOf (Refused r) = refusal.verdictOf r
