@@ -55,12 +55,16 @@
  *      first such k
  *  11  the two recordings of mealbis_write differ in length
  *  12  the flat limit of mealbis_mark is negative, or its clip level is outside 1 to 1,000,000
+ *  13  the block's length is not the month's; always, where the month's beginning was refused
+ *  14  the month holds 100,000 blocks
+ *  16  no sum of the month belongs to this k
  *
- * After a refusal every buffer is as it was. The single words (products, sums, largest_rest, place,
- * mark, samples, length, bytes, the six counts) are written in EVERY answer, so that none keeps an
- * old value:
- *   - counts, the largest rest, sizes and the mark hold what the function says when it accepts, and 0
- *     after a refusal;
+ * After a refusal every buffer is as it was, and so is the month of mealbis_month_add; but
+ * mealbis_month_begin makes a month in every answer. The single words (products, sums, largest_rest,
+ * place, mark, samples, length, bytes, the six counts, the two sums of a month) are written in EVERY
+ * answer, so that none keeps an old value:
+ *   - counts, the largest rest, sizes, the mark and a month's sums hold what the function says when
+ *     it accepts, and 0 after a refusal;
  *   - *place holds the place after refusals 6 and 10, and 0 in every other answer. After 6 it counts
  *     from 0 at the first sample of the recording, not of the block; after 10 it is the coefficient's
  *     k.
@@ -133,7 +137,7 @@ extern "C" {
 #endif
 
 /* The version, 10000 major + 100 minor + patch: of this header, and of the archive that is linked. */
-#define MEALBIS_VERSION 20000u
+#define MEALBIS_VERSION 20100u
 uint32_t mealbis_version(void);
 
 /* The answers. */
@@ -150,6 +154,9 @@ uint32_t mealbis_version(void);
 #define MEALBIS_COEFFICIENT_BEYOND_LIMIT 10u
 #define MEALBIS_RECORDINGS_DIFFER 11u
 #define MEALBIS_BAD_FIGURES 12u /* the flat limit or the clip level */
+#define MEALBIS_OTHER_LENGTH 13u /* than the month's */
+#define MEALBIS_MONTH_FULL 14u
+#define MEALBIS_NOT_YIELDED 16u /* of a k */
 
 /* The marks of a block. */
 #define MEALBIS_NO_MARK 0u /* after a refusal */
@@ -162,6 +169,8 @@ uint32_t mealbis_version(void);
 #define MEALBIS_LARGEST_SAMPLE 1000000
 #define MEALBIS_LARGEST_REST 536870912 /* 2^29 */
 #define MEALBIS_MOST_FILE_SAMPLES 4096
+#define MEALBIS_MOST_BLOCKS 100000 /* of a month */
+#define MEALBIS_MONTH_WORDS 1028
 #define MEALBIS_SPECTRUM_WORDS(length) ((length) / 2 + 1)
 #define MEALBIS_SCRATCH_WORDS(length) (8 * (length) + 64)
 #define MEALBIS_FILE_BYTES(samples) (8 + 8 * (samples))
@@ -218,6 +227,62 @@ uint32_t mealbis_mark(
     int32_t *sine, size_t sine_words,
     int64_t *scratch, size_t scratch_words,
     uint64_t *products, uint64_t *sums, uint64_t *largest_rest, size_t *place, uint32_t *mark);
+
+/*
+ * A month: sums of the spectra of many blocks of one length N, in 8,224 bytes that you keep. Write
+ * them by mealbis_month_begin and mealbis_month_add alone. Such a month may be copied, stored and
+ * taken up again; its words are
+ *   words[0]                 N, or 0 where beginning was refused
+ *   words[1]                 the block number n: how many blocks were added, 0 to 100,000
+ *   words[2 + k]             for k = 0 .. N/2 the sum of cosine[k] over those blocks
+ *   words[515 + k]           for k = 0 .. N/2 the sum of sine[k]
+ * and all others are 0. Each sum is within n * N/8 of the exact one, the sum of document 01's exact
+ * sums of the blocks, and far below 2^63 in size.
+ *
+ * In words that these two did not write, nothing overflows either, and nothing outside the month is
+ * touched: a number in words[0] that is not one of the eleven lengths is read as 0, and a sum beyond
+ * 2^62 in size stays as it is.
+ */
+typedef struct mealbis_month {
+    int64_t words[MEALBIS_MONTH_WORDS];
+} mealbis_month;
+
+/*
+ * Begins a month of no blocks for one length, whatever stands in its words. Tests 1. After the
+ * refusal it is a month too, of the length 0, and mealbis_month_add answers 13 to every block.
+ */
+uint32_t mealbis_month_begin(mealbis_month *month, size_t length);
+
+/*
+ * Adds a block to a month: does what mealbis_spectrum does with the same words, adds each cosine[k]
+ * and sine[k], k = 0 .. N/2, to its sum, and 1 to the block number.
+ * Tests 13, 14, 2, 3, 4, 5, 6. On acceptance everything else is as after mealbis_spectrum
+ * (coefficients, scratch, *products, *sums, *largest_rest). A refused block leaves the month as it
+ * was.
+ *
+ *   month    all else as in mealbis_spectrum; here *sums are additions of the transform, too, and
+ *            none of the month's is counted
+ */
+uint32_t mealbis_month_add(
+    mealbis_month *month,
+    const int32_t *recording, size_t recording_words,
+    size_t start, size_t length, uint64_t allowance,
+    int32_t *cosine, size_t cosine_words,
+    int32_t *sine, size_t sine_words,
+    int64_t *scratch, size_t scratch_words,
+    uint64_t *products, uint64_t *sums, uint64_t *largest_rest, size_t *place);
+
+/* The length for which a month is begun; 0 where beginning was refused. */
+size_t mealbis_month_length(const mealbis_month *month);
+
+/* The block number of a month: how many blocks were added. */
+int64_t mealbis_month_blocks(const mealbis_month *month);
+
+/*
+ * The two sums of a month for one k: *cosine that of the cosine coefficients, *sine that of the sine
+ * coefficients. Tests 16: k is above N/2, or the month's beginning was refused.
+ */
+uint32_t mealbis_month_sums(const mealbis_month *month, size_t k, int64_t *cosine, int64_t *sine);
 
 /*
  * Cosine: the DCT-II of a block, for k = 0 .. N-1, with no factor 2 and no special weight at k = 0:

@@ -44,15 +44,23 @@ class Lent:
         whole = b"".join((guards[0], held, guards[1]))
         self.memory = (ctypes.c_uint8 * len(whole)).from_buffer_copy(whole)
         assert ctypes.addressof(self.memory) % 8 == 0
-        self.expected = whole
+        self.held = self.expected = whole
 
     def pointer(self):
         return ctypes.byref(self.memory, self.first)
+
+    def given(self):
+        """The arguments by which it is lent."""
+        return [self.pointer(), ctypes.c_size_t(self.count)]
 
     def expect(self, written):
         """These bytes should stand in front after the call, and all else stay."""
         end = self.first + len(written)
         self.expected = self.expected[:self.first] + written + self.expected[end:]
+
+    def refill(self):
+        """What stood there at first, guards too."""
+        ctypes.memmove(self.memory, self.held, len(self.held))
 
     def front(self, size):
         return bytes(self.memory)[self.first:self.first + size]
@@ -124,9 +132,9 @@ class Calls:
         self.library, self.rng = library, rng
         self.passed = self.failed = 0
 
-    def function(self, name):
+    def function(self, name, returned=ctypes.c_uint32):
         function = getattr(self.library, name)
-        function.restype = ctypes.c_uint32
+        function.restype = returned
         return function
 
     def add(self, name, wrong):
@@ -141,7 +149,7 @@ class Calls:
         arguments = []
         for one in given:
             if isinstance(one, Lent):
-                arguments += [one.pointer(), ctypes.c_size_t(one.count)]
+                arguments += one.given()
             else:
                 arguments.append(ctypes.c_size_t(one) if isinstance(one, int) else one)
         answer = function(*arguments, *(word.pointer() for word in words))

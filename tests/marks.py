@@ -12,20 +12,17 @@ The last line is 'N passed, 0 failed'. Exit status 1 where something differs.
 import collections
 import ctypes
 import itertools
-import math
 import sys
 from typing import NamedTuple
 
-from library import BAD_LENGTHS, OUT, PAGE, Calls, Mapped, in_memory, lent_samples, lent_words, run, single_words
+from library import BAD_LENGTHS, OUT, PAGE, Calls, Mapped, in_memory, lent_samples, run, single_words
 from reference import (CLIPPED, COSINE_TIE, FLAT, LARGEST_SAMPLE, LENGTHS, LOOKED_AT, ONE_REST_COSINE, ONE_REST_SINE, PLAIN, SINE_TIE,
                        mark_call, meets, scratch_words, spectrum, spectrum_call, tallied_counts)
+from spectrum_calls import REACHING, UNBOUNDED, SpectrumCall, broken, conditions, largest_blocks, lend, placed, random_block, wave
 
 ORDER = (1, 2, 3, 4, 5, 6, 12)      # in which mealbis_mark tests
 LARGEST = 2 ** 31 - 1               # flat limit
-UNBOUNDED = 2 ** 64 - 1             # allowance
 BOTH = LOOKED_AT[0]                 # the mark of a block that meets both rules
-REACHING = (LARGEST_SAMPLE, -LARGEST_SAMPLE)
-AROUND = REACHING * 3 + OUT         # samples outside of a block: they reach every clip level, or are out of range
 
 
 # --- calls -------------------------------------------------------------------------
@@ -43,10 +40,17 @@ class Call(NamedTuple):
     scratch_len: int
 
     def for_spectrum(self):
-        return [value for name, value in self._asdict().items() if name not in ("flat_limit", "clip_level")]
+        return SpectrumCall(*self[:4], *self[6:])
 
-    def block(self):
-        return self.recording[self.start:self.start + self.length]
+
+def with_figures(call, flat_limit, clip_level):
+    """The call of mealbis_mark that takes these figures beside what mealbis_spectrum is given."""
+    return Call(*call[:4], flat_limit, clip_level, *call[4:])
+
+
+def marking(rng, x, flat_limit, clip_level):
+    """An accepted call on the block x with these figures."""
+    return with_figures(placed(rng, x), flat_limit, clip_level)
 
 
 class MarkCalls(Calls):
@@ -66,42 +70,20 @@ class MarkCalls(Calls):
         recording = lent_samples("the recording", call.recording)
         self.compare_mark(name, call, recording, answer)
         plain = spectrum_call(*call.for_spectrum()) if answer.refusal == 12 else answer
-        buffers, words = self.lend(call, plain)
+        buffers, words = lend(self.rng, call, plain)
         given = recording, call.start, call.length, call.allowance, *buffers
         self.compare("Spectrum of " + name, self.spectrum_function, given, words, plain.refusal)
         if answer.refusal == 0:
-            met = [meets(rule, call.block(), *answer.results, call.flat_limit, call.clip_level) for rule in (FLAT, CLIPPED)]
+            met = [meets(rule, call.for_spectrum().block(), *answer.results, call.flat_limit, call.clip_level) for rule in (FLAT, CLIPPED)]
             self.met.update([(call.length, answer.mark), (call.length, *met)])
         return answer
 
     def compare_mark(self, name, call, recording, answer):
-        buffers, words = self.lend(call, answer)
+        buffers, words = lend(self.rng, call, answer)
         words += single_words(self.rng, {"*mark": answer.mark or 0}, "I")
         figures = ctypes.c_int32(call.flat_limit), ctypes.c_int32(call.clip_level)
         given = recording, call.start, call.length, call.allowance, *figures, *buffers
         self.compare(name, self.mark_function, given, words, answer.refusal)
-
-    def lend(self, call, answer):
-        """Buffers of coefficients, scratch and single words, in which this answer should stand."""
-        sizes = {"cosine": (4, call.cosine_len), "sine": (4, call.sine_len), "scratch": (8, call.scratch_len)}
-        buffers = [lent_words(self.rng, name, *size) for name, size in sizes.items()]
-        if answer.refusal == 0:
-            cleared = bytes(8 * scratch_words(call.length))
-            for buffer, written in zip(buffers, (*(in_memory("i", words) for words in answer.results), cleared)):
-                buffer.expect(written)
-        products, sums = answer.counts or (0, 0)
-        values = {"*products": products, "*sums": sums, "*largest_rest": answer.largest_rest or 0, "*place": answer.place or 0}
-        return buffers, single_words(self.rng, values)
-
-
-def placed(rng, x, flat_limit, clip_level):
-    """An accepted call on the block x, which stands amid other samples, with just enough of everything or with something to spare."""
-    N = len(x)
-    before, behind = (rng.choices(AROUND, k=rng.choice((0, 1, 1, 2, 3, N + 1))) for _ in range(2))
-    products = tallied_counts(N).spectrum_products
-    cosine, sine, scratch = (rng.choice((0, 0, 1, 5)) for _ in range(3))
-    return Call([*before, *x, *behind], len(before), N, rng.choice((products, products + 1, 2 ** 32, UNBOUNDED)), flat_limit, clip_level,
-                N // 2 + 1 + cosine, N // 2 + 1 + sine, scratch_words(N) + scratch)
 
 
 def largest_sizes(x):
@@ -119,18 +101,12 @@ def some_k(rng, N):
     return sorted({1, 2, N // 4, N // 2 - 1, N // 2, *rng.sample(range(1, N // 2), 2)})
 
 
-def wave(N, k, size, kind):
-    """A wave that has coefficient k alone, but for rounding: of the cosine, or of the sine."""
-    turn = {"cosine": math.cos, "sine": math.sin}[kind]
-    return [round(size * turn(2 * math.pi * n * k / N)) for n in range(N)]
-
-
 def try_edges(calls, name, x):
     """Figures at the edges of both rules, and one beyond; each of the four ways to meet them. The largest sample is below 1,000,000."""
     coefficient, sample = largest_sizes(x)
     for flat_limit, clip_level, mark in ((coefficient, sample + 1, FLAT), (coefficient, sample, BOTH),
                                          (coefficient - 1, sample + 1, PLAIN), (coefficient - 1, sample, CLIPPED)):
-        calls.mark(name, placed(calls.rng, x, flat_limit, clip_level), mark=mark)
+        calls.mark(name, marking(calls.rng, x, flat_limit, clip_level), mark=mark)
 
 
 def check_each_coefficient(calls):
@@ -156,14 +132,7 @@ def check_equal_samples(calls):
     for N, size in itertools.product(LENGTHS, (0, 1, 2, 1000, rng.randint(3, 999_998), 999_999, LARGEST_SAMPLE)):
         for sample, clip_level in itertools.product({size, -size}, sorted({1, max(1, size), min(size + 1, LARGEST_SAMPLE), LARGEST_SAMPLE})):
             mark = BOTH if size >= clip_level else FLAT
-            calls.mark("all samples %d" % sample, placed(rng, [sample] * N, 0, clip_level), mark=mark)
-
-
-def largest_blocks(N):
-    """Blocks of the ends of the range: alternating, and with the signs of a wave."""
-    yield [REACHING[n % 2] for n in range(N)]
-    for k, kind in itertools.product({1, N // 4, N // 2}, ("cosine", "sine")):
-        yield [REACHING[sample < 0] for sample in wave(N, k, 1000, kind)]
+            calls.mark("all samples %d" % sample, marking(rng, [sample] * N, 0, clip_level), mark=mark)
 
 
 def check_largest_coefficients(calls):
@@ -172,9 +141,9 @@ def check_largest_coefficients(calls):
         for x in largest_blocks(N):
             coefficient, _ = largest_sizes(x)
             for flat_limit in (coefficient, coefficient + 1, LARGEST - 1, LARGEST):
-                calls.mark("the ends of the range", placed(calls.rng, x, flat_limit, LARGEST_SAMPLE), mark=BOTH)
+                calls.mark("the ends of the range", marking(calls.rng, x, flat_limit, LARGEST_SAMPLE), mark=BOTH)
             if coefficient > 0:
-                calls.mark("the ends of the range", placed(calls.rng, x, coefficient - 1, LARGEST_SAMPLE), mark=CLIPPED)
+                calls.mark("the ends of the range", marking(calls.rng, x, coefficient - 1, LARGEST_SAMPLE), mark=CLIPPED)
 
 
 # --- the rule of a clipped block -----------------------------------------------------
@@ -187,9 +156,9 @@ def check_each_sample(calls):
             x = [rng.choice((0, level - 1, 1 - level)) for _ in range(N)]
             x[place] = sign * level
             name = "%d at place %d of the block" % (x[place], place)
-            calls.mark(name, placed(rng, x, 0, level), mark=BOTH if N == 1 else CLIPPED)
+            calls.mark(name, marking(rng, x, 0, level), mark=BOTH if N == 1 else CLIPPED)
             if level < LARGEST_SAMPLE:
-                calls.mark(name, placed(rng, x, 0, level + 1), mark=FLAT if N == 1 else PLAIN)
+                calls.mark(name, marking(rng, x, 0, level + 1), mark=FLAT if N == 1 else PLAIN)
 
 
 def check_outside(calls):
@@ -215,12 +184,7 @@ def check_known(calls):
             ([0, -7, 0, 2], 9, 8, FLAT), ([0, -7, 0, 2], 8, 7, CLIPPED), ([0, -7, 0, 2], 8, 8, PLAIN),      # C -5, 0, 5; S 0, -9, 0
             (impulse, top, top, BOTH), (impulse, top - 1, top, CLIPPED), ([top] + [0] * 7, top - 1, top, CLIPPED),
             ([top], 0, top, BOTH), ([top] * 8, 0, top, BOTH)):                                              # request (x)
-        calls.mark("block %s" % x, placed(calls.rng, x, flat_limit, clip_level), mark=mark)
-
-
-def random_block(rng, N):
-    size = rng.choice((1, 9, 1000, 300_000, LARGEST_SAMPLE))
-    return [rng.randint(-size, size) for _ in range(N)]
+        calls.mark("block %s" % x, marking(calls.rng, x, flat_limit, clip_level), mark=mark)
 
 
 def check_random(calls):
@@ -233,7 +197,7 @@ def check_random(calls):
             limits = (coefficient - 1, coefficient, coefficient + 1, coefficient // 2, rng.randint(0, 2 * coefficient + 1))
             levels = (sample - 1, sample, sample + 1, sample + 1, rng.randint(1, LARGEST_SAMPLE))
             flat_limit, clip_level = max(0, rng.choice(limits)), min(max(1, rng.choice(levels)), LARGEST_SAMPLE)
-            calls.mark("random block %d" % i, placed(rng, x, flat_limit, clip_level))
+            calls.mark("random block %d" % i, marking(rng, x, flat_limit, clip_level))
 
 
 def check_met(calls):
@@ -253,7 +217,7 @@ def check_rests(calls):
     rng = calls.rng
 
     def rest(x, expected):
-        answer = calls.mark("one rest", placed(rng, x, 0, 1))
+        answer = calls.mark("one rest", marking(rng, x, 0, 1))
         calls.add("its size", [None if expected(answer.largest_rest) else "the reference answers %d" % answer.largest_rest])
 
     for N, signs in itertools.product(LENGTHS, (ONE_REST_COSINE, ONE_REST_SINE)):
@@ -275,32 +239,19 @@ def check_figures(calls):
     rng = calls.rng
     for N, (flat_limit, flat_good), (clip_level, clip_good) in itertools.product(LENGTHS, FLAT_LIMITS.items(), CLIP_LEVELS.items()):
         for x in (random_block(rng, N), [rng.choice((0, 1, -2, 999_999, -1_000_000))] * N):
-            calls.mark("figures", placed(rng, x, flat_limit, clip_level), 0 if flat_good and clip_good else 12)
+            calls.mark("figures", marking(rng, x, flat_limit, clip_level), 0 if flat_good and clip_good else 12)
 
 
 def holding(call):
-    """The conditions that hold, whatever the others do, in their order. Of a bad length, which has no products, an allowance of 0 stands for 5."""
-    N = call.length
-    products = tallied_counts(N).spectrum_products if N in LENGTHS else 1
-    holds = {1: N not in LENGTHS, 2: call.start + N > len(call.recording), 3: min(call.cosine_len, call.sine_len) < N // 2 + 1,
-             4: call.scratch_len < 8 * N + 64, 5: call.allowance < products, 6: any(abs(sample) > 1_000_000 for sample in call.block()),
-             12: call.flat_limit < 0 or not 1 <= call.clip_level <= 1_000_000}
+    """The conditions that hold, whatever the others do, in their order."""
+    holds = conditions(call.for_spectrum()) | {12: call.flat_limit < 0 or not 1 <= call.clip_level <= 1_000_000}
     return tuple(number for number in ORDER if holds[number])
 
 
-def broken(rng, numbers, N):
-    """A call with the numbered conditions made to hold, on a block of N samples from a place on."""
-    start, listed = rng.choice((1, 2, 9)), N // 2 + 1
-    recording = rng.choices(AROUND, k=start) + random_block(rng, N) + rng.choices(AROUND, k=3)
-    if 6 in numbers:
-        recording[start + rng.randrange(max(1, N - 1))] = rng.choice(OUT)
-    if 2 in numbers:
-        recording = recording[:start + N - 1]
-    short = rng.choice(((listed - 1, listed), (listed, listed - 1), (0, 0))) if 3 in numbers else (listed, listed + 1)
-    products = tallied_counts(N).spectrum_products if N in LENGTHS else 1
-    allowance = rng.choice((0, products - 1)) if 5 in numbers else rng.choice((products, UNBOUNDED))
+def broken_marking(rng, numbers, N):
+    """A call with the numbered conditions made to hold."""
     figures = rng.choice(BAD_FIGURES) if 12 in numbers else (rng.randint(0, LARGEST), rng.randint(1, LARGEST_SAMPLE))
-    return Call(recording, start, N, allowance, *figures, *short, 8 * N + 64 - (rng.choice((1, 64)) if 4 in numbers else 0))
+    return with_figures(broken(rng, numbers, N), *figures)
 
 
 def check_refusals(calls):
@@ -309,7 +260,7 @@ def check_refusals(calls):
     sets = [numbers for size in range(len(ORDER) + 1) for numbers in itertools.combinations(ORDER, size)]
     for numbers in sets:
         for N in (3, 6, 12, 1023, 1025, 2048) if 1 in numbers else LENGTHS[3:] if 5 in numbers else LENGTHS[1:]:
-            call = broken(calls.rng, numbers, N)
+            call = broken_marking(calls.rng, numbers, N)
             held = holding(call)
             met.add(held)
             calls.mark("refusals %s" % (held,), call, held[0] if held else 0)
@@ -324,7 +275,7 @@ def check_places(calls):
             for later in sorted({place, N - 1}):
                 x = random_block(calls.rng, N)
                 x[place], x[later] = out, out
-                call = placed(calls.rng, x, *figures)
+                call = marking(calls.rng, x, *figures)
                 answer = calls.mark("%d at places %d and %d of the block" % (out, place, later), call, 6)
                 calls.add("the place", [None if answer.place == call.start + place else "the reference answers place %s" % answer.place])
 

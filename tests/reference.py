@@ -1,4 +1,4 @@
-"""Reference implementation of docs/01-scope.md and of requests (i) to (iii) and (v) of document 02, for tests only.
+"""Reference implementation of docs/01-scope.md and of requests (i) to (iii), (v) and (vi) of document 02, for tests only.
 
 This module was written from the papers alone (documents 01 and 02, and source
 document 001 for the equations) and shares no code with the product.  It says
@@ -11,9 +11,12 @@ what every call answers, in whole numbers of any size, with no thought for speed
   the mark             meets(rule, x, C, S, flat_limit, clip_level), mark_of(..)
   the counts           closed_counts(N), tallied_counts(N)
   the exact sums       exact_cosine(x, k) .. exact_imaginary(a, b, k), all times 2^80
-  the distances        within_eighth, within_quarter_more, within_quarter
+  the distances        within_eighth, within_quarter_more, within_quarter, within_eighths
   the calls            spectrum_call, mark_call, cosine_call, pair_call,
                        inverse_call, count_query
+  the month            month_begin(length), month_add(month, ..), month_length(month),
+                       month_blocks(month), month_sums(month, k),
+                       exact_month(exact, blocks, k)
   the pair file        read_pair_file(data, a_len, b_len), pairspec(data),
                        write_pair_file(a, b, length, file_len)
   telling blocks       DIFFERS_FROM_DIRECT, TIES, COSINE_TIE, SINE_TIE, INVERSE_TIES,
@@ -455,13 +458,23 @@ def within_quarter(y, exact, N):
     return 4 * distance(y, exact) <= N * B
 
 
+def exact_month(exact, blocks, k):
+    """The exact sum of a month: that of its blocks' exact sums, exact_cosine or exact_sine."""
+    return sum(exact(x, k) for x in blocks)
+
+
+def within_eighths(y, exact, n, N):
+    """Within n * N/8: the limit of a month's sums over n blocks."""
+    return 8 * distance(y, exact) <= n * N * B
+
+
 # --- The calls -----------------------------------------------------------------
 
 class Answer(NamedTuple):
     """What a call gives back.
 
     refusal is 0 for an accepted call, else the number of the table "When a call
-    is turned down", or 10, 11 or 12 of document 02; place is given with refusals
+    is turned down", or 10 to 14 of document 02; place is given with refusals
     6 and 10 only.  results, counts and largest_rest are those of an accepted call;
     the way back has no counts and no rest, the count query no rest.  mark is that
     of an accepted mark_call.
@@ -585,6 +598,62 @@ def count_query(length):
     if length not in LENGTHS:
         return Answer(1)
     return Answer(0, None, (), tallied_counts(length))
+
+
+# --- The month -----------------------------------------------------------------
+
+# A month is the list of its 1,028 words: the length, the block number, and the sums for
+# k = 0, 1, .. from the word FIRST_COSINE on and from FIRST_SINE on.  Whatever stands in
+# them, a length that is none of the eleven is read as 0, and a sum beyond LARGEST_SUM in
+# size stays.
+
+MONTH_WORDS = 1_028
+FIRST_COSINE, FIRST_SINE = 2, 515
+MOST_BLOCKS = 100_000
+LARGEST_SUM = 2 ** 62
+
+
+def month_begin(length):
+    """The refusal, and the month in either answer."""
+    refusal, held = (0, length) if length in LENGTHS else (1, 0)
+    return refusal, [held] + [0] * (MONTH_WORDS - 1)
+
+
+def month_length(month):
+    return month[0] if month[0] in LENGTHS else 0
+
+
+def month_blocks(month):
+    return month[1]
+
+
+def month_add(month, recording, start, length, allowance, cosine_len, sine_len, scratch_len):
+    """The Answer, and the month then."""
+    if length == 0 or length != month_length(month):
+        return Answer(13), month
+    if month_blocks(month) >= MOST_BLOCKS:
+        return Answer(14), month
+    answer = spectrum_call(recording, start, length, allowance, cosine_len, sine_len, scratch_len)
+    return answer, month if answer.refusal else month_with(month, *answer.results)
+
+
+def month_with(month, cosine, sine):
+    """The month with the coefficients of one more block."""
+    month = list(month)
+    month[1] += 1
+    for first, coefficients in ((FIRST_COSINE, cosine), (FIRST_SINE, sine)):
+        for place, coefficient in enumerate(coefficients, first):
+            if abs(month[place]) <= LARGEST_SUM:
+                month[place] += coefficient
+    return month
+
+
+def month_sums(month, k):
+    """The refusal, and the sums of the cosine and of the sine coefficients for this k."""
+    N = month_length(month)
+    if N == 0 or k > N // 2:
+        return 16, 0, 0
+    return 0, month[FIRST_COSINE + k], month[FIRST_SINE + k]
 
 
 # --- The pair file and the program ---------------------------------------------

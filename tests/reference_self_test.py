@@ -550,6 +550,130 @@ def check_figures():
             assert answer == ref.Answer(12)
 
 
+# --- The month -----------------------------------------------------------------
+
+def added(month, x, before=(), behind=()):
+    """The month with a block, which stands in the midst of other samples, and must be accepted."""
+    N = len(x)
+    answer, month = ref.month_add(month, [*before, *x, *behind], len(before), N, 10 ** 6, N // 2 + 1, N // 2 + 1, 8 * N + 64)
+    assert answer == ref.spectrum_call(x, 0, N, 10 ** 6, N, N, 8 * N + 64) and answer.refusal == 0
+    return month
+
+
+def month_words(N, blocks, cosine, sine):
+    """The words of a month, laid out in another way."""
+    words = dict(enumerate(cosine, 2)) | dict(enumerate(sine, 515)) | {0: N, 1: blocks}
+    return [words.get(place, 0) for place in range(1028)]
+
+
+def check_months_by_hand():
+    """months of N = 1, 2, 4 and 8 worked on paper, word by word after each block"""
+    second = [0, MOST] + [0] * 6
+    for history in (
+            [([7], [7], [0]), ([-9], [-2], [0]), ([MOST], [999_998], [0])],
+            [([3, 1], [4, 2], [0, 0]), ([-5, 4], [3, -7], [0, 0]), ([MOST, -MOST], [3, 1_999_993], [0, 0])],
+            [([1, 2, 3, 4], [10, -2, -2], [0, -2, 0]),                                  # P2
+             ([0, -7, 0, 2], [5, -2, 3], [0, -11, 0]),                                  # C -5, 0, 5; S 0, -9, 0
+             ([6, 0, -5, 0], [6, 9, 4], [0, -11, 0])],                                  # C 1, 11, 1; S 0, 0, 0
+            [(second, [MOST, 707_107, 0, -707_107, -MOST], [0, 707_107, MOST, 707_107, 0]),             # P8
+             ([MOST] + [0] * 7, [2 * MOST, 1_707_107, MOST, 292_893, 0], [0, 707_107, MOST, 707_107, 0]),     # P7
+             (second, [3 * MOST, 2_414_214, MOST, -414_214, -MOST], [0, 1_414_214, 2 * MOST, 1_414_214, 0])]):
+        N = len(history[0][0])
+        refusal, month = ref.month_begin(N)
+        assert refusal == 0 and month == month_words(N, 0, [], [])
+        for n, (x, cosine, sine) in enumerate(history, 1):
+            month = added(month, x, (TOO_MUCH,) * n, (-TOO_MUCH,))
+            assert month == month_words(N, n, cosine, sine)
+            assert (ref.month_length(month), ref.month_blocks(month)) == (N, n)
+            assert [ref.month_sums(month, k) for k in range(N // 2 + 1)] == [(0, *both) for both in zip(cosine, sine)]
+            assert {ref.month_sums(month, k) for k in (N // 2 + 1, N, 513, 2 ** 64 - 1)} == {(16, 0, 0)}
+
+
+def check_month_beginnings():
+    """beginning: a month of no blocks, of length 0 after a bad length; then 13 to every block, also to one of length 0"""
+    for length in (*ref.LENGTHS, 0, 3, 5, 1023, 1025, 2048, 2 ** 32 + 8, 2 ** 63, 2 ** 64 - 1):
+        good = length in ref.LENGTHS
+        refusal, month = ref.month_begin(length)
+        assert refusal == (0 if good else 1) and month == [length if good else 0] + [0] * 1027
+        for other in (*ref.LENGTHS, 0, 3, 2048, length):
+            answer, then = ref.month_add(month, [1] * 2048, 0, other, 10 ** 6, 1025, 1025, 16448)
+            assert answer.refusal == (0 if good and other == length else 13)
+            assert then[1] == (1 if good and other == length else 0)
+        assert ref.month_sums(month, 0) == ((0, 0, 0) if good else (16, 0, 0))
+
+
+def broken_addition(numbers):
+    """The arguments of an addition with every one of the numbered conditions made to hold."""
+    call = broken(CALLS[ref.spectrum_call], numbers)
+    return dict(call, month=month_words(4 if 13 in numbers else N, 100_000 if 14 in numbers else 7, [5] * 5, [-6] * 5))
+
+
+def check_month_refusals_together():
+    """every set of refusals 13, 14, 2 to 6 of adding: the earliest wins, and the month stays; the last block, and one more"""
+    order = (13, 14, 2, 3, 4, 5, 6)
+    for numbers in subsets(order):
+        call = broken_addition(numbers)
+        first = min(numbers, key=order.index)
+        assert ref.month_add(**call) == (ref.Answer(first, START if first == 6 else None), call["month"]), numbers
+    call = broken_addition(())
+    answer, month = ref.month_add(**call)
+    assert answer.refusal == 0 and month == month_words(N, 8, [13] + [5] * 4, [-6] * 5)      # C 8, 0, 0, 0, 0
+    for blocks, refusal in ((99_998, 0), (99_999, 0), (100_000, 14), (100_001, 14), (2 ** 63 - 1, 14), (-1, 0), (-2 ** 63, 0)):
+        call["month"] = month_words(N, blocks, [], [])
+        answer, month = ref.month_add(**call)
+        assert answer.refusal == refusal and month[1] == (call["month"][1] if refusal else blocks + 1)
+
+
+def check_months():
+    """histories of every length with refused blocks in between: the sums are those over the accepted ones, within n * N/8 of the exact sums"""
+    rng = random.Random(34)
+    for N, kind in itertools.product(ref.LENGTHS, ("random", "repeated", "extreme")):
+        count = 9 if N < 128 else 3
+        blocks = {"random": [random_block(rng, N) for _ in range(count)], "repeated": [random_block(rng, N)] * count,
+                  "extreme": list(extreme_blocks(N))[:count]}[kind]
+        month = ref.month_begin(N)[1]
+        other = ref.LENGTHS[ref.LENGTHS.index(N) - 1]
+        good = dict(start=0, length=N, allowance=10 ** 6, cosine_len=513, sine_len=513, scratch_len=8256)
+        for x in blocks:
+            month = added(month, x)
+            for refusal, wrong in ((13, dict(recording=[0] * 1024, length=other)), (2, dict(start=1)), (3, dict(sine_len=0)),
+                                   (4, dict(scratch_len=71)), (6, dict(recording=x[:-1] + [TOO_MUCH]))):
+                answer, then = ref.month_add(month, **{**good, "recording": x, **wrong})
+                assert answer.refusal == refusal and then == month
+        spectra = [ref.spectrum(x) for x in blocks]
+        cosine, sine = ([sum(column) for column in zip(*(spectrum[which] for spectrum in spectra))] for which in (0, 1))
+        assert month == month_words(N, len(blocks), cosine, sine)
+        for k in some_k(rng, N // 2, 4):
+            for y, exact in ((cosine[k], ref.exact_cosine), (sine[k], ref.exact_sine)):
+                of_sums = exact([sum(samples) for samples in zip(*blocks)], k)              # exact sums are linear
+                assert ref.exact_month(exact, blocks, k) == of_sums
+                assert ref.within_eighths(y, of_sums, len(blocks), N)
+
+
+def check_month_limit():
+    """the limit n * N/8: reached exactly is within, one beyond is not; no blocks leave no room"""
+    for N, n, sign in itertools.product(ref.LENGTHS, (0, 1, 2, 3, 99_999, 100_000), (1, -1)):
+        limit = n * N * ref.B // 8
+        assert ref.within_eighths(5, 5 * ref.B + sign * limit, n, N)
+        assert not ref.within_eighths(5, 5 * ref.B + sign * (limit + 1), n, N)
+        assert n != 1 or ref.within_eighth(5, 5 * ref.B + sign * limit, N)
+
+
+def check_words_of_no_month():
+    """words that no month left there: a length of none of the eleven is 0, a sum beyond 2^62 in size stays, others are added to"""
+    for length in (-1, -8, 3, 2048, 2 ** 32 + 8, 2 ** 63 - 1, -2 ** 63):
+        month = [length] + [9] * 1027
+        assert ref.month_length(month) == 0 and ref.month_sums(month, 0) == (16, 0, 0)
+        for other in (*ref.LENGTHS, 0, length % 2 ** 64):
+            assert ref.month_add(month, [1] * 2048, 0, other, 10 ** 6, 1025, 1025, 16448) == (ref.Answer(13), month)
+    whole = 2 ** 62
+    for held, then in ((whole, whole + 3), (-whole, 3 - whole), (whole + 1, whole + 1), (-whole - 1, -whole - 1), (2 ** 63 - 1, 2 ** 63 - 1),
+                       (-2 ** 63, -2 ** 63), (whole - 1, whole + 2), (0, 3)):
+        month = added([1, 4] + [held] * 1026, [3])
+        assert month == [1, 5, then] + [held] * 1025                    # the sine is 0
+        assert ref.month_sums(month, 0) == (0, then, held)
+
+
 # --- The way back from stored coefficients -------------------------------------
 
 def limit(N):

@@ -1,6 +1,6 @@
 /*
  * Holds the library, as linked, to include/mealbis.h: its version, each answer of each call, the words that are written in every answer, buffers
- * that stay, what the coefficients mean, NULL with count 0, and the stack. Prints each check that fails, and 'N passed, M failed'.
+ * and months that stay, what the coefficients mean, NULL with count 0, and the stack. Prints each check that fails, and 'N passed, M failed'.
  */
 #define _XOPEN_SOURCE 700
 #include <stdio.h>
@@ -15,6 +15,8 @@
 static int32_t x[LONGEST + 8], y[LONGEST + 8], one[LONGEST + 8], two[LONGEST + 8], kept[LONGEST + 8], stored[LONGEST + 8];
 static int64_t scratch[MEALBIS_SCRATCH_WORDS(LONGEST) + 8];
 static uint8_t file[MEALBIS_FILE_BYTES(8)], made[MEALBIS_FILE_BYTES(LONGEST) + 8], kept_bytes[sizeof made];
+static mealbis_month month, kept_month;
+static int64_t cosine_sum, sine_sum;
 static uint64_t products, sums, largest_rest, six[6];
 static size_t place, samples, length, bytes;
 static uint32_t answer, mark;
@@ -48,6 +50,8 @@ static void fill(void)
     memset(&length, 0x55, sizeof length);
     memset(&bytes, 0x55, sizeof bytes);
     memset(&mark, 0x55, sizeof mark);
+    memset(&cosine_sum, 0x55, sizeof cosine_sum);
+    memset(&sine_sum, 0x55, sizeof sine_sum);
 }
 
 /* A call refused with this number (and place) leaves 0 in the words and the buffers as they were. */
@@ -67,6 +71,8 @@ static void refused(uint32_t number, size_t at, const char *what)
 
 #define SPECTRUM(...) (fill(), answer = mealbis_spectrum(__VA_ARGS__, &products, &sums, &largest_rest, &place))
 #define MARK(...) (fill(), answer = mealbis_mark(__VA_ARGS__, &products, &sums, &largest_rest, &place, &mark))
+#define ADD(...) \
+    (fill(), kept_month = month, answer = mealbis_month_add(&month, __VA_ARGS__, &products, &sums, &largest_rest, &place))
 #define COSINE(...) (fill(), answer = mealbis_cosine(__VA_ARGS__, &products, &sums, &largest_rest, &place))
 #define PAIR(...) (fill(), answer = mealbis_pair(__VA_ARGS__, &products, &sums, &largest_rest, &place))
 #define INVERSE(...) (fill(), answer = mealbis_inverse_dct(__VA_ARGS__, &place))
@@ -268,6 +274,138 @@ static void mark_refusals(void)
     MARK(x, 16, 8, 8, 99, 0, 1000001, one, 5, two, 5, scratch, 128), mark_refused(12, 0, "mark, clip level 1000001");
 }
 
+/* A month of no blocks for n, or for 0 after the refusal, whatever stood in its words. */
+static void begun(size_t n, uint32_t number, const char *what)
+{
+    size_t i;
+    int zeros = 1;
+    memset(&month, 0x55, sizeof month);
+    check(mealbis_month_begin(&month, n) == number, what, n);
+    for (i = 1; i < MEALBIS_MONTH_WORDS; i++)
+        zeros = zeros && month.words[i] == 0;
+    check(zeros && month.words[0] == (number ? 0 : (int64_t)n), what, n);
+    check(mealbis_month_length(&month) == (number ? 0 : n) && mealbis_month_blocks(&month) == 0, what, n);
+}
+
+static void month_refused(uint32_t number, size_t at, const char *what)
+{
+    refused(number, at, what);
+    check(!memcmp(&month, &kept_month, sizeof month), what, number);
+}
+
+/* The sums of the month for k. */
+static void sums_are(size_t k, uint32_t number, int64_t cosine, int64_t sine, const char *what)
+{
+    fill();
+    kept_month = month;
+    check(mealbis_month_sums(&month, k, &cosine_sum, &sine_sum) == number, what, k);
+    check(cosine_sum == cosine && sine_sum == sine, what, k);
+    check(!memcmp(&month, &kept_month, sizeof month), what, k);
+}
+
+/* Two blocks of n samples added, from x(0) on and from y(1) on: each call leaves what mealbis_spectrum leaves, and the month has the sums. */
+static void added_as_spectrum(size_t n)
+{
+    static int32_t cosine[2][MEALBIS_WORDS(one)], sine[2][MEALBIS_WORDS(two)];
+    static mealbis_month expected;
+    const int32_t *const recordings[2] = {x, y};
+    size_t i, k;
+    begun(n, 0, "a month");
+    expected = month;
+    for (i = 0; i < 2; i++) {
+        uint64_t cost[2], rest;
+        SPECTRUM(recordings[i], LONGEST + 1, i, n, UINT64_MAX, one, LONGEST, two, LONGEST, scratch, MEALBIS_WORDS(scratch));
+        memcpy(cosine[i], one, sizeof one);
+        memcpy(sine[i], two, sizeof two);
+        cost[0] = products;
+        cost[1] = sums;
+        rest = largest_rest;
+        ADD(recordings[i], LONGEST + 1, i, n, cost[0], one, LONGEST, two, LONGEST, scratch, MEALBIS_WORDS(scratch));
+        check(answer == 0 && place == 0 && products == cost[0] && sums == cost[1], "month, the counts of Spectrum", n);
+        check(largest_rest == rest, "month, the largest rest of Spectrum", n);
+        check(!memcmp(cosine[i], one, sizeof one) && !memcmp(sine[i], two, sizeof two), "month, the coefficients of Spectrum", n);
+        check(scratch[0] == 0 && scratch[8 * n + 63] == 0 && scratch[8 * n + 64] != 0, "month, scratch cleared", n);
+        for (k = 0; k < MEALBIS_SPECTRUM_WORDS(n); k++) {
+            expected.words[2 + k] += cosine[i][k];
+            expected.words[515 + k] += sine[i][k];
+        }
+        expected.words[1]++;
+        check(!memcmp(&month, &expected, sizeof month), "month, the sums", n);
+    }
+    for (k = 0; k < MEALBIS_SPECTRUM_WORDS(n); k++)
+        sums_are(k, 0, (int64_t)cosine[0][k] + cosine[1][k], (int64_t)sine[0][k] + sine[1][k], "month, the sums for k");
+    sums_are(MEALBIS_SPECTRUM_WORDS(n), 16, 0, 0, "month, no sums beyond N/2");
+    sums_are(SIZE_MAX, 16, 0, 0, "month, no sums for SIZE_MAX");
+    check(mealbis_month_length(&month) == n && mealbis_month_blocks(&month) == 2, "month, its length and block number", n);
+    ADD(x, LONGEST, 0, n == 1 ? 2 : n / 2, UINT64_MAX, one, LONGEST, two, LONGEST, scratch, MEALBIS_WORDS(scratch));
+    month_refused(13, 0, "month, another length");
+}
+
+static void months(void)
+{
+    /* cosine 10, -2, -2 and -5, 0, 5; sine 0, -2, 0 and 0, -9, 0 */
+    static const int32_t first[4] = {1, 2, 3, 4}, second[4] = {0, -7, 0, 2}, three[1] = {3}, top[2] = {1000000, 1000000};
+    size_t n;
+    for (n = 1; n <= LONGEST; n *= 2)
+        added_as_spectrum(n);
+    begun(4, 0, "a month of 4");
+    ADD(first, 4, 0, 4, 0, one, 3, two, 3, scratch, 96), check(answer == 0 && products == 0 && sums == 6, "month, 1, 2, 3, 4", sums);
+    ADD(second, 4, 0, 4, 0, one, 3, two, 3, scratch, 96), check(answer == 0 && one[3] == kept[3] && two[3] == kept[3], "month, 0, -7, 0, 2", answer);
+    check(mealbis_month_blocks(&month) == 2, "month, two blocks", 2);
+    sums_are(0, 0, 5, 0, "month, k 0");
+    sums_are(1, 0, -2, -11, "month, k 1");
+    sums_are(2, 0, 3, 0, "month, k 2");
+    sums_are(3, 16, 0, 0, "month, k 3");
+    /* the last block, and one more */
+    begun(2, 0, "a month of 2");
+    for (n = 0; n < MEALBIS_MOST_BLOCKS; n++) {
+        answer = mealbis_month_add(&month, top, 2, 0, 2, 0, one, 2, two, 2, scratch, 80, &products, &sums, &largest_rest, &place);
+        if (answer != 0)
+            break;
+    }
+    check(n == 100000 && mealbis_month_blocks(&month) == 100000, "month, 100,000 blocks", n);
+    sums_are(0, 0, INT64_C(200000000000), 0, "month, a sum of 100,000 blocks");
+    ADD(top, 2, 0, 2, 0, one, 2, two, 2, scratch, 80), month_refused(14, 0, "month, one more");
+    ADD(top, 2, 1, 2, 0, NULL, 0, NULL, 0, NULL, 0), month_refused(14, 0, "month, one more with nothing lent");
+    ADD(top, 2, 0, 1, 0, one, 2, two, 2, scratch, 80), month_refused(13, 0, "month, full, another length");
+    /* a sum beyond 2^62 in size, which no month has, stays */
+    begun(1, 0, "a month of 1");
+    month.words[2] = INT64_MAX;
+    month.words[3] = INT64_MIN;
+    ADD(three, 1, 0, 1, 0, one, 1, two, 1, scratch, 72), check(answer == 0 && month.words[2] == INT64_MAX, "month, a sum beyond 2^62", answer);
+    check(month.words[1] == 1 && month.words[3] == INT64_MIN, "month, words beyond", 3);
+    month.words[2] = -(INT64_C(1) << 62);
+    ADD(three, 1, 0, 1, 0, one, 1, two, 1, scratch, 72);
+    check(answer == 0 && month.words[2] == 3 - (INT64_C(1) << 62), "month, a sum of -2^62", answer);
+}
+
+static void month_refusals(void)
+{
+    static const size_t bad[] = {0, 3, 1023, 1025, 2048, SIZE_MAX};
+    size_t i;
+    for (i = 0; i < MEALBIS_WORDS(bad); i++) {
+        begun(bad[i], 1, "a month of a bad length");
+        ADD(x, 16, 0, bad[i], 99, one, 5, two, 5, scratch, 128), month_refused(13, 0, "month refused, the same length");
+        ADD(x, 16, 0, 8, 99, one, 5, two, 5, scratch, 128), month_refused(13, 0, "month refused, length 8");
+        ADD(x, 16, 0, 0, 99, one, 5, two, 5, scratch, 128), month_refused(13, 0, "month refused, length 0");
+        sums_are(0, 16, 0, 0, "month refused, k 0");
+    }
+    month.words[0] = -8;
+    check(mealbis_month_length(&month) == 0, "month, length -8", mealbis_month_length(&month));
+    begun(8, 0, "a month of 8");
+    ADD(x, 16, 0, 8, 2, one, 5, two, 5, scratch, 128), check(answer == 0, "month, a block before the refused ones", answer);
+    ADD(x, 16, 0, 3, 99, one, 5, two, 5, scratch, 128), month_refused(13, 0, "month, length 3");
+    ADD(x, 16, 9, 4, 0, one, 2, two, 5, scratch, 127), month_refused(13, 0, "month, length 4");
+    ADD(x, 16, 9, 8, 99, one, 5, two, 5, scratch, 128), month_refused(2, 0, "month, beyond the recording");
+    ADD(x, 16, SIZE_MAX, 8, 99, one, 5, two, 5, scratch, 128), month_refused(2, 0, "month, start + length overflows");
+    ADD(x, 16, 8, 8, 99, one, 4, two, 5, scratch, 128), month_refused(3, 0, "month, cosine too short");
+    ADD(x, 16, 8, 8, 99, one, 5, two, 4, scratch, 128), month_refused(3, 0, "month, sine too short");
+    ADD(x, 16, 8, 8, 99, one, 5, two, 5, scratch, 127), month_refused(4, 0, "month, scratch too short");
+    ADD(x, 16, 8, 8, 1, one, 5, two, 5, scratch, 128), month_refused(5, 0, "month, allowance 1");
+    stored[9] = 1000001;
+    ADD(stored, 16, 8, 8, 99, one, 5, two, 5, scratch, 128), month_refused(6, 9, "month, sample 9");
+}
+
 static void inverse_refused(uint32_t number, size_t at, const char *what)
 {
     check(answer == number, what, answer);
@@ -418,6 +556,13 @@ static void empty_buffers(void)
     MARK(x, 16, 8, 8, 99, 0, 1, one, 5, NULL, 0, scratch, 128), mark_refused(3, 0, "mark, no sine");
     MARK(x, 16, 8, 8, 99, 0, 1, one, 5, two, 5, NULL, 0), mark_refused(4, 0, "mark, no scratch");
     MARK(NULL, 0, 0, 1, 0, 0, 1, NULL, 0, NULL, 0, NULL, 0), mark_refused(2, 0, "mark, nothing");
+    begun(8, 0, "a month for empty buffers");
+    ADD(NULL, 0, 0, 8, 99, one, 5, two, 5, scratch, 128), month_refused(2, 0, "month, no recording");
+    ADD(NULL, 0, 0, 7, 99, one, 5, two, 5, scratch, 128), month_refused(13, 0, "month, no recording, length 7");
+    ADD(x, 16, 8, 8, 99, NULL, 0, two, 5, scratch, 128), month_refused(3, 0, "month, no cosine");
+    ADD(x, 16, 8, 8, 99, one, 5, NULL, 0, scratch, 128), month_refused(3, 0, "month, no sine");
+    ADD(x, 16, 8, 8, 99, one, 5, two, 5, NULL, 0), month_refused(4, 0, "month, no scratch");
+    ADD(NULL, 0, 0, 8, 0, NULL, 0, NULL, 0, NULL, 0), month_refused(2, 0, "month, nothing");
     COSINE(NULL, 0, 0, 1, 0, one, 8, scratch, 128), refused(2, 0, "Cosine, no recording");
     COSINE(x, 16, 8, 1, 0, NULL, 0, scratch, 128), refused(3, 0, "Cosine, no coefficients");
     COSINE(x, 16, 8, 1, 0, one, 8, NULL, 0), refused(4, 0, "Cosine, no scratch");
@@ -461,6 +606,9 @@ static void on_stack(void)
     case 6: mealbis_inverse_dct(x, LONGEST, LONGEST, one, LONGEST, &place); break;
     case 7: mealbis_write(x, LONGEST, y, LONGEST, LONGEST, made, sizeof made, &bytes, &place); break;
     case 8: mealbis_mark(x, LONGEST, 0, LONGEST, UINT64_MAX, 0, 1000000, one, LONGEST, two, LONGEST, LENT, &mark); break;
+    case 9: mealbis_month_begin(&month, LONGEST); break;
+    case 10: mealbis_month_add(&month, x, LONGEST, 0, LONGEST, UINT64_MAX, one, LONGEST, two, LONGEST, LENT); break;
+    case 11: mealbis_month_sums(&month, LONGEST / 2, &cosine_sum, &sine_sum); break;
     }
 }
 
@@ -483,7 +631,8 @@ static size_t stack_used(int call)
 int main(int argc, char **argv)
 {
     static const char *const names[] = {"no call", "mealbis_spectrum", "mealbis_cosine", "mealbis_pair", "mealbis_counts", "mealbis_read",
-                                        "mealbis_inverse_dct", "mealbis_write", "mealbis_mark"};
+                                        "mealbis_inverse_dct", "mealbis_write", "mealbis_mark", "mealbis_month_begin", "mealbis_month_add",
+                                        "mealbis_month_sums"};
     size_t i, own;
     for (i = 0; i < MEALBIS_WORDS(x); i++) {
         x[i] = (int32_t)(i * 7919 % 2000001) - 1000000;
@@ -496,6 +645,8 @@ int main(int argc, char **argv)
     rests();
     marks();
     mark_refusals();
+    months();
+    month_refusals();
     inverses();
     files();
     written_files();
@@ -507,6 +658,7 @@ int main(int argc, char **argv)
         if (argc == 2 && !strcmp(argv[1], "--stack"))
             printf("%s: %zu bytes of stack\n", names[i], used);
     }
+    check(mealbis_month_blocks(&month) == 1, "the stack of an accepted block", 1);
     printf("%d passed, %d failed\n", passed, failed);
     return failed != 0;
 }

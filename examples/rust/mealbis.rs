@@ -14,6 +14,15 @@ extern "C" {
         cosine: *mut i32, cosine_words: usize, sine: *mut i32, sine_words: usize, scratch: *mut i64, scratch_words: usize,
         products: &mut u64, sums: &mut u64, largest_rest: &mut u64, place: &mut usize, mark: &mut u32,
     ) -> u32;
+    fn mealbis_month_begin(month: &mut Month, length: usize) -> u32;
+    fn mealbis_month_add(
+        month: &mut Month, recording: *const i32, recording_words: usize, start: usize, length: usize, allowance: u64,
+        cosine: *mut i32, cosine_words: usize, sine: *mut i32, sine_words: usize, scratch: *mut i64, scratch_words: usize,
+        products: &mut u64, sums: &mut u64, largest_rest: &mut u64, place: &mut usize,
+    ) -> u32;
+    fn mealbis_month_length(month: &Month) -> usize;
+    fn mealbis_month_blocks(month: &Month) -> i64;
+    fn mealbis_month_sums(month: &Month, k: usize, cosine: &mut i64, sine: &mut i64) -> u32;
     fn mealbis_cosine(
         recording: *const i32, recording_words: usize, start: usize, length: usize, allowance: u64,
         coefficients: *mut i32, coefficients_words: usize, scratch: *mut i64, scratch_words: usize,
@@ -90,6 +99,57 @@ pub fn mark(
     } {
         0 => Ok((Spent { products, sums, largest_rest }, mark)),
         number => Err(Refused(number, place)),
+    }
+}
+
+// The sums of a month. Its words are private, so that beginning and adding alone make a month.
+#[repr(C)]
+#[derive(Clone)]
+pub struct Month {
+    words: [i64; 1028],
+}
+
+impl Month {
+    pub fn begin(length: usize) -> Result<Month, Refused> {
+        let mut month = Month { words: [0; 1028] };
+        match unsafe { mealbis_month_begin(&mut month, length) } {
+            0 => Ok(month),
+            number => Err(Refused(number, 0)),
+        }
+    }
+
+    // Spectrum, with its coefficients added to the sums.
+    pub fn add(
+        &mut self, recording: &[i32], start: usize, length: usize, allowance: u64, cosine: &mut [i32], sine: &mut [i32], scratch: &mut [i64],
+    ) -> Result<Spent, Refused> {
+        let (mut products, mut sums, mut largest_rest, mut place) = (0, 0, 0, 0);
+        match unsafe {
+            mealbis_month_add(
+                self, recording.as_ptr(), recording.len(), start, length, allowance, cosine.as_mut_ptr(), cosine.len(), sine.as_mut_ptr(), sine.len(),
+                scratch.as_mut_ptr(), scratch.len(), &mut products, &mut sums, &mut largest_rest, &mut place,
+            )
+        } {
+            0 => Ok(Spent { products, sums, largest_rest }),
+            number => Err(Refused(number, place)),
+        }
+    }
+
+    pub fn length(&self) -> usize {
+        unsafe { mealbis_month_length(self) }
+    }
+
+    // How many blocks were added.
+    pub fn blocks(&self) -> i64 {
+        unsafe { mealbis_month_blocks(self) }
+    }
+
+    // The sums of the cosine and of the sine coefficients for k.
+    pub fn sums(&self, k: usize) -> Result<(i64, i64), Refused> {
+        let (mut cosine, mut sine) = (0, 0);
+        match unsafe { mealbis_month_sums(self, k, &mut cosine, &mut sine) } {
+            0 => Ok((cosine, sine)),
+            number => Err(Refused(number, 0)),
+        }
     }
 }
 

@@ -55,8 +55,8 @@ fn exact_dct(circle: &Circle, x: &[i32], k: usize) -> i128 {
     (0..x.len()).map(|n| x[n] as i128 * circle.k((2 * n + 1) * step)).sum()
 }
 
-pub fn distance(y: i32, exact: i128) -> u128 {
-    (y as i128 * ONE - exact).unsigned_abs()
+pub fn distance(y: impl Into<i128>, exact: i128) -> u128 {
+    (y.into() * ONE - exact).unsigned_abs()
 }
 
 // within over / under

@@ -15,6 +15,20 @@ extern "C" {
         products: *mut u64, sums: *mut u64, largest_rest: *mut u64, place: *mut usize, mark: *mut u32,
     ) -> u32;
 
+    pub fn mealbis_month_begin(month: *mut i64, length: usize) -> u32;
+
+    pub fn mealbis_month_add(
+        month: *mut i64, recording: *const i32, recording_len: usize, start: usize, length: usize, allowance: u64,
+        cosine: *mut i32, cosine_len: usize, sine: *mut i32, sine_len: usize, scratch: *mut i64, scratch_len: usize,
+        products: *mut u64, sums: *mut u64, largest_rest: *mut u64, place: *mut usize,
+    ) -> u32;
+
+    pub fn mealbis_month_length(month: *const i64) -> usize;
+
+    pub fn mealbis_month_blocks(month: *const i64) -> i64;
+
+    pub fn mealbis_month_sums(month: *const i64, k: usize, cosine: *mut i64, sine: *mut i64) -> u32;
+
     pub fn mealbis_cosine(
         recording: *const i32, recording_len: usize, start: usize, length: usize, allowance: u64,
         coefficients: *mut i32, coefficients_len: usize, scratch: *mut i64, scratch_len: usize,

@@ -2,7 +2,7 @@
 //
 //     tests/differential [--seed S] [--seconds T | --rounds R] [--table FILE] [--item CLASS INDEX]
 //
-// Document 01 and requests (i) to (iii) and (v) of document 02 are implemented here once more, and the exact sums are evaluated term by
+// Document 01 and requests (i) to (iii), (v) and (vi) of document 02 are implemented here once more, and the exact sums are evaluated term by
 // term. The answer of every call, its counts, its largest rest, its results and the words that it must not touch are compared with them.
 // Each class of calls is gone through once, then in rounds until the time is up or R rounds are made. --table writes docs/DISTANCES.md, --item repeats one item.
 // The last line is 'N passed, 0 failed', N the calls compared.
@@ -16,6 +16,7 @@ mod hostile;
 mod known;
 mod library;
 mod marked;
+mod months;
 mod random;
 mod record;
 mod rests;
@@ -26,7 +27,7 @@ mod transforms;
 mod written;
 
 use random::Random;
-use record::{with_commas, FUNCTIONS, INVERSE, MARK, READ, WRITE};
+use record::{with_commas, ADD, FUNCTIONS, INVERSE, MARK, READ, WRITE};
 use run::Run;
 use std::time::{Duration, Instant};
 
@@ -64,6 +65,9 @@ fn classes() -> Vec<Class> {
         class("flawed-marked", marked::flawed_item, marked::SETS, 16),
         class("extreme-marked", marked::extreme_item, 2000, 20),
         class("rests", rests::item, rests::ITEMS, 11),
+        class("months", months::item, 330, 11),
+        class("flawed-months", months::flawed_item, months::SETS, 16),
+        class("extreme-months", months::extreme_item, 2000, 20),
     ]
 }
 
@@ -85,6 +89,7 @@ fn main() {
     stored::self_check(&run.rules.circle);
     written::self_check();
     marked::self_check(&run.rules);
+    months::self_check(&run.rules);
     rests::self_check(&run.rules.circle);
     let rounds = match &words.item {
         Some((name, index)) => one_item(&mut run, words.seed, name, *index),
@@ -146,12 +151,13 @@ fn one_item(run: &mut Run, seed: u64, name: &str, index: u64) -> u64 {
 
 // Two or three refusals that can hold together must have done so on some call.
 fn require_sets(run: &mut Run) {
-    for function in [0, 1, 2, READ, INVERSE, WRITE, MARK] {
+    for function in [0, 1, 2, READ, INVERSE, WRITE, MARK, ADD] {
         let (order, impossible) = match function {
             READ => (&files::ORDER[..], &files::IMPOSSIBLE[..]),
             INVERSE => (&stored::ORDER[..], &[][..]),
             WRITE => (&written::ORDER[..], &[][..]),
             MARK => (&marked::ORDER[..], &[][..]),
+            ADD => (&months::ORDER[..], &[][..]),
             _ => (&[1, 2, 3, 4, 5, 6][..], &[][..]),
         };
         for set in twos_and_threes(order) {

@@ -4,12 +4,16 @@ use crate::exact::{Part, ONE, PARTS};
 use std::collections::BTreeSet;
 
 // The functions of the library, in the order of FUNCTIONS.
-pub const FUNCTIONS: [&str; 8] = ["Spectrum", "Cosine", "Pair", "counts", "read", "inverse DCT", "write", "mark"];
+pub const FUNCTIONS: [&str; 11] =
+    ["Spectrum", "Cosine", "Pair", "counts", "read", "inverse DCT", "write", "mark", "month begin", "month add", "month sums"];
 pub const COUNTS: usize = 3;
 pub const READ: usize = 4;
 pub const INVERSE: usize = 5;
 pub const WRITE: usize = 6;
 pub const MARK: usize = 7;
+pub const BEGIN: usize = 8;
+pub const ADD: usize = 9;
+pub const SUMS: usize = 10;
 
 pub fn function_of(kind: Kind) -> usize {
     match kind {
@@ -22,9 +26,9 @@ pub fn function_of(kind: Kind) -> usize {
 #[derive(Default)]
 pub struct Record {
     // calls by function and by the number answered
-    answers: [[u64; 13]; 8],
+    answers: [[u64; 17]; 11],
     // the sets of refusals whose conditions held on a call, by function
-    together: [BTreeSet<Vec<u32>>; 8],
+    together: [BTreeSet<Vec<u32>>; 11],
     // accepted blocks, and coefficients compared with their exact sums, by level
     pub blocks: [u64; 11],
     pub coefficients: [u64; 11],
@@ -35,6 +39,9 @@ pub struct Record {
     pub rules: [u64; 4],
     // accepted calls of Spectrum, Cosine and Pair that round a tie, whose rest is the largest that there is
     pub ties: [u64; 3],
+    // blocks added to months, and sums of months compared with their exact sums, by level
+    pub added: [u64; 11],
+    pub month_sums: [u64; 11],
 }
 
 impl Record {
@@ -83,6 +90,8 @@ impl Record {
         lines.push(format!("rules of marks met     none: {none}, flat: {flat}, clipped: {clipped}, both: {both}"));
         let [spectrum, cosine, pair] = self.ties;
         lines.push(format!("calls with a tie       Spectrum: {spectrum}, Cosine: {cosine}, Pair: {pair}"));
+        lines.push(format!("added to months        {}", by_length(&self.added)));
+        lines.push(format!("sums held to exact     {}", by_length(&self.month_sums)));
         for (function, name) in FUNCTIONS.iter().enumerate() {
             let of = &self.answers[function];
             let numbers: Vec<String> = (0..of.len()).filter(|&number| of[number] > 0).map(|number| format!("{}: {}", number, of[number])).collect();

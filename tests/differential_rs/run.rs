@@ -4,8 +4,9 @@ use crate::exact::{distance, within, Part};
 use crate::files::File;
 use crate::library::*;
 use crate::marked::Marking;
+use crate::months::{LentMonth, Month, FIRST_COSINE, FIRST_SINE};
 use crate::random::Random;
-use crate::record::{function_of, Record, COUNTS, INVERSE, MARK, READ, WRITE};
+use crate::record::{function_of, Record, ADD, BEGIN, COUNTS, INVERSE, MARK, READ, SUMS, WRITE};
 use crate::stored::{rounded, Stored, StoredAnswer};
 use crate::written::Writing;
 
@@ -37,7 +38,7 @@ impl Run {
         let answer = self.rules.answer(call);
         let mut lent = LentCall::new(call, random);
         lent.expect(&answer, call.length);
-        let number = lent.make(call, None);
+        let number = lent.make(call, Beside::Nothing);
 
         let mut wrong = lent.differences();
         wrong.extend(wrong_number(number, answer.number));
@@ -86,7 +87,7 @@ impl Run {
         let mut word = Lent::filled("the mark", 1, random);
         lent.expect(&answer, marking.call.length);
         word.expect(&[mark]);
-        let number = lent.make(&marking.call, Some((marking.flat_limit, marking.clip_level, word.pointer())));
+        let number = lent.make(&marking.call, Beside::Mark(marking.flat_limit, marking.clip_level, word.pointer()));
 
         let mut wrong = lent.differences();
         wrong.extend(word.difference());
@@ -96,6 +97,78 @@ impl Run {
         }
         self.record.answer(MARK, answer.number, &marking.holding(&self.rules));
         self.fail(wrong, || format!("mark by flat limit {} and clip level {}, of {}", marking.flat_limit, marking.clip_level, described(&marking.call)));
+    }
+
+    // ---- months
+
+    pub fn begin(&mut self, month: &mut LentMonth, length: usize) {
+        let (begun, correct) = Month::begun(length);
+        month.month = begun;
+        month.lent.expect(&month.month.words);
+        let number = unsafe { mealbis_month_begin(month.lent.pointer(), length) };
+        self.record.answer(BEGIN, correct, &[]);
+        self.end(vec![month.lent.difference()], number, correct, || format!("a month begun for {length}"));
+    }
+
+    // the number that document 02 answers
+    pub fn add(&mut self, month: &mut LentMonth, call: &Call, random: &mut Random) -> u32 {
+        let holding = month.month.holding(call, &self.rules);
+        let held = (month.month.words[0], month.month.blocks());
+        let answer = month.month.add(call, &self.rules);
+        let mut lent = LentCall::new(call, random);
+        lent.expect(&answer, call.length);
+        month.lent.expect(&month.month.words);
+        let number = lent.make(call, Beside::Month(month.lent.pointer()));
+
+        let mut wrong = lent.differences();
+        wrong.extend(month.lent.difference());
+        wrong.extend(wrong_number(number, answer.number));
+        if answer.number == 0 {
+            self.record.added[call.length.trailing_zeros() as usize] += 1;
+        }
+        self.record.answer(ADD, answer.number, &holding);
+        self.fail(wrong, || format!("added to a month of {} with {} blocks, {}", held.0, held.1, described(call)));
+        answer.number
+    }
+
+    // The sums that stand in the month, begun before these calls of one length were accepted, for some k.
+    pub fn month_distances(&mut self, month: &LentMonth, history: &[Call], random: &mut Random) {
+        let length = history[0].length;
+        let mut wrong = Vec::new();
+        for k in sampled(&history[0], random.below(length), random) {
+            for (part, first) in [(Part::CosineDft, FIRST_COSINE), (Part::SineDft, FIRST_SINE)] {
+                let exact = history.iter().map(|call| part.exact(&self.rules.circle, &call.blocks(), k)).sum();
+                let apart = distance(month.lent.words()[first + k], exact);
+                self.record.month_sums[length.trailing_zeros() as usize] += 1;
+                let (over, under) = part.limit(length);
+                if !within(apart, (history.len() * over, under)) {
+                    wrong.push(format!("the sum in word {} is {} thousandths from the exact one", first + k, (apart * 1000) >> 80));
+                }
+            }
+        }
+        self.fail(wrong, || format!("a month of {} with {} blocks", length, history.len()));
+    }
+
+    // the length and the block number, too
+    pub fn sums(&mut self, month: &mut LentMonth, k: usize, random: &mut Random) {
+        let sums = month.month.sums(k);
+        let correct = if sums.is_some() { 0 } else { 16 };
+        let (cosine, sine) = sums.unwrap_or((0, 0));
+        let mut words = ["the cosine's sum", "the sine's sum"].map(|name| Lent::<i64>::filled(name, 1, random));
+        for (word, sum) in words.iter_mut().zip([cosine, sine]) {
+            word.expect(&[sum]);
+        }
+        let lent = month.lent.pointer();
+        let [cosine, sine] = words.each_mut().map(Lent::pointer);
+        let number = unsafe { mealbis_month_sums(lent, k, cosine, sine) };
+        let (length, blocks) = unsafe { (mealbis_month_length(lent), mealbis_month_blocks(lent)) };
+
+        let mut found = vec![month.lent.difference()];
+        found.extend(words.iter().map(Lent::difference));
+        found.push((length != month.month.length()).then(|| format!("the length is {length} and not {}", month.month.length())));
+        found.push((blocks != month.month.blocks()).then(|| format!("the block number is {blocks} and not {}", month.month.blocks())));
+        self.record.answer(SUMS, correct, &[]);
+        self.end(found, number, correct, || format!("the sums for {k} of a month of {}", month.month.words[0]));
     }
 
     // ---- the inverse DCT
@@ -236,6 +309,13 @@ struct LentCall {
     counts: LentCounts,
 }
 
+// What is lent to a call of Spectrum beside its own: the figures of a mark with a word for it, or the words of a month.
+enum Beside {
+    Nothing,
+    Mark(i32, i32, *mut u32),
+    Month(*mut i64),
+}
+
 struct LentCounts {
     products: Lent<u64>,
     sums: Lent<u64>,
@@ -288,8 +368,7 @@ impl LentCall {
         self.counts.expect_counts([outcome.tally.products, outcome.tally.sums, outcome.largest_rest], 0);
     }
 
-    // Spectrum with a mark where there are a flat limit, a clip level and a word for the mark
-    fn make(&mut self, call: &Call, marked: Option<(i32, i32, *mut u32)>) -> u32 {
+    fn make(&mut self, call: &Call, beside: Beside) -> u32 {
         let (start, length, allowance) = (call.start, call.length, call.allowance);
         let lent: Vec<(*mut i32, usize)> = self.recordings.iter_mut().map(|r| (r.pointer(), r.len())).collect();
         let out: Vec<(*mut i32, usize)> = self.results.iter_mut().map(|r| (r.pointer(), r.len())).collect();
@@ -300,18 +379,18 @@ impl LentCall {
         let (products, sums) = (self.counts.products.pointer(), self.counts.sums.pointer());
         let (rest, place) = (self.counts.largest_rest.pointer(), self.counts.place.pointer());
         unsafe {
-            match call.kind {
-                Kind::Spectrum if marked.is_some() => {
-                    let (flat, clip, mark) = marked.unwrap();
-                    mealbis_mark(
-                        a, a_len, start, length, allowance, flat, clip, y, y_len, z, z_len, work, work_len, products, sums, rest, place, mark,
-                    )
-                }
-                Kind::Spectrum => mealbis_spectrum(
+            match (call.kind, beside) {
+                (Kind::Spectrum, Beside::Nothing) => mealbis_spectrum(
                     a, a_len, start, length, allowance, y, y_len, z, z_len, work, work_len, products, sums, rest, place,
                 ),
-                Kind::Cosine => mealbis_cosine(a, a_len, start, length, allowance, y, y_len, work, work_len, products, sums, rest, place),
-                Kind::Pair => mealbis_pair(
+                (Kind::Spectrum, Beside::Mark(flat, clip, mark)) => mealbis_mark(
+                    a, a_len, start, length, allowance, flat, clip, y, y_len, z, z_len, work, work_len, products, sums, rest, place, mark,
+                ),
+                (Kind::Spectrum, Beside::Month(month)) => mealbis_month_add(
+                    month, a, a_len, start, length, allowance, y, y_len, z, z_len, work, work_len, products, sums, rest, place,
+                ),
+                (Kind::Cosine, _) => mealbis_cosine(a, a_len, start, length, allowance, y, y_len, work, work_len, products, sums, rest, place),
+                (Kind::Pair, _) => mealbis_pair(
                     a, a_len, b, b_len, start, length, allowance, y, y_len, z, z_len, work, work_len, products, sums, rest, place,
                 ),
             }

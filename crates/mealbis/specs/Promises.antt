@@ -12,6 +12,11 @@ use Rattle.spectra.specs.declared.marks.MarkAnswer.{MarkAnswer}
 use Rattle.spectra.specs.Answers.{verdictOf, spent, place as placeOf, verdictOfCounts, countsOf}
 use Rattle.spectra.specs.MarkAnswers as marked
 use Rattle.spectra.specs.Promises.{SpectrumPromise, CosinePromise, PairPromise, MarkPromise, CountsPromise}
+use Rattle.months.specs.declared.record.BeginAnswer.{BeginAnswer}
+use Rattle.months.specs.declared.record.AddAnswer.{AddAnswer}
+use Rattle.months.specs.declared.record.SumsAnswer.{SumsAnswer}
+use Rattle.months.specs.Answers as months
+use Rattle.months.specs.Promises.{BeginPromise, AddPromise, SumsPromise}
 use Rattle.inverse.specs.declared.InverseAnswer.{InverseAnswer}
 use Rattle.inverse.specs.Answers as inverse
 use Rattle.inverse.specs.Promises.{InversePromise}
@@ -67,6 +72,33 @@ pub record MarkTold (recording : List ℤ) (start N allowance : ℕ) (flatLimit 
   pub rest-is : largestRest′ ≡ marked.spent answer .«largest_rest»
   pub place-is : place′ ≡ marked.place answer
   pub mark-is : mark′ ≡ marked.markNumber answer
+
+-- ---- a month, in words that C lends
+
+-- There is an answer of which the promise of beginning holds, with these words after the call, and it is the answer told.
+pub record BeginTold (N : ℕ) (month′ : List ℤ) (number : ℕ) : Type 0 where
+  pub answer : BeginAnswer
+  pub promise : BeginPromise N month′ answer
+  pub number-is : number ≡ numberOf (months.verdictOfBegin answer)
+
+-- The same of adding. The counts and the largest rest are 0 in every refusal, and the place is 0 in every answer but refusal 6.
+pub record AddTold (month recording : List ℤ) (start N allowance : ℕ)
+    (cosine sine scratch month′ cosine′ sine′ scratch′ : List ℤ) (products′ sums′ largestRest′ place′ number : ℕ) : Type 0 where
+  pub answer : AddAnswer
+  pub promise : AddPromise month recording start N allowance cosine sine scratch month′ cosine′ sine′ scratch′ answer
+  pub number-is : number ≡ numberOf (months.verdictOf answer)
+  pub products-is : products′ ≡ months.spent answer .products
+  pub sums-is : sums′ ≡ months.spent answer .sums
+  pub rest-is : largestRest′ ≡ months.spent answer .«largest_rest»
+  pub place-is : place′ ≡ months.place answer
+
+-- The same of reading the sums for k. They are 0 in refusal 16.
+pub record SumsTold (month : List ℤ) (k : ℕ) (cosine′ sine′ : ℤ) (number : ℕ) : Type 0 where
+  pub answer : SumsAnswer
+  pub promise : SumsPromise month k answer
+  pub number-is : number ≡ numberOf (months.verdictOfSums answer)
+  pub cosine-is : cosine′ ≡ months.sumsOf answer .cosine
+  pub sine-is : sine′ ≡ months.sumsOf answer .sine
 
 -- ---- the count query
 

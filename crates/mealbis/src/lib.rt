@@ -4,6 +4,7 @@
 // is written for who calls them.
 pub mod version;
 
+use months::record;
 use pairfile::reader;
 use pairfile::reader::FileAnswer;
 use pairfile::writer;
@@ -11,6 +12,9 @@ use spectra::Answer;
 use spectra::CountsAnswer;
 use spectra::marks;
 ghost use Rattle.mealbis.specs.Promises.{Told, SpectrumTold, CosineTold, PairTold, MarkTold, CountsTold};
+ghost use mathlib.Core.Path.{_≡_};
+ghost use Rattle.months.specs.Months.{lengthOf, blockNumber};
+ghost use Rattle.mealbis.specs.Promises.{BeginTold, AddTold, SumsTold};
 ghost use Rattle.mealbis.specs.Promises.{InverseTold, FileTold, ReadTold, WriteTold};
 
 // ---- answers
@@ -156,6 +160,89 @@ pub extern "C" fn mealbis_mark(
     *place = marks::place_of(answer);
     *mark = marks::mark_of(answer);
     marks::number_of(answer)
+}
+
+// A month for one length, begun in lent words.
+#[no_mangle]
+pub extern "C" fn mealbis_month_begin(month: &mut [i64; 1028], length: usize) -> u32
+    ensures { λ r. ⌜ BeginTold length (now (month .exit)) r ⌝ }
+{
+    let answer = record::begin_in(month, length);
+    record::begin_number(answer)
+}
+
+// Spectrum, and its coefficients added to a month.
+#[no_mangle]
+pub extern "C" fn mealbis_month_add(
+    month: &mut [i64; 1028],
+    recording: &[i32],
+    start: usize,
+    length: usize,
+    allowance: u64,
+    cosine: &mut [i32],
+    sine: &mut [i32],
+    scratch: &mut [i64],
+    products: &mut u64,
+    sums: &mut u64,
+    largest_rest: &mut u64,
+    place: &mut usize,
+) -> u32
+    ensures { λ r. ⌜ AddTold (now (month .entry)) (now (recording .entry)) start length allowance
+        (now (cosine .entry)) (now (sine .entry)) (now (scratch .entry))
+        (now (month .exit)) (now (cosine .exit)) (now (sine .exit)) (now (scratch .exit))
+        (now (products .exit)) (now (sums .exit)) (now («largest_rest» .exit)) (now (place .exit)) r ⌝ }
+{
+    let answer = record::add_to(
+        month,
+        recording,
+        start,
+        length,
+        allowance,
+        cosine,
+        sine,
+        scratch,
+    );
+    let tally = record::spent_of(answer);
+    *products = tally.products;
+    *sums = tally.sums;
+    *largest_rest = tally.largest_rest;
+    *place = record::place_of(answer);
+    record::number_of(answer)
+}
+
+// The length for which a month is begun.
+#[no_mangle]
+pub extern "C" fn mealbis_month_length(month: &[i64; 1028]) -> usize
+    ensures { λ r. ⌜ r ≡ lengthOf (now (month .entry)) ⌝ }
+{
+    record::length_of(month)
+}
+
+// The number of blocks that were added to a month.
+#[no_mangle]
+pub extern "C" fn mealbis_month_blocks(month: &[i64; 1028]) -> i64
+    ensures { λ r. ⌜ r ≡ blockNumber (now (month .entry)) ⌝ }
+{
+    record::block_number(month)
+}
+
+// Both sums of a month for k.
+#[no_mangle]
+pub extern "C" fn mealbis_month_sums(
+    month: &[i64; 1028],
+    k: usize,
+    cosine: &mut i64,
+    sine: &mut i64,
+) -> u32
+    ensures { λ r. ⌜ SumsTold (now (month .entry)) k (now (cosine .exit)) (now (sine .exit)) r ⌝ }
+{
+    let answer = record::sums_at(month, k);
+    let both = record::sums_of(answer);
+    let cosine_sum = both.cosine;
+    let sine_sum = both.sine;
+    *cosine = cosine_sum;
+    *sine = sine_sum;
+    record::sums_number(answer)
 }
 
 // All six counts of a length.

@@ -1,16 +1,30 @@
--- `firstBeyond`, the first number beyond a limit, as a sample out of range: what it is where all are within the limit, and where one is
--- the first that is not.
+-- `atMost`, by the limits on both sides; and `firstBeyond`, the first number beyond a limit, as a sample out of range: what it is where all
+-- are within the limit, and where one is the first that is not.
 -- Assumes nothing.
-use mathlib.Core.Path.{_≡_, refl, _∙_}
+use mathlib.Core.Path.{_≡_, refl, sym, _∙_}
+use mathlib.Core.Bool.{true, false, false≢true}
 use mathlib.Core.Logic.{⊎-elim}
 use Prim.Native.Nat.{ℕ, zero, suc, _+_, _≤_, _<_}
 use native.Mathlib.Omega.{arith}
-use lib.IntN.{natAbs}
-use borrow.Author.Tests.{le-leb, lt-leb}
+use lib.IntN.{ℤ, pos, negsuc, negℤ, natAbs}
+use lib.Signed.{leZ}
+use borrow.Author.Tests.{leb-true, leb-false, le-leb, lt-leb}
 use Rattle.whole.proofs.Cases.{le-or-lt}
 use Rattle.words.specs.Words.{Samples}
-use Rattle.refusals.specs.Refusals.{firstBeyond}
+use Rattle.refusals.specs.Refusals.{atMost, firstBeyond}
 use Rattle.refusals.specs.Passes.{AllWithin, FirstAt}
+
+-- ---- whether a number is at most m in size: one that is not below the low limit is decided by the high one
+pub high-decides : (m : ℕ) (z : ℤ) → leZ (negℤ (pos m)) z ≡ true → leZ z (pos m) ≡ atMost m z
+high-decides m (pos n) e = refl
+high-decides zero (negsuc n) e = absurd (false≢true e)
+high-decides (suc m) (negsuc n) e = sym (le-leb (suc n) (suc m) (omega (arith, leb-true n m e)))
+
+pub too-low : (m : ℕ) (z : ℤ) → leZ (negℤ (pos m)) z ≡ false → false ≡ atMost m z
+too-low zero (pos n) e = absurd (omega (arith, leb-false 0 n e))
+too-low (suc m) (pos n) e = absurd (false≢true (sym e))
+too-low zero (negsuc n) e = sym (lt-leb (suc n) 0 (omega arith))
+too-low (suc m) (negsuc n) e = sym (lt-leb (suc n) (suc m) (omega (arith, leb-false n m e)))
 
 module _ (m : ℕ) (x : Samples) where
   -- ---- a turn goes on, or ends the search

@@ -10,6 +10,7 @@ use spectra::count_query;
 use spectra::pair;
 use spectra::spectrum;
 use test_rows::digested;
+use test_rows::random_sample;
 use test_rows::write_count;
 use test_rows::write_words;
 ghost use mathlib.Core.Path.{_≡_};
@@ -74,16 +75,6 @@ fn write_scratch(words: &[i64]) {
 // A row of pseudo-random numbers below 2^31.
 fn next(state: u64) -> u64 {
     (state % 2147483648 * 1103515245 + 12345) % 2147483648
-}
-
-// From -1000000 to 1000000.
-fn random_sample(state: u64) -> i32 {
-    let n = state % 2000001;
-    if n < 1000000 {
-        !((999999 - n) as i32)
-    } else {
-        (n - 1000000) as i32
-    }
 }
 
 // The sample at a place below 8 of a wave that is 0, +, +, +, 0, -, -, - from place 3 on.

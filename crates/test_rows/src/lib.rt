@@ -1,4 +1,4 @@
-// What the test programs write: numbers with a blank before each, and rows of words.
+// What the test programs write: numbers with a blank before each, and rows of words; and samples for them.
 use libc::STDOUT_FILENO;
 use text::magnitude;
 
@@ -37,5 +37,15 @@ pub fn write_words(words: &[i32]) {
     }
     if words.len() > 20 {
         write_count(digest);
+    }
+}
+
+// A sample from a number: -1000000 to 1000000.
+pub fn random_sample(state: u64) -> i32 {
+    let n = state % 2000001;
+    if n < 1000000 {
+        !((999999 - n) as i32)
+    } else {
+        (n - 1000000) as i32
     }
 }

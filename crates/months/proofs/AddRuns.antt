@@ -1,0 +1,96 @@
+-- A run of adding: the promise at each of its ends.
+-- Assumes nothing.
+use mathlib.Core.Path.{_≡_, refl, sym, ap, subst, _∙_}
+use mathlib.Core.Bool.{Bool, true, false, not, _||_}
+use mathlib.Core.List.{List}
+use Prim.Native.Nat.{ℕ, _+_, _/_, _≤_}
+use native.Mathlib.Omega.{arith}
+use lib.Dec.{eqb}
+use lib.IntN.{ℤ}
+use lib.ListN.{length}
+use borrow.Author.Tests.{eqb-true, not-false}
+use Rattle.words.specs.Words.{Samples, word}
+use Rattle.words.proofs.Writing.{front}
+use Rattle.ffct.proofs.ElevenLengths.{length-le}
+use Rattle.counts.specs.declared.tally.Tally.{Tally}
+use Rattle.refusals.specs.Refusals.{block, number}
+use Rattle.refusals.specs.Calls.{Call, verdict}
+use Rattle.refusals.specs.declared.call.Refusal.{Refusal}
+use Rattle.refusals.proofs.Conditions.{none-of}
+use Rattle.refusals.proofs.Promises.{turned-down, carried-out}
+use Rattle.refusals.proofs.Calls.{passes, some-number}
+use Rattle.spectra.specs.declared.Answer.{Answer}
+use Rattle.spectra.specs.declared.Answer.the-variants.{Refused, Done}
+use Rattle.spectra.specs.Promises.{spectrumCall, SpectrumPromise}
+use Rattle.months.specs.declared.record.AddAnswer.the-variants.{OtherLength, Full, Spectrum}
+use Rattle.months.specs.Months.{lengthOf, otherLength, full, addVerdict, plus, BlockAdded}
+use Rattle.months.specs.Promises.{AddPromise}
+use Rattle.months.proofs.Months.{one-more}
+
+-- ---- a block added by its coefficients as they stand in their buffers
+block-same : {N : ℕ} {c s d e : Samples} {month month′ : List ℤ} → ((k : ℕ) → k ≤ N / 2 → c k ≡ d k) → ((k : ℕ) → k ≤ N / 2 → s k ≡ e k)
+    → BlockAdded N c s month month′ → BlockAdded N d e month month′
+block-same {month = month} cosines sines added = record {
+  length = added .length;
+  number = added .number;
+  cosine = λ k h. added .cosine k h ∙ ap (plus _) (cosines k h);
+  sine = λ k h. added .sine k h ∙ ap (plus _) (sines k h);
+  beyond = added .beyond;
+}
+
+-- ---- the block's length is the month's
+own-length : (month : List ℤ) (N : ℕ) → otherLength month N ≡ false → lengthOf month ≡ N
+own-length month N e = eqb-true (lengthOf month) N (not-false _ (none-of (eqb N 0) _ e .1))
+
+-- ---- a run
+module _ (month r : List ℤ) (start N allowance : ℕ) (cosine sine scratch : List ℤ) where
+  abbrev call : Call
+  call = spectrumCall r start N allowance cosine sine scratch
+
+  pub other-length : otherLength month N ≡ true
+      → AddPromise month r start N allowance cosine sine scratch month cosine sine scratch OtherLength
+  other-length e = turned-down (refl, refl, refl, refl) (omega arith) (rw e refl)
+
+  module _ (own : otherLength month N ≡ false) where
+    pub is-full : full month ≡ true → AddPromise month r start N allowance cosine sine scratch month cosine sine scratch Full
+    is-full e = turned-down (refl, refl, refl, refl) (omega arith) (rw (own, e) refl)
+
+    as-spectrum : full month ≡ false → addVerdict month call ≡ verdict call
+    as-spectrum room = rw (own, room) refl
+
+    module _ (room : full month ≡ false) {cosine′ sine′ scratch′ : List ℤ} {answer : Answer}
+        (p : SpectrumPromise r start N allowance cosine sine scratch cosine′ sine′ scratch′ answer) where
+      with-answer : {a : Answer} → answer ≡ a → SpectrumPromise r start N allowance cosine sine scratch cosine′ sine′ scratch′ a
+      with-answer e = subst (λ a. SpectrumPromise r start N allowance cosine sine scratch cosine′ sine′ scratch′ a) e p
+
+      pub spectrum-refused : {refusal : Refusal} → answer ≡ Refused refusal
+          → AddPromise month r start N allowance cosine sine scratch month cosine′ sine′ scratch′ (Spectrum answer)
+      spectrum-refused {refusal} e =
+          let q = with-answer e in
+          let some = some-number refusal in
+          let (c, s, w) = q .unchanged (λ a. omega (arith, some, ap number a)) in
+          rw e (turned-down (refl, c, s, w) some (as-spectrum room ∙ sym (q .verdict)))
+
+      module _ {tally : Tally} (e : answer ≡ Done tally) where
+        pub add-ready : (N ≤ 1024) × (N / 2 + 1 ≤ length cosine′) × (N / 2 + 1 ≤ length sine′)
+        add-ready =
+            let q = with-answer e in
+            let passed = passes call (sym (q .verdict)) in
+            let done = q .done refl in (
+              length-le N (passed .length-ok),
+              omega (arith, passed .results .0, done .cosineWords .len),
+              omega (arith, passed .results .1 .0, done .sineWords .len),
+            )
+
+        pub block-held : {month′ : List ℤ} → BlockAdded N (word cosine′) (word sine′) month month′
+            → AddPromise month r start N allowance cosine sine scratch month′ cosine′ sine′ scratch′ (Spectrum answer)
+        block-held {month′} b =
+            let q = with-answer e in
+            let done = q .done refl in
+            let added = block-same (λ k h. front (done .cosineWords) k (omega arith)) (λ k h. front (done .sineWords) k (omega arith)) b in
+            let is = own-length month N own in
+            rw e (carried-out refl (as-spectrum room ∙ sym (q .verdict)) (record {
+              spectrum = done;
+              words = added;
+              holds = λ history held. one-more held room (rw is (done .block)) (rw is added);
+            }))

@@ -1,0 +1,48 @@
+-- A month that is begun holds the empty history; so does one whose beginning is refused.
+-- Assumes nothing.
+use mathlib.Core.Path.{_≡_, refl, sym, ap, _∙_}
+use mathlib.Core.Bool.{Bool, true, false, cond}
+use mathlib.Core.List.{List, [], _∷_}
+use Prim.Native.Nat.{ℕ, zero, suc, _+_, _/_, _≤_, _<_}
+use native.Mathlib.Omega.{arith}
+use lib.IntN.{ℤ, pos}
+use lib.ListN.{replicate, getD}
+use mir.Syntax.{w64}
+use mir.Val.{toZ}
+use Rattle.whole.proofs.Difference.{int}
+use Rattle.whole.proofs.Operations.{natural}
+use Rattle.words.specs.Words.{word}
+use Rattle.ffct.specs.Block.{isLength}
+use Rattle.ffct.proofs.ElevenLengths.{length-le}
+use Rattle.months.specs.declared.record.BeginAnswer.the-variants.{BadLength, Begun}
+use Rattle.months.specs.Months.{newMonth, Holds, sumOver, AllAccepted}
+use Rattle.months.specs.Promises.{BeginPromise}
+
+zeros : (n k : ℕ) → word (replicate n (pos 0)) k ≡ pos 0
+zeros zero k = refl
+zeros (suc n) zero = refl
+zeros (suc n) (suc k) = zeros n k
+
+new-word : (N k : ℕ) → 0 < k → word (newMonth N) k ≡ pos 0
+new-word N zero h = absurd (omega arith)
+new-word N (suc k) h = zeros 1027 k
+
+pub empty : (N : ℕ) → Holds (newMonth N) []
+unfolding sumOver AllAccepted
+empty N = record {
+  blocks = tt;
+  number = refl;
+  atMost = omega arith;
+  cosine = λ k h. new-word N (2 + k) (omega arith);
+  sine = λ k h. new-word N (515 + k) (omega arith);
+}
+
+pub not-begun : {N : ℕ} → isLength N ≡ false → BeginPromise N (newMonth 0) BadLength
+not-begun e = record { verdict = rw e refl; words = rw e refl; empty = empty 0 }
+
+-- the length as the word that is stored
+pub begun : {N : ℕ} → isLength N ≡ true → BeginPromise N (toZ w64 N ∷ replicate 1027 (pos 0)) Begun
+unfolding int
+begun {N} e =
+    let is = natural {w = w64} {n = N} (omega (arith, length-le N e)) .is in
+    rw is (record { verdict = rw e refl; words = rw e refl; empty = empty N })

@@ -1,0 +1,30 @@
+-- `months::record::begin_in` meets its contract. Assumes nothing.
+use mathlib.Core.Path.{_≡_, refl, sym, _∙_}
+use mathlib.Core.Bool.{true, false}
+use native.Mathlib.Omega.{arith}
+use mir.Syntax.{w64}
+use mir.Val.{SFits, toZ}
+use borrow.Author.Needs.{needs}
+use borrow.Author.Tests.{not-true, not-false}
+use Rattle.ffct.specs.Block.{isLength}
+use Rattle.ffct.proofs.ElevenLengths.{length-le}
+use Rattle.whole.proofs.Operations.{natural}
+use Rattle.months.proofs.Beginning.{begun, not-begun}
+use Rattle.months.proofs.record.begin_in.Statement.{statement}
+use Rattle.months.proofs.record.begin_in.Tie as tie
+
+bad : (c : tie.Then1) → isLength (c .before .before .before .args .length) ≡ false
+bad c = sym (c .before .is-length .ensures) ∙ not-true _ (c .if1 .taken)
+
+good : (c : tie.Else1) → isLength (c .before .before .before .args .length) ≡ true
+good c = sym (c .before .is-length .ensures) ∙ not-false _ (c .if1 .left)
+
+pub begin-in-spec : {M : Type 1} → statement M
+begin-in-spec =
+    tie.close
+    (tie.spec
+    (λ c κs. search needs)  -- is-length-requires
+    (λ c. not-begun (bad c))  -- returns
+    (λ c. record { sfits = omega (arith, length-le _ (good c)) })  -- cast-month
+    (λ c. search needs)  -- element-set-from-month
+    (λ c. begun (good c)))  -- returns-2

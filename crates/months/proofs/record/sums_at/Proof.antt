@@ -1,0 +1,48 @@
+-- `months::record::sums_at` meets its contract. Assumes nothing.
+use mathlib.Core.Path.{_≡_, refl, sym, _∙_}
+use mathlib.Core.Bool.{false}
+use Prim.Native.Nat.{_/_, _≤_}
+use native.Mathlib.Omega.{arith}
+use lib.Dec.{eqb}
+use mir.Facts.{toZ-ofZ}
+use borrow.Author.Needs.{needs, sfits-of}
+use borrow.Author.Tests.{eq-eqb, ne-eqb, le-leb, lt-leb}
+use Rattle.months.specs.Months.{lengthOf}
+use Rattle.months.proofs.Lengths.{length-small}
+use Rattle.months.proofs.record.sums_at.Statement.{statement}
+use Rattle.months.proofs.record.sums_at.Tie as tie
+
+-- a length that is not 0
+some : (c : tie.Else1) → eqb (lengthOf (c .before .before .args .month .now)) 0 ≡ false
+some c = ne-eqb _ _ (λ e. c .if1 .left (c .before .length-of .ensures ∙ e))
+
+-- a k that Spectrum yields
+yielded : (c : tie.Else2) → c .before .before .before .args .k ≤ lengthOf (c .before .before .before .args .month .now) / 2
+yielded c = rw (c .before .before .length-of .ensures) at (c .if2 .left)
+
+inside : (c : tie.Else2) → c .before .before .before .args .k ≤ 512
+inside c = omega (arith, yielded c, length-small (c .before .before .before .args .month .now))
+
+pub sums-at-spec : {M : Type 1} → statement M
+sums-at-spec =
+    tie.close
+    (tie.spec
+    (λ c κs. search needs)  -- length-of-requires
+    (λ c. rw (eq-eqb (lengthOf (c .before .before .args .month .now)) 0 (sym (c .before .length-of .ensures) ∙ c .if1 .taken)) refl)  -- returns
+    (λ c. rw (
+      some (c .before),
+      lt-leb (c .before .before .before .args .k) _
+          (rw (c .before .before .length-of .ensures) at (c .if2 .taken)),
+    ) refl)  -- returns-2
+    (λ c. search needs)  -- add-t5
+    (λ c. record { fits = omega (arith, inside c) })  -- mul-t6
+    (λ c. omega (arith, inside c))  -- element-copy-out-t9
+    (λ c. search needs)  -- add-t10
+    (λ c. record { fits = omega (arith, inside (c .before)) })  -- mul-t11
+    (λ c. omega (arith, inside (c .before)))  -- element-copy-out-t14
+    (λ c. rw (
+      toZ-ofZ (sfits-of (c .before .t9 .given)),
+      toZ-ofZ (sfits-of (c .t14 .given)),
+      some (c .before .before .before),
+      le-leb (c .before .before .before .before .before .args .k) _ (yielded (c .before .before)),
+    ) refl))  -- returns-3

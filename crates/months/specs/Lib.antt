@@ -1,0 +1,4 @@
+pub mod Months
+pub mod Answers
+pub mod Promises
+pub mod Laws

@@ -1,0 +1,88 @@
+// Month sums beside the blocks (document 02, (vi)). A month is a value that only `begin` and `add` make: its words are private. A refusal
+// gives the month back as it was.
+pub mod record;
+
+use record::AddAnswer;
+use record::BeginAnswer;
+use record::SumsAnswer;
+ghost use mathlib.Core.Path.{_≡_};
+ghost use Rattle.months.specs.Months.{lengthOf, blockNumber};
+ghost use Rattle.months.specs.Promises.{Beginning, Adding, SumsPromise};
+
+pub struct Month {
+    words: [i64; 1028],
+}
+
+pub struct Begun {
+    pub month: Month,
+    pub answer: BeginAnswer,
+}
+
+pub struct Added {
+    pub month: Month,
+    pub answer: AddAnswer,
+}
+
+// A month for one length; where the length is refused, one to which no block can be added.
+pub fn begin(length: usize) -> Begun
+    ensures { λ r. ⌜ Beginning length r ⌝ }
+{
+    let mut month = Month { words: [0; 1028] };
+    let answer = record::begin_in(&mut month.words, length);
+    Begun { month, answer }
+}
+
+// Spectrum, and the month with its coefficients added.
+pub fn add(
+    month: Month,
+    recording: &[i32],
+    start: usize,
+    length: usize,
+    allowance: u64,
+    cosine: &mut [i32],
+    sine: &mut [i32],
+    scratch: &mut [i64],
+) -> Added
+    ensures { λ r. ⌜ Adding month (now (recording .entry)) start length allowance
+        (now (cosine .entry)) (now (sine .entry)) (now (scratch .entry))
+        (now (cosine .exit)) (now (sine .exit)) (now (scratch .exit)) r ⌝ }
+{
+    let mut next = month;
+    let answer = record::add_to(
+        &mut next.words,
+        recording,
+        start,
+        length,
+        allowance,
+        cosine,
+        sine,
+        scratch,
+    );
+    Added {
+        month: next,
+        answer,
+    }
+}
+
+// ---- for the desk
+
+// The length for which a month is begun; 0 where beginning was refused.
+pub fn length_of(month: Month) -> usize
+    ensures { λ r. ⌜ r ≡ lengthOf (month .words) ⌝ }
+{
+    record::length_of(&month.words)
+}
+
+// The number of blocks that were added.
+pub fn block_number(month: Month) -> i64
+    ensures { λ r. ⌜ r ≡ blockNumber (month .words) ⌝ }
+{
+    record::block_number(&month.words)
+}
+
+// Both sums for k, where Spectrum yields that k.
+pub fn sums_at(month: Month, k: usize) -> SumsAnswer
+    ensures { λ r. ⌜ SumsPromise (month .words) k r ⌝ }
+{
+    record::sums_at(&month.words, k)
+}

@@ -1,0 +1,242 @@
+// The record of a month in words that the caller lends (specs/Months.antt has its places). A program in C keeps its months so.
+use counts::tally::NONE;
+use counts::tally::Tally;
+use refusals::length::is_length;
+use spectra::Answer;
+use spectra::spectrum;
+ghost use mathlib.Core.Bool.{false};
+ghost use mathlib.Core.Path.{_≡_};
+ghost use Prim.Native.Nat.{_+_, _/_, _^_, _≤_};
+ghost use lib.ListN.{length as List·length};
+ghost use Rattle.words.specs.Words.{word, Written};
+ghost use Rattle.refusals.specs.Refusals.{number, atMost};
+ghost use Rattle.months.specs.Months.{lengthOf, blockNumber, full, otherLength, plus, BlockAdded};
+ghost use Rattle.months.specs.Answers.{verdictOfBegin, verdictOf, verdictOfSums, spent, place, sumsOf};
+ghost use Rattle.months.specs.Promises.{BeginPromise, AddPromise, SumsPromise};
+
+// The answer of beginning.
+pub enum BeginAnswer {
+    BadLength,
+    Begun,
+}
+
+// The answer of adding: one of the month's own refusals, or that of Spectrum.
+pub enum AddAnswer {
+    OtherLength,
+    Full,
+    Spectrum(Answer),
+}
+
+// The two sums of a month for one k.
+pub struct Sums {
+    pub cosine: i64,
+    pub sine: i64,
+}
+
+// The answer of reading them.
+pub enum SumsAnswer {
+    NotYielded,
+    Yielded(Sums),
+}
+
+// ---- reading
+
+// The length for which the month is begun; 0 where beginning was refused, and of words that are no month's.
+pub fn length_of(month: &[i64; 1028]) -> usize
+    ensures { λ r. ⌜ r ≡ lengthOf (now (month .entry)) ⌝ }
+{
+    let first = month[0];
+    if first < 0 {
+        return 0;
+    }
+    let length = first as usize;
+    if is_length(length) { length } else { 0 }
+}
+
+// The number of blocks that were added.
+pub fn block_number(month: &[i64; 1028]) -> i64
+    ensures { λ r. ⌜ r ≡ blockNumber (now (month .entry)) ⌝ }
+{
+    month[1]
+}
+
+// Both sums for k, where Spectrum yields that k.
+pub fn sums_at(month: &[i64; 1028], k: usize) -> SumsAnswer
+    ensures { λ r. ⌜ SumsPromise (now (month .entry)) k r ⌝ }
+{
+    let length = length_of(month);
+    if length == 0 {
+        return SumsAnswer::NotYielded;
+    }
+    if length / 2 < k {
+        return SumsAnswer::NotYielded;
+    }
+    SumsAnswer::Yielded(Sums {
+        cosine: month[2 + k],
+        sine: month[515 + k],
+    })
+}
+
+// ---- beginning
+
+// A month of no blocks, in whatever words are lent.
+pub fn begin_in(month: &mut [i64; 1028], length: usize) -> BeginAnswer
+    ensures { λ r. ⌜ BeginPromise length (now (month .exit)) r ⌝ }
+{
+    *month = [0; 1028];
+    if !is_length(length) {
+        return BeginAnswer::BadLength;
+    }
+    month[0] = length as i64;
+    BeginAnswer::Begun
+}
+
+// ---- adding
+
+// Whether the block's length is not the month's, or the month has none.
+fn is_other_length(month: &[i64; 1028], length: usize) -> bool
+    ensures { λ r. ⌜ r ≡ otherLength (now (month .entry)) length ⌝ }
+{
+    if length == 0 {
+        return true;
+    }
+    length_of(month) != length
+}
+
+// Whether a sum is at most 2^62 in size.
+fn has_room(sum: i64) -> bool
+    ensures { λ r. ⌜ r ≡ atMost (2 ^ 62) sum ⌝ }
+{
+    -4611686018427387904 <= sum && sum <= 4611686018427387904
+}
+
+// A sum with a coefficient more. Every sum of a month has room; one that has none, in words that are no month's, stays.
+fn added(sum: i64, coefficient: i32) -> i64
+    ensures { λ r. ⌜ r ≡ plus sum coefficient ⌝ }
+{
+    if has_room(sum) {
+        sum + coefficient as i64
+    } else {
+        sum
+    }
+}
+
+// The first n coefficients added to the sums from word at on.
+fn add_sums(month: &mut [i64], at: usize, coefficients: &[i32], n: usize)
+    requires { ⌜ (at + n ≤ List·length (now month)) × (n ≤ List·length (now coefficients)) ⌝ }
+    ensures { λ _. ⌜ Written at n
+        (λ k. plus (word (now (month .entry)) (at + k)) (word (now (coefficients .entry)) k)) (now (month .entry)) (now (month .exit)) ⌝ }
+{
+    for k in 0..n {
+        month[at + k] = added(month[at + k], coefficients[k]);
+    }
+}
+
+// A block of which Spectrum has yielded the coefficients.
+fn add_block(month: &mut [i64], length: usize, cosine: &[i32], sine: &[i32])
+    requires { ⌜ (List·length (now month) ≡ 1028) × (length ≤ 1024) × (length / 2 + 1 ≤ List·length (now cosine)) × (length / 2 + 1 ≤ List·length (now sine))
+        × (full (now month) ≡ false) ⌝ }
+    ensures { λ _. ⌜ BlockAdded length (word (now (cosine .entry))) (word (now (sine .entry))) (now (month .entry)) (now (month .exit)) ⌝ }
+{
+    let yields = length / 2 + 1;
+    add_sums(month, 2, cosine, yields);
+    add_sums(month, 515, sine, yields);
+    month[1] = month[1] + 1;
+}
+
+// Spectrum, and its coefficients added to the month.
+pub fn add_to(
+    month: &mut [i64; 1028],
+    recording: &[i32],
+    start: usize,
+    length: usize,
+    allowance: u64,
+    cosine: &mut [i32],
+    sine: &mut [i32],
+    scratch: &mut [i64],
+) -> AddAnswer
+    ensures { λ r. ⌜ AddPromise (now (month .entry)) (now (recording .entry)) start length allowance
+        (now (cosine .entry)) (now (sine .entry)) (now (scratch .entry))
+        (now (month .exit)) (now (cosine .exit)) (now (sine .exit)) (now (scratch .exit)) r ⌝ }
+{
+    if is_other_length(month, length) {
+        return AddAnswer::OtherLength;
+    }
+    if 100000 <= month[1] {
+        return AddAnswer::Full;
+    }
+    let answer = spectrum(recording, start, length, allowance, cosine, sine, scratch);
+    match answer {
+        Answer::Refused(_) => AddAnswer::Spectrum(answer),
+        Answer::Done(_) => {
+            add_block(month, length, cosine, sine);
+            AddAnswer::Spectrum(answer)
+        }
+    }
+}
+
+// ---- the answers as plain numbers
+
+// The number of an answer of beginning in document 02; 0 where the month is begun.
+pub fn begin_number(answer: BeginAnswer) -> u32
+    ensures { λ r. ⌜ r ≡ number (verdictOfBegin answer) ⌝ }
+{
+    match answer {
+        BeginAnswer::BadLength => 1,
+        BeginAnswer::Begun => 0,
+    }
+}
+
+// The number of an answer of adding in document 01 or 02; 0 where the block is added.
+pub fn number_of(answer: AddAnswer) -> u32
+    ensures { λ r. ⌜ r ≡ number (verdictOf answer) ⌝ }
+{
+    match answer {
+        AddAnswer::OtherLength => 13,
+        AddAnswer::Full => 14,
+        AddAnswer::Spectrum(answer) => spectra::number_of(answer),
+    }
+}
+
+// The counts that an accepted call spent, and its largest rest; else 0 for each.
+pub fn spent_of(answer: AddAnswer) -> Tally
+    ensures { λ r. ⌜ (r .products ≡ spent answer .products) × (r .sums ≡ spent answer .sums)
+        × (r .«largest_rest» ≡ spent answer .«largest_rest») ⌝ }
+{
+    match answer {
+        AddAnswer::OtherLength => NONE,
+        AddAnswer::Full => NONE,
+        AddAnswer::Spectrum(answer) => spectra::spent_of(answer),
+    }
+}
+
+// The place of the first sample out of range, of refusal 6; else 0.
+pub fn place_of(answer: AddAnswer) -> usize
+    ensures { λ r. ⌜ r ≡ place answer ⌝ }
+{
+    match answer {
+        AddAnswer::OtherLength => 0,
+        AddAnswer::Full => 0,
+        AddAnswer::Spectrum(answer) => spectra::place_of(answer),
+    }
+}
+
+// The number of an answer of reading in document 02; 0 where the sums are given.
+pub fn sums_number(answer: SumsAnswer) -> u32
+    ensures { λ r. ⌜ r ≡ number (verdictOfSums answer) ⌝ }
+{
+    match answer {
+        SumsAnswer::NotYielded => 16,
+        SumsAnswer::Yielded(_) => 0,
+    }
+}
+
+// The two sums; else 0 for each.
+pub fn sums_of(answer: SumsAnswer) -> Sums
+    ensures { λ r. ⌜ (r .cosine ≡ sumsOf answer .cosine) × (r .sine ≡ sumsOf answer .sine) ⌝ }
+{
+    match answer {
+        SumsAnswer::NotYielded => Sums { cosine: 0, sine: 0 },
+        SumsAnswer::Yielded(both) => both,
+    }
+}
