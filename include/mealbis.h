@@ -36,8 +36,8 @@
  *
  * ---- Answers
  *
- * Every function returns 0 when it accepts, else the number of the first condition that holds, in
- * the order given at the function:
+ * Every function that can refuse returns 0 when it accepts, else the number of the first condition
+ * that holds, in the order given at the function:
  *
  *   1  length is not one of the eleven lengths
  *   2  start + length is more than the words of a recording; a sum beyond SIZE_MAX is more, too;
@@ -82,8 +82,9 @@
  * rounding less 2^30 times the rounded one, -2^29 to 2^29 - 1; 2^29 is half a unit of the last digit.
  * *largest_rest is the largest size, without sign, that a rest has among all roundings of the call:
  * at most MEALBIS_LARGEST_REST, and 0 where nothing was rounded, which is so in mealbis_cosine at
- * N = 1, in mealbis_spectrum, mealbis_mark and mealbis_pair below N = 8. It tells how near single
- * roundings came; how far a coefficient may be from its exact sum is said at the function.
+ * N = 1, in mealbis_spectrum, mealbis_mark, mealbis_month_add and mealbis_pair below N = 8. It tells
+ * how near single roundings came; how far a coefficient may be from its exact sum is said at the
+ * function.
  *
  * ---- Buffers
  *
@@ -91,10 +92,11 @@
  *     longer than needed; the words beyond those listed at the function stay as they are. But
  *     mealbis_read takes the whole file and mealbis_write both recordings whole: there the counts
  *     say how long they are.
- *   - What a call writes (results, scratch, the recordings of mealbis_read, the file of
+ *   - What a call writes (results, scratch, a month, the recordings of mealbis_read, the file of
  *     mealbis_write, the single words) must not overlap anything else that the call is given. What
  *     it only reads may overlap: a and b of mealbis_pair, or of mealbis_write, may be one recording.
- *     Recordings, stored coefficients and files that are only read may lie in read-only memory.
+ *     Recordings, stored coefficients, months and files that are only read may lie in read-only
+ *     memory.
  *   - While a call runs, nobody else may write its buffers, nor read those that it writes: no other
  *     thread, no interrupt handler, no DMA transfer.
  *   - Pointers are aligned as their type asks: 4 bytes for int32_t and uint32_t, 8 for int64_t,
@@ -106,7 +108,8 @@
  *     way: so it is in the library as it is built today, and examples/c/self_check.c tries it for
  *     each buffer. But it is not promised: the proof is about slices of memory and does not know a
  *     null pointer. Pass the address of any object with count 0 to rely on nothing but the proof.
- *   - NULL with another count, or for a single word, is the caller's error and is not tested.
+ *   - NULL with another count, or for a single word or a month, is the caller's error and is not
+ *     tested.
  *
  * ---- What a call needs
  *
@@ -121,9 +124,10 @@
  *     alone or runs on another stack.
  *
  * Stack: a copy of the cosine table, 4,100 bytes, and frames whose number depends on the length
- * alone. Measured at length 1,024, in bytes: mealbis_cosine 7,376, mealbis_mark 7,264,
- * mealbis_spectrum 7,216, mealbis_pair 7,136, mealbis_inverse_dct 4,168, mealbis_counts 112,
- * mealbis_read 96, mealbis_write 128; shorter blocks take no more.
+ * alone. Measured at length 1,024, in bytes: mealbis_cosine 7,376, mealbis_mark and
+ * mealbis_month_add 7,264, mealbis_spectrum 7,216, mealbis_pair 7,136, mealbis_inverse_dct 4,168,
+ * mealbis_write 128, mealbis_counts 112, mealbis_read 96, the other calls on a month 24 at most;
+ * shorter blocks take no more.
  * The proof does not speak of the stack: allow 8 KiB. `self_check --stack` measures it.
  */
 #ifndef MEALBIS_H
@@ -240,8 +244,8 @@ uint32_t mealbis_mark(
  * sums of the blocks, and far below 2^63 in size.
  *
  * In words that these two did not write, nothing overflows either, and nothing outside the month is
- * touched: a number in words[0] that is not one of the eleven lengths is read as 0, and a sum beyond
- * 2^62 in size stays as it is.
+ * touched: a number in words[0] that is not one of the eleven lengths is read as 0, a negative block
+ * number goes up by 1 as any other, and a sum beyond 2^62 in size stays as it is.
  */
 typedef struct mealbis_month {
     int64_t words[MEALBIS_MONTH_WORDS];
@@ -260,8 +264,8 @@ uint32_t mealbis_month_begin(mealbis_month *month, size_t length);
  * (coefficients, scratch, *products, *sums, *largest_rest). A refused block leaves the month as it
  * was.
  *
- *   month    all else as in mealbis_spectrum; here *sums are additions of the transform, too, and
- *            none of the month's is counted
+ *   month    all else as in mealbis_spectrum. *sums are the additions of the transform, as there: those
+ *            to the month's sums are not counted
  */
 uint32_t mealbis_month_add(
     mealbis_month *month,
@@ -353,7 +357,7 @@ uint32_t mealbis_pair(
  * taken for these, they are accepted as an allowance, and nothing tells.
  *
  *   dct_products, dct_sums              of mealbis_cosine
- *   spectrum_products, spectrum_sums    of mealbis_spectrum and of mealbis_mark
+ *   spectrum_products, spectrum_sums    of mealbis_spectrum, mealbis_mark and mealbis_month_add
  *   pair_products, pair_sums            of mealbis_pair
  */
 uint32_t mealbis_counts(

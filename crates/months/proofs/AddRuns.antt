@@ -1,20 +1,21 @@
 -- A run of adding: the promise at each of its ends.
 -- Assumes nothing.
 use mathlib.Core.Path.{_≡_, refl, sym, ap, subst, _∙_}
-use mathlib.Core.Bool.{Bool, true, false, not, _||_}
+use mathlib.Core.Bool.{true, false}
 use mathlib.Core.List.{List}
 use Prim.Native.Nat.{ℕ, _+_, _/_, _≤_}
 use native.Mathlib.Omega.{arith}
 use lib.Dec.{eqb}
 use lib.IntN.{ℤ}
 use lib.ListN.{length}
-use borrow.Author.Tests.{eqb-true, not-false}
+use borrow.Author.Tests.{eqb-true, eqb-false, not-false}
 use Rattle.words.specs.Words.{Samples, word}
 use Rattle.words.proofs.Writing.{front}
+use Rattle.ffct.specs.Block.{isLength}
 use Rattle.ffct.proofs.ElevenLengths.{length-le}
 use Rattle.counts.specs.declared.tally.Tally.{Tally}
 use Rattle.refusals.specs.Refusals.{block, number}
-use Rattle.refusals.specs.Calls.{Call, verdict}
+use Rattle.refusals.specs.Calls.{Call, tests, verdict}
 use Rattle.refusals.specs.declared.call.Refusal.{Refusal}
 use Rattle.refusals.proofs.Conditions.{none-of}
 use Rattle.refusals.proofs.Promises.{turned-down, carried-out}
@@ -25,6 +26,7 @@ use Rattle.spectra.specs.Promises.{spectrumCall, SpectrumPromise}
 use Rattle.months.specs.declared.record.AddAnswer.the-variants.{OtherLength, Full, Spectrum}
 use Rattle.months.specs.Months.{lengthOf, otherLength, full, addVerdict, plus, BlockAdded}
 use Rattle.months.specs.Promises.{AddPromise}
+use Rattle.months.proofs.Lengths.{length-some}
 use Rattle.months.proofs.Months.{one-more}
 
 -- ---- a block added by its coefficients as they stand in their buffers
@@ -39,8 +41,11 @@ block-same {month = month} cosines sines added = record {
 }
 
 -- ---- the block's length is the month's
-own-length : (month : List ℤ) (N : ℕ) → otherLength month N ≡ false → lengthOf month ≡ N
-own-length month N e = eqb-true (lengthOf month) N (not-false _ (none-of (eqb N 0) _ e .1))
+own-length : (month : List ℤ) (N : ℕ) → otherLength month N ≡ false → (lengthOf month ≡ N) × (isLength N ≡ true)
+own-length month N e =
+    let (some, same) = none-of (eqb (lengthOf month) 0) _ e in
+    let is = eqb-true (lengthOf month) N (not-false _ same) in
+    (is, rw is at (length-some month (eqb-false (lengthOf month) 0 some)))
 
 -- ---- a run
 module _ (month r : List ℤ) (start N allowance : ℕ) (cosine sine scratch : List ℤ) where
@@ -56,7 +61,8 @@ module _ (month r : List ℤ) (start N allowance : ℕ) (cosine sine scratch : L
     is-full e = turned-down (refl, refl, refl, refl) (omega arith) (rw (own, e) refl)
 
     as-spectrum : full month ≡ false → addVerdict month call ≡ verdict call
-    as-spectrum room = rw (own, room) refl
+    unfolding tests
+    as-spectrum room = rw (own, room, own-length month N own .1) refl
 
     module _ (room : full month ≡ false) {cosine′ sine′ scratch′ : List ℤ} {answer : Answer}
         (p : SpectrumPromise r start N allowance cosine sine scratch cosine′ sine′ scratch′ answer) where
@@ -88,7 +94,7 @@ module _ (month r : List ℤ) (start N allowance : ℕ) (cosine sine scratch : L
             let q = with-answer e in
             let done = q .done refl in
             let added = block-same (λ k h. front (done .cosineWords) k (omega arith)) (λ k h. front (done .sineWords) k (omega arith)) b in
-            let is = own-length month N own in
+            let (is, _) = own-length month N own in
             rw e (carried-out refl (as-spectrum room ∙ sym (q .verdict)) (record {
               spectrum = done;
               words = added;

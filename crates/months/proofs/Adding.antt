@@ -1,15 +1,14 @@
 -- A coefficient added to a sum: the word that it makes.
 -- Assumes nothing.
-use mathlib.Core.Path.{_≡_, refl}
+use mathlib.Core.Path.{_≡_}
 use mathlib.Core.Bool.{true, false}
-use Prim.Native.Nat.{ℕ, _+_, _^_, _≤_, _<_}
-use native.Mathlib.Omega.{arith}
+use Prim.Native.Nat.{_+_, _^_, _<_}
 use lib.Dec.{lit<}
-use lib.IntN.{ℤ, natAbs, _+ℤ_}
+use lib.IntN.{ℤ, _+ℤ_}
 use lib.Signed.{natAbs-le}
 use mir.Syntax.{w32, w64}
 use mir.Val.{SFits, toZ, ofZ}
-use borrow.Author.Tests.{leb-true, le-leb}
+use borrow.Author.Tests.{leb-true}
 use Rattle.whole.proofs.Size.{size-within, within-add, within-fits}
 use Rattle.whole.proofs.Words as Words
 use Rattle.whole.proofs.Operations.{Computes, computes}

@@ -1,12 +1,12 @@
 -- A month that is begun holds the empty history; so does one whose beginning is refused.
 -- Assumes nothing.
-use mathlib.Core.Path.{_≡_, refl, sym, ap, _∙_}
-use mathlib.Core.Bool.{Bool, true, false, cond}
-use mathlib.Core.List.{List, [], _∷_}
-use Prim.Native.Nat.{ℕ, zero, suc, _+_, _/_, _≤_, _<_}
+use mathlib.Core.Path.{_≡_, refl}
+use mathlib.Core.Bool.{Bool, true, false, not, cond}
+use mathlib.Core.List.{[], _∷_}
+use Prim.Native.Nat.{ℕ, zero, suc, _+_, _<_}
 use native.Mathlib.Omega.{arith}
-use lib.IntN.{ℤ, pos}
-use lib.ListN.{replicate, getD}
+use lib.IntN.{pos}
+use lib.ListN.{replicate}
 use mir.Syntax.{w64}
 use mir.Val.{toZ}
 use Rattle.whole.proofs.Difference.{int}
@@ -14,9 +14,14 @@ use Rattle.whole.proofs.Operations.{natural}
 use Rattle.words.specs.Words.{word}
 use Rattle.ffct.specs.Block.{isLength}
 use Rattle.ffct.proofs.ElevenLengths.{length-le}
+use Rattle.refusals.specs.Refusals.{refused, accepted}
+use Rattle.months.specs.declared.record.BeginAnswer.{BeginAnswer}
 use Rattle.months.specs.declared.record.BeginAnswer.the-variants.{BadLength, Begun}
-use Rattle.months.specs.Months.{newMonth, Holds, sumOver, AllAccepted}
+use Rattle.months.specs.Months.{lengthOf, newMonth, Holds, sumOver, AllAccepted}
+use Rattle.months.specs.Laws.{AlwaysOther}
+use Rattle.months.specs.Answers.{verdictOfBegin}
 use Rattle.months.specs.Promises.{BeginPromise}
+use Rattle.months.proofs.Lengths.{length-begun}
 
 zeros : (n k : ℕ) → word (replicate n (pos 0)) k ≡ pos 0
 zeros zero k = refl
@@ -35,14 +40,27 @@ empty N = record {
   atMost = omega arith;
   cosine = λ k h. new-word N (2 + k) (omega arith);
   sine = λ k h. new-word N (515 + k) (omega arith);
+  beyond = λ k h l. (new-word N (2 + k) (omega arith), new-word N (515 + k) (omega arith));
+}
+
+promise : (b : Bool) {N : ℕ} {answer : BeginAnswer} → isLength N ≡ b → verdictOfBegin answer ≡ cond (not b) (refused 1) accepted
+    → BeginPromise N (newMonth (cond b N 0)) answer
+promise b {N} e told = record {
+  verdict = rw e told;
+  words = rw e refl;
+  length = rw e (length-begun b N (newMonth (cond b N 0)) e refl);
+  empty = empty (cond b N 0);
 }
 
 pub not-begun : {N : ℕ} → isLength N ≡ false → BeginPromise N (newMonth 0) BadLength
-not-begun e = record { verdict = rw e refl; words = rw e refl; empty = empty 0 }
+not-begun e = promise false e refl
 
 -- the length as the word that is stored
 pub begun : {N : ℕ} → isLength N ≡ true → BeginPromise N (toZ w64 N ∷ replicate 1027 (pos 0)) Begun
 unfolding int
-begun {N} e =
-    let is = natural {w = w64} {n = N} (omega (arith, length-le N e)) .is in
-    rw is (record { verdict = rw e refl; words = rw e refl; empty = empty N })
+begun {N} e = let is = natural {w = w64} {n = N} (omega (arith, length-le N e)) .is in rw is (promise true e refl)
+
+-- ---- a month whose beginning was refused
+pub always-other : AlwaysOther
+unfolding lengthOf isLength
+always-other call = refl

@@ -1,12 +1,12 @@
 -- A block added to a month, word by word: the sums for the cosine coefficients, those for the sine coefficients, and the block number.
 -- Assumes nothing.
-use mathlib.Core.Path.{_≡_, refl, sym, ap, ap₂, _∙_}
+use mathlib.Core.Path.{_≡_, refl, ap, _∙_}
 use mathlib.Core.Bool.{false}
 use mathlib.Core.List.{List}
 use Prim.Native.Nat.{ℕ, zero, suc, _+_, _-_, _/_, _^_, _≤_, _<_}
 use native.Mathlib.Omega.{arith}
-use lib.IntN.{ℤ, pos, negsuc, natAbs, _+ℤ_}
-use lib.ListN.{length, set, length-set}
+use lib.IntN.{ℤ, pos, negsuc, _+ℤ_}
+use lib.ListN.{length, set}
 use lib.Seq.{getD-set-same, getD-set-other}
 use lib.Signed.{leZ, mag}
 use mir.Syntax.{w64}
@@ -16,10 +16,10 @@ use Rattle.words.specs.Words.{word, Written}
 use Rattle.months.specs.Months.{cosineSum, sineSum, full, plus, BlockAdded}
 
 -- ---- the block number of a month that is not full
-one-more : (z : ℤ) → mag z < 2 ^ 63 → leZ (pos 100000) z ≡ false → SFits w64 (z +ℤ pos 1)
-one-more (pos n) l e = record { sfits = omega (arith, leb-false 100000 n e) }
-one-more (negsuc zero) l e = record { sfits = omega arith }
-one-more (negsuc (suc n)) l e =
+pub next-fits : (z : ℤ) → mag z < 2 ^ 63 → leZ (pos 100000) z ≡ false → SFits w64 (z +ℤ pos 1)
+next-fits (pos n) l e = record { sfits = omega (arith, leb-false 100000 n e) }
+next-fits (negsuc zero) l e = record { sfits = omega arith }
+next-fits (negsuc (suc n)) l e =
     let e : negsuc (suc n) +ℤ pos 1 ≡ negsuc (suc (suc n) - 2) = rw (lt-ltb 1 (suc (suc n)) (omega arith)) refl in
     rw e (record { sfits = omega (arith, l) })
 
@@ -54,7 +54,7 @@ module _ {N : ℕ} {c s month month′ : List ℤ} (b : BothAdded N c s month mo
   number-is = b .low 1 (omega arith)
 
   pub number-fits : mag (word month′ 1) < 2 ^ 63 → full month ≡ false → SFits w64 (word month′ 1 +ℤ pos 1)
-  number-fits l e = one-more (word month′ 1) l (rw number-is e)
+  number-fits l e = next-fits (word month′ 1) l (rw number-is e)
 
   pub block-added : {n : ℤ} → n ≡ word month′ 1 +ℤ pos 1 → BlockAdded N (word c) (word s) month (set month′ 1 n)
   block-added {n} is =

@@ -1,24 +1,23 @@
 -- Every month that holds a history: the size of its sums, their distance from the exact ones, and the month with one block more.
 -- Assumes nothing.
-use mathlib.Core.Path.{_≡_, refl, sym, ap, ap₂, subst, _∙_}
+use mathlib.Core.Path.{_≡_, refl, sym, ap, subst, _∙_}
 use mathlib.Core.Bool.{true, false}
 use mathlib.Core.List.{List, [], _∷_, _++_}
 use Prim.Native.Nat.{ℕ, _+_, _*_, _/_, _^_, _≤_, _<_}
-use native.Mathlib.Nat.{le-trans}
 use native.Mathlib.Omega.{arith}
-use lib.IntN.{ℤ, pos, natAbs, _+ℤ_}
+use lib.IntN.{ℤ, natAbs, _+ℤ_}
 use lib.ListN.{length, length-append}
 use lib.Signed.{natAbs-le}
 use borrow.Author.Tests.{le-leb, leb-false}
-use Rattle.words.specs.Words.{Samples, word}
-use Rattle.ffct.specs.Block.{AcceptedBlock, isLength, level, topLevel}
+use Rattle.words.specs.Words.{Samples}
+use Rattle.ffct.specs.Block.{AcceptedBlock, level}
 use Rattle.ffct.specs.Exact.{Within, eighth, exactCosine, exactSine}
 use Rattle.ffct.specs.Transforms.{cosineDft, sineDft, spectrum}
 use Rattle.ffct.proofs.ElevenLengths.{is-power}
 use Rattle.ffct.proofs.Limits.{limits}
 use Rattle.ffct.proofs.Sizes.{coefficients-fit}
 use Rattle.refusals.specs.Refusals.{atMost}
-use Rattle.months.specs.Months.{History, lengthOf, cosineSum, sineSum, sumOver, mostBlocks, full, plus, Holds, BlockAdded}
+use Rattle.months.specs.Months.{History, lengthOf, cosineSum, sineSum, mostBlocks, full, Holds, BlockAdded}
 use Rattle.months.specs.Laws.{MonthLimits, SumsFit}
 use Rattle.months.proofs.Lengths.{length-same, length-accepted}
 use Rattle.months.proofs.Adding.{plus-is}
@@ -90,4 +89,8 @@ module _ {month : List ℤ} {history : History} (held : Holds month history) whe
             (added .sine k l ∙ plus-is _ _ (roomy (sineSum month k) (sums-fit .sine k l))
             ∙ ap (λ z. z +ℤ spectrum (level (lengthOf month)) x .sine k) (held .sine k l)
             ∙ sym (sum-more (λ y. spectrum (level (lengthOf month)) y .sine k) history x));
+        beyond = λ k h l.
+            let (c, s) = added .beyond k (rw same at h) l in
+            let (d, t) = held .beyond k (rw same at h) l in
+            (c ∙ d, s ∙ t);
       }

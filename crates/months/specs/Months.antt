@@ -13,7 +13,7 @@ use Rattle.ffct.specs.Block.{AcceptedBlock, isLength, level}
 use Rattle.ffct.specs.Exact.{exactCosine, exactSine, Limit}
 use Rattle.ffct.specs.Transforms.{spectrum}
 use Rattle.refusals.specs.Refusals.{Verdict, refused, accepted, atMost}
-use Rattle.refusals.specs.Calls.{Call, verdict}
+use Rattle.refusals.specs.Calls.{Call, testsFromTwo}
 
 -- ---- the record of a month, 1,028 words of 64 bits. "A month is begun for one length N": word 0; it is 0 where beginning was refused, and
 -- words with a number there that is no length are no month's
@@ -39,6 +39,19 @@ sineSum month k = word month (515 + k)
 abbrev pub newMonth : ℕ → List ℤ
 newMonth N = pos N ∷ replicate 1027 (pos 0)
 
+-- ---- adding: "adds each coefficient to a running 64-bit sum for its k, and one to the block number". No sum of a month is beyond 2^62 in
+-- size (`Laws`). Where lent words that are no month's hold such a number, it stays
+unfoldable pub plus : ℤ → ℤ → ℤ
+plus sum coefficient = cond (atMost (2 ^ 62) sum) (sum +ℤ coefficient) sum
+
+-- every word of a month after a block of N samples with the coefficients c and s was added
+pub record BlockAdded (N : ℕ) (c s : Samples) (month month′ : List ℤ) : Type 0 where
+  pub length : word month′ 0 ≡ word month 0
+  pub number : blockNumber month′ ≡ blockNumber month +ℤ pos 1
+  pub cosine : (k : ℕ) → k ≤ N / 2 → cosineSum month′ k ≡ plus (cosineSum month k) (c k)
+  pub sine : (k : ℕ) → k ≤ N / 2 → sineSum month′ k ≡ plus (sineSum month k) (s k)
+  pub beyond : (k : ℕ) → N / 2 < k → k < 513 → (cosineSum month′ k ≡ cosineSum month k) × (sineSum month′ k ≡ sineSum month k)
+
 -- ---- "the history of accepted blocks": the samples of each, in the order in which they were added
 abbrev pub History : Type 0
 History = List Samples
@@ -57,7 +70,8 @@ AllAccepted N (x ∷ history) = AcceptedBlock (level N) x × AllAccepted N histo
 abbrev pub mostBlocks : ℕ
 mostBlocks = 100000
 
--- "After any calls the sums equal those over the history of accepted blocks": a month holds a history
+-- "After any calls the sums equal those over the history of accepted blocks": a month holds a history. Where no block has a coefficient,
+-- beyond k = N / 2, it holds 0
 pub record Holds (month : List ℤ) (history : History) : Type 0 where
   pub blocks : AllAccepted (lengthOf month) history
   pub number : blockNumber month ≡ pos (length history)
@@ -66,6 +80,7 @@ pub record Holds (month : List ℤ) (history : History) : Type 0 where
       → cosineSum month k ≡ sumOver (λ x. spectrum (level (lengthOf month)) x .cosine k) history
   pub sine : (k : ℕ) → k ≤ lengthOf month / 2
       → sineSum month k ≡ sumOver (λ x. spectrum (level (lengthOf month)) x .sine k) history
+  pub beyond : (k : ℕ) → lengthOf month / 2 < k → k < 513 → (cosineSum month k ≡ pos 0) × (sineSum month k ≡ pos 0)
 
 -- ---- the exact sums of a month over K, before the division by 2^80
 abbrev pub exactCosineSum : ℕ → History → ℕ → ℤ
@@ -78,30 +93,19 @@ exactSineSum N history k = sumOver (λ x. exactSine N x k) history
 abbrev pub eighths : ℕ → ℕ → Limit
 eighths n N = record { over = n * N; under = 8 }
 
--- ---- adding: "adds each coefficient to a running 64-bit sum for its k, and one to the block number". No sum of a month is beyond 2^62 in
--- size (`Laws`). Where lent words that are no month's hold such a number, it stays
-unfoldable pub plus : ℤ → ℤ → ℤ
-plus sum coefficient = cond (atMost (2 ^ 62) sum) (sum +ℤ coefficient) sum
-
--- every word of a month after a block of N samples with the coefficients c and s was added
-pub record BlockAdded (N : ℕ) (c s : Samples) (month month′ : List ℤ) : Type 0 where
-  pub length : word month′ 0 ≡ word month 0
-  pub number : blockNumber month′ ≡ blockNumber month +ℤ pos 1
-  pub cosine : (k : ℕ) → k ≤ N / 2 → cosineSum month′ k ≡ plus (cosineSum month k) (c k)
-  pub sine : (k : ℕ) → k ≤ N / 2 → sineSum month′ k ≡ plus (sineSum month k) (s k)
-  pub beyond : (k : ℕ) → N / 2 < k → k < 513 → (cosineSum month′ k ≡ cosineSum month k) × (sineSum month′ k ≡ sineSum month k)
+-- ---- when adding is turned down
 
 -- 13: "when the block's length is not the month's, and always where beginning was refused"
 abbrev pub otherLength : List ℤ → ℕ → Bool
-otherLength month N = eqb N 0 || not (eqb (lengthOf month) N)
+otherLength month N = eqb (lengthOf month) 0 || not (eqb (lengthOf month) N)
 
 -- 14: "when the month holds 100,000 blocks"
 abbrev pub full : List ℤ → Bool
 full month = leZ (pos mostBlocks) (blockNumber month)
 
--- "Adding tests 13, 14, then 2 to 6." Behind 13 the length is one of the eleven, so that 1 does not come
+-- "Adding tests 13, 14, then 2 to 6."
 abbrev pub addVerdict : List ℤ → Call → Verdict
-addVerdict month call = cond (otherLength month (call .N)) (refused 13) (cond (full month) (refused 14) (verdict call))
+addVerdict month call = cond (otherLength month (call .N)) (refused 13) (cond (full month) (refused 14) (testsFromTwo call accepted))
 
 -- ---- reading: whether Spectrum yields k for blocks of the month's length; a month of the length 0 has no blocks
 abbrev pub yielded : List ℤ → ℕ → Bool

@@ -16,13 +16,14 @@ use Rattle.months.specs.declared.record.BeginAnswer.{BeginAnswer}
 use Rattle.months.specs.declared.record.AddAnswer.{AddAnswer}
 use Rattle.months.specs.declared.record.SumsAnswer.{SumsAnswer}
 use Rattle.months.specs.declared.record.SumsAnswer.the-variants.{NotYielded, Yielded}
-use Rattle.months.specs.Months.{History, Holds, newMonth, BlockAdded, addVerdict, yielded, cosineSum, sineSum}
+use Rattle.months.specs.Months.{lengthOf, History, Holds, newMonth, BlockAdded, addVerdict, yielded, cosineSum, sineSum}
 use Rattle.months.specs.Answers.{verdictOfBegin, verdictOf, spent}
 
 -- ---- beginning. "Beginning with a bad length gives 1", with a month of the length 0. The month holds the empty history
 pub record BeginPromise (N : ℕ) (month′ : List ℤ) (answer : BeginAnswer) : Type 0 where
   pub verdict : verdictOfBegin answer ≡ cond (not (isLength N)) (refused 1) accepted
   pub words : month′ ≡ newMonth (cond (isLength N) N 0)
+  pub length : lengthOf month′ ≡ cond (isLength N) N 0
   pub empty : Holds month′ []
 
 -- ---- adding. "Adding a block runs Spectrum, with its buffers, allowance and answer". For every history that the month holds, it now holds

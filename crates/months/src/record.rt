@@ -93,14 +93,15 @@ pub fn begin_in(month: &mut [i64; 1028], length: usize) -> BeginAnswer
 
 // ---- adding
 
-// Whether the block's length is not the month's, or the month has none.
+// Whether the month has no length, or another than the block's.
 fn is_other_length(month: &[i64; 1028], length: usize) -> bool
     ensures { λ r. ⌜ r ≡ otherLength (now (month .entry)) length ⌝ }
 {
-    if length == 0 {
+    let own = length_of(month);
+    if own == 0 {
         return true;
     }
-    length_of(month) != length
+    own != length
 }
 
 // Whether a sum is at most 2^62 in size.

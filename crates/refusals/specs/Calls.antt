@@ -20,15 +20,18 @@ pub record Call : Type 0 where
   pub scratch : ℕ
   pub products : ℕ
 
--- the number of the first condition that holds; where none does, what a call tests behind them
-unfoldable pub tests : Call → Verdict → Verdict
-tests call rest =
-    cond (not (isLength (call .N))) (refused 1)
-    (cond (someBelow (call .start + call .N) (call .lengths)) (refused 2)
+-- the number of the first of the conditions 2 to 6 that holds; where none does, what a call tests behind them
+abbrev pub testsFromTwo : Call → Verdict → Verdict
+testsFromTwo call rest =
+    cond (someBelow (call .start + call .N) (call .lengths)) (refused 2)
     (cond (someBelow (call .yields) (call .results)) (refused 3)
     (cond (ltb (call .scratch) (scratchWords (call .N))) (refused 4)
     (cond (ltb (call .allowance) (call .products)) (refused 5)
-    (firstOutIn (call .samples) (call .start) (call .N) rest)))))
+    (firstOutIn (call .samples) (call .start) (call .N) rest))))
+
+-- the same of the conditions 1 to 6
+unfoldable pub tests : Call → Verdict → Verdict
+tests call rest = cond (not (isLength (call .N))) (refused 1) (testsFromTwo call rest)
 
 -- "A call is accepted exactly when none of the conditions it tests holds"
 abbrev pub verdict : Call → Verdict

@@ -1,7 +1,6 @@
 -- `months_test::filled` meets its contract: each turn leaves a month that holds a history. Assumes nothing.
-use mathlib.Core.Path.{_≡_, sym}
+use mathlib.Core.Path.{_≡_}
 use Prim.Native.Nat.{_-_}
-use native.Mathlib.Omega.{arith}
 use lib.ListN.{length as List·length}
 use borrow.Author.Needs.{needs}
 use Rattle.months.specs.Promises.{Held}

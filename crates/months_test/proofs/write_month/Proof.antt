@@ -1,5 +1,4 @@
 -- `months_test::write_month` meets its contract: the block number of a month that holds a history is small. Assumes nothing.
-use mathlib.Core.Path.{_≡_, sym}
 use Prim.Native.Nat.{_-_}
 use native.Mathlib.Omega.{arith}
 use borrow.Author.Needs.{needs}

@@ -1,14 +1,11 @@
 -- `months::record::begin_in` meets its contract. Assumes nothing.
-use mathlib.Core.Path.{_≡_, refl, sym, _∙_}
+use mathlib.Core.Path.{_≡_, sym, _∙_}
 use mathlib.Core.Bool.{true, false}
 use native.Mathlib.Omega.{arith}
-use mir.Syntax.{w64}
-use mir.Val.{SFits, toZ}
 use borrow.Author.Needs.{needs}
 use borrow.Author.Tests.{not-true, not-false}
 use Rattle.ffct.specs.Block.{isLength}
 use Rattle.ffct.proofs.ElevenLengths.{length-le}
-use Rattle.whole.proofs.Operations.{natural}
 use Rattle.months.proofs.Beginning.{begun, not-begun}
 use Rattle.months.proofs.record.begin_in.Statement.{statement}
 use Rattle.months.proofs.record.begin_in.Tie as tie

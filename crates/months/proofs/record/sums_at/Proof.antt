@@ -4,10 +4,12 @@ use mathlib.Core.Bool.{false}
 use Prim.Native.Nat.{_/_, _≤_}
 use native.Mathlib.Omega.{arith}
 use lib.Dec.{eqb}
+use mir.Syntax.{w64}
+use mir.Val.{toZ, ofZ}
 use mir.Facts.{toZ-ofZ}
 use borrow.Author.Needs.{needs, sfits-of}
 use borrow.Author.Tests.{eq-eqb, ne-eqb, le-leb, lt-leb}
-use Rattle.months.specs.Months.{lengthOf}
+use Rattle.months.specs.Months.{lengthOf, cosineSum, sineSum}
 use Rattle.months.proofs.Lengths.{length-small}
 use Rattle.months.proofs.record.sums_at.Statement.{statement}
 use Rattle.months.proofs.record.sums_at.Tie as tie
@@ -22,6 +24,15 @@ yielded c = rw (c .before .before .length-of .ensures) at (c .if2 .left)
 
 inside : (c : tie.Else2) → c .before .before .before .args .k ≤ 512
 inside c = omega (arith, yielded c, length-small (c .before .before .before .args .month .now))
+
+-- the sums as they are read
+cosine : (c : tie.After-t9) → let a = c .before .before .before .before .args in
+    toZ w64 (ofZ w64 (cosineSum (a .month .now) (a .k))) ≡ cosineSum (a .month .now) (a .k)
+cosine c = toZ-ofZ (sfits-of (c .t9 .given))
+
+sine : (c : tie.After-t14) → let a = c .before .before .before .before .before .args in
+    toZ w64 (ofZ w64 (sineSum (a .month .now) (a .k))) ≡ sineSum (a .month .now) (a .k)
+sine c = toZ-ofZ (sfits-of (c .t14 .given))
 
 pub sums-at-spec : {M : Type 1} → statement M
 sums-at-spec =
@@ -41,8 +52,8 @@ sums-at-spec =
     (λ c. record { fits = omega (arith, inside (c .before)) })  -- mul-t11
     (λ c. omega (arith, inside (c .before)))  -- element-copy-out-t14
     (λ c. rw (
-      toZ-ofZ (sfits-of (c .before .t9 .given)),
-      toZ-ofZ (sfits-of (c .t14 .given)),
+      cosine (c .before),
+      sine c,
       some (c .before .before .before),
       le-leb (c .before .before .before .before .before .args .k) _ (yielded (c .before .before)),
     ) refl))  -- returns-3
