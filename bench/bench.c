@@ -111,6 +111,25 @@ static void spectrum(size_t n)
     need(spectrum_of(a, n) == 0, "refused");
 }
 
+/* a block added to a month, which is begun where there is none of this length, and where it is full */
+static mealbis_month month;
+
+static void add_to_month(size_t n)
+{
+    uint64_t products, sums, largest_rest;
+    size_t place;
+    while (mealbis_month_add(&month, a, RECORDING, START, n, UINT64_MAX, first, LONGEST, second, LONGEST, scratch, 8 * LONGEST + 64,
+                             &products, &sums, &largest_rest, &place) != 0)
+        need(mealbis_month_begin(&month, n) == 0, "month");
+    sink += (uint64_t)month.words[2];
+}
+
+static void our_spectrum(size_t n)
+{
+    library = &ours;
+    spectrum(n);
+}
+
 /* refusal 6 makes the tests before it and a look at each sample up to the one out of range, and nothing else */
 static void refused_first(size_t n)
 {
@@ -326,6 +345,8 @@ static const struct contender contenders[] = {
     {"Refusal 6, the last sample", "ours", refused_last, &ours},
     {"Refusal 6, the last sample", "plain C", plain_last, 0},
     LIBRARY_BEFORE("Refusal 6, the last sample", refused_last)
+    {"A block added to a month", "ours", add_to_month, &ours},
+    {"A block added to a month", "Spectrum", our_spectrum, 0},
 };
 
 #define CONTENDERS (sizeof contenders / sizeof contenders[0])

@@ -5,6 +5,7 @@
 pub mod version;
 
 use months::record;
+use months::record::Record;
 use pairfile::reader;
 use pairfile::reader::FileAnswer;
 use pairfile::writer;
@@ -164,7 +165,7 @@ pub extern "C" fn mealbis_mark(
 
 // A month for one length, begun in lent words.
 #[no_mangle]
-pub extern "C" fn mealbis_month_begin(month: &mut [i64; 1028], length: usize) -> u32
+pub extern "C" fn mealbis_month_begin(month: &mut Record, length: usize) -> u32
     ensures { λ r. ⌜ BeginTold length (now (month .exit)) r ⌝ }
 {
     let answer = record::begin_in(month, length);
@@ -174,7 +175,7 @@ pub extern "C" fn mealbis_month_begin(month: &mut [i64; 1028], length: usize) ->
 // Spectrum, and its coefficients added to a month.
 #[no_mangle]
 pub extern "C" fn mealbis_month_add(
-    month: &mut [i64; 1028],
+    month: &mut Record,
     recording: &[i32],
     start: usize,
     length: usize,
@@ -212,7 +213,7 @@ pub extern "C" fn mealbis_month_add(
 
 // The length for which a month is begun.
 #[no_mangle]
-pub extern "C" fn mealbis_month_length(month: &[i64; 1028]) -> usize
+pub extern "C" fn mealbis_month_length(month: &Record) -> usize
     ensures { λ r. ⌜ r ≡ lengthOf (now (month .entry)) ⌝ }
 {
     record::length_of(month)
@@ -220,7 +221,7 @@ pub extern "C" fn mealbis_month_length(month: &[i64; 1028]) -> usize
 
 // The number of blocks that were added to a month.
 #[no_mangle]
-pub extern "C" fn mealbis_month_blocks(month: &[i64; 1028]) -> i64
+pub extern "C" fn mealbis_month_blocks(month: &Record) -> i64
     ensures { λ r. ⌜ r ≡ blockNumber (now (month .entry)) ⌝ }
 {
     record::block_number(month)
@@ -229,7 +230,7 @@ pub extern "C" fn mealbis_month_blocks(month: &[i64; 1028]) -> i64
 // Both sums of a month for k.
 #[no_mangle]
 pub extern "C" fn mealbis_month_sums(
-    month: &[i64; 1028],
+    month: &Record,
     k: usize,
     cosine: &mut i64,
     sine: &mut i64,

@@ -4,13 +4,14 @@ pub mod record;
 
 use record::AddAnswer;
 use record::BeginAnswer;
+use record::Record;
 use record::SumsAnswer;
 ghost use mathlib.Core.Path.{_≡_};
 ghost use Rattle.months.specs.Months.{lengthOf, blockNumber};
 ghost use Rattle.months.specs.Promises.{Beginning, Adding, SumsPromise};
 
 pub struct Month {
-    words: [i64; 1028],
+    words: Record,
 }
 
 pub struct Begun {

@@ -14,6 +14,19 @@ ghost use Rattle.months.specs.Months.{lengthOf, blockNumber, full, other
 ghost use Rattle.months.specs.Answers.{verdictOfBegin, verdictOf, verdictOfSums, spent, place, sumsOf};
 ghost use Rattle.months.specs.Promises.{BeginPromise, AddPromise, SumsPromise};
 
+// The words of a record, and the places in it: of the length, the block number, and the sums for k = 0 of the cosine and of the sine.
+pub type Record = [i64; 1028];
+
+const LENGTH: usize = 0;
+
+const BLOCK_NUMBER: usize = 1;
+
+const COSINE_SUMS: usize = 2;
+
+const SINE_SUMS: usize = 515;
+
+const MOST_BLOCKS: i64 = 100000;
+
 // The answer of beginning.
 pub enum BeginAnswer {
     BadLength,
@@ -42,10 +55,10 @@ pub enum SumsAnswer {
 // ---- reading
 
 // The length for which the month is begun; 0 where beginning was refused, and of words that are no month's.
-pub fn length_of(month: &[i64; 1028]) -> usize
+pub fn length_of(month: &Record) -> usize
     ensures { λ r. ⌜ r ≡ lengthOf (now (month .entry)) ⌝ }
 {
-    let first = month[0];
+    let first = month[LENGTH];
     if first < 0 {
         return 0;
     }
@@ -54,14 +67,14 @@ pub fn length_of(month: &[i64; 1028]) -> usize
 }
 
 // The number of blocks that were added.
-pub fn block_number(month: &[i64; 1028]) -> i64
+pub fn block_number(month: &Record) -> i64
     ensures { λ r. ⌜ r ≡ blockNumber (now (month .entry)) ⌝ }
 {
-    month[1]
+    month[BLOCK_NUMBER]
 }
 
 // Both sums for k, where Spectrum yields that k.
-pub fn sums_at(month: &[i64; 1028], k: usize) -> SumsAnswer
+pub fn sums_at(month: &Record, k: usize) -> SumsAnswer
     ensures { λ r. ⌜ SumsPromise (now (month .entry)) k r ⌝ }
 {
     let length = length_of(month);
@@ -72,29 +85,29 @@ pub fn sums_at(month: &[i64; 1028], k: usize) -> SumsAnswer
         return SumsAnswer::NotYielded;
     }
     SumsAnswer::Yielded(Sums {
-        cosine: month[2 + k],
-        sine: month[515 + k],
+        cosine: month[COSINE_SUMS + k],
+        sine: month[SINE_SUMS + k],
     })
 }
 
 // ---- beginning
 
 // A month of no blocks, in whatever words are lent.
-pub fn begin_in(month: &mut [i64; 1028], length: usize) -> BeginAnswer
+pub fn begin_in(month: &mut Record, length: usize) -> BeginAnswer
     ensures { λ r. ⌜ BeginPromise length (now (month .exit)) r ⌝ }
 {
     *month = [0; 1028];
     if !is_length(length) {
         return BeginAnswer::BadLength;
     }
-    month[0] = length as i64;
+    month[LENGTH] = length as i64;
     BeginAnswer::Begun
 }
 
 // ---- adding
 
 // Whether the month has no length, or another than the block's.
-fn is_other_length(month: &[i64; 1028], length: usize) -> bool
+fn is_other_length(month: &Record, length: usize) -> bool
     ensures { λ r. ⌜ r ≡ otherLength (now (month .entry)) length ⌝ }
 {
     let own = length_of(month);
@@ -104,11 +117,16 @@ fn is_other_length(month: &[i64; 1028], length: usize) -> bool
     own != length
 }
 
+// -2^62 and 2^62
+const LOW: i64 = -4611686018427387904;
+
+const HIGH: i64 = 4611686018427387904;
+
 // Whether a sum is at most 2^62 in size.
 fn has_room(sum: i64) -> bool
     ensures { λ r. ⌜ r ≡ atMost (2 ^ 62) sum ⌝ }
 {
-    -4611686018427387904 <= sum && sum <= 4611686018427387904
+    LOW <= sum && sum <= HIGH
 }
 
 // A sum with a coefficient more. Every sum of a month has room; one that has none, in words that are no month's, stays.
@@ -135,19 +153,19 @@ fn add_sums(month: &mut [i64], at: usize, coefficients: &[i32], n: usize)
 
 // A block of which Spectrum has yielded the coefficients.
 fn add_block(month: &mut [i64], length: usize, cosine: &[i32], sine: &[i32])
-    requires { ⌜ (List·length (now month) ≡ 1028) × (length ≤ 1024) × (length / 2 + 1 ≤ List·length (now cosine)) × (length / 2 + 1 ≤ List·length (now sine))
-        × (full (now month) ≡ false) ⌝ }
+    requires { ⌜ (List·length (now month) ≡ 1028) × (length ≤ 1024)
+        × (length / 2 + 1 ≤ List·length (now cosine)) × (length / 2 + 1 ≤ List·length (now sine)) × (full (now month) ≡ false) ⌝ }
     ensures { λ _. ⌜ BlockAdded length (word (now (cosine .entry))) (word (now (sine .entry))) (now (month .entry)) (now (month .exit)) ⌝ }
 {
     let yields = length / 2 + 1;
-    add_sums(month, 2, cosine, yields);
-    add_sums(month, 515, sine, yields);
-    month[1] = month[1] + 1;
+    add_sums(month, COSINE_SUMS, cosine, yields);
+    add_sums(month, SINE_SUMS, sine, yields);
+    month[BLOCK_NUMBER] = month[BLOCK_NUMBER] + 1;
 }
 
 // Spectrum, and its coefficients added to the month.
 pub fn add_to(
-    month: &mut [i64; 1028],
+    month: &mut Record,
     recording: &[i32],
     start: usize,
     length: usize,
@@ -163,7 +181,7 @@ pub fn add_to(
     if is_other_length(month, length) {
         return AddAnswer::OtherLength;
     }
-    if 100000 <= month[1] {
+    if MOST_BLOCKS <= month[BLOCK_NUMBER] {
         return AddAnswer::Full;
     }
     let answer = spectrum(recording, start, length, allowance, cosine, sine, scratch);

@@ -18,7 +18,8 @@ write-k-spec =
     (λ c κs. search needs)  -- sums-at-requires
     (λ c. search needs)  -- enum-known-sums
     (λ c κs. rw (toZ-ofZ (sfits-of (c .struct-told .given .0 .1))) (small (c .before .before) .cosine))  -- write-sum-requires
-    (λ c κs. rw (toZ-ofZ (sfits-of (c .struct-told2 .given .1 .0 .1))) (small (c .before .before .before .before) .sine))  -- write-sum-requires-2
+    (λ c κs. let s = c .before .before .before .before in
+    rw (toZ-ofZ (sfits-of (c .struct-told2 .given .1 .0 .1))) (small s .sine))  -- write-sum-requires-2
     (λ c. search needs)  -- enum-told
     (λ c. search needs)  -- slice-aggregate-write-all
     (λ c κs. search needs)  -- write-all-requires

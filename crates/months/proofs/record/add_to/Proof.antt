@@ -33,10 +33,10 @@ add-to-spec =
     tie.close
     (tie.spec
     (λ c κs. search needs)  -- is-other-length-requires
-    (λ c. other-length (c .before .before .before .args .month .now) (c .before .before .before .args .recording .now) _ _ _ _ _ _ (other c))  -- returns
+    (λ c. let a = c .before .before .before .args in other-length (a .month .now) (a .recording .now) _ _ _ _ _ _ (other c))  -- returns
     (λ c. search needs)  -- element-copy-out-if2
     (λ c. let e = c .before .before in
-    is-full (e .before .before .before .args .month .now) (e .before .before .before .args .recording .now) _ _ _ _ _ _ (own e) (no-room c))  -- returns-2
+    let a = e .before .before .before .args in is-full (a .month .now) (a .recording .now) _ _ _ _ _ _ (own e) (no-room c))  -- returns-2
     (λ c κs. search needs)  -- spectrum-requires
     (λ c. search needs)  -- enum-told
     (λ c. search needs)  -- enum-told-2
@@ -57,4 +57,5 @@ add-to-spec =
     (λ c. let t = c .before .before .before .before in
     let s = t .before .before .before .before .before in
     block-held (start s .args .month .now) (start s .args .recording .now) _ _ _ _ _ _
-    (own (tested s .before .before)) (room (tested s)) (s .spectrum .ensures) (t .enum-told2 .given .1) (c .add-block .ensures)))  -- returns-4
+    (own (tested s .before .before)) (room (tested s)) (s .spectrum .ensures) (t .enum-told2 .given .1)
+    (c .add-block .ensures)))  -- returns-4

@@ -11,6 +11,7 @@ is-other-length-spec =
     tie.close
     (tie.spec
     (λ c κs. search needs)  -- length-of-requires
-    (λ c. rw (eq-eqb (lengthOf (c .before .before .args .month .now)) 0 (sym (c .before .length-of .ensures) ∙ c .if1 .taken)) refl)  -- returns
+    (λ c. let none = sym (c .before .length-of .ensures) ∙ c .if1 .taken in
+    rw (eq-eqb (lengthOf (c .before .before .args .month .now)) 0 none) refl)  -- returns
     (λ c. let is = c .before .length-of .ensures in
     rw (ne-eqb (lengthOf (c .before .before .args .month .now)) 0 (λ e. c .if1 .left (is ∙ e)), is) refl))  -- returns-2

@@ -39,7 +39,8 @@ sums-at-spec =
     tie.close
     (tie.spec
     (λ c κs. search needs)  -- length-of-requires
-    (λ c. rw (eq-eqb (lengthOf (c .before .before .args .month .now)) 0 (sym (c .before .length-of .ensures) ∙ c .if1 .taken)) refl)  -- returns
+    (λ c. let none = sym (c .before .length-of .ensures) ∙ c .if1 .taken in
+    rw (eq-eqb (lengthOf (c .before .before .args .month .now)) 0 none) refl)  -- returns
     (λ c. rw (
       some (c .before),
       lt-leb (c .before .before .before .args .k) _
