@@ -32,7 +32,7 @@ use Rattle.months.proofs.Months.{one-more}
 -- ---- a block added by its coefficients as they stand in their buffers
 block-same : {N : ℕ} {c s d e : Samples} {month month′ : List ℤ} → ((k : ℕ) → k ≤ N / 2 → c k ≡ d k) → ((k : ℕ) → k ≤ N / 2 → s k ≡ e k)
     → BlockAdded N c s month month′ → BlockAdded N d e month month′
-block-same {month = month} cosines sines added = record {
+block-same cosines sines added = record {
   length = added .length;
   number = added .number;
   cosine = λ k h. added .cosine k h ∙ ap (plus _) (cosines k h);

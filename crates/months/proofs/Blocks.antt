@@ -13,11 +13,11 @@ use mir.Syntax.{w64}
 use mir.Val.{SFits}
 use borrow.Author.Tests.{leb-false, lt-ltb}
 use Rattle.words.specs.Words.{word, Written}
-use Rattle.months.specs.Months.{cosineSum, sineSum, full, plus, BlockAdded}
+use Rattle.months.specs.Months.{cosineSum, sineSum, mostBlocks, full, plus, BlockAdded}
 
 -- ---- the block number of a month that is not full
-pub next-fits : (z : ℤ) → mag z < 2 ^ 63 → leZ (pos 100000) z ≡ false → SFits w64 (z +ℤ pos 1)
-next-fits (pos n) l e = record { sfits = omega (arith, leb-false 100000 n e) }
+pub next-fits : (z : ℤ) → mag z < 2 ^ 63 → leZ (pos mostBlocks) z ≡ false → SFits w64 (z +ℤ pos 1)
+next-fits (pos n) l e = record { sfits = omega (arith, leb-false mostBlocks n e) }
 next-fits (negsuc zero) l e = record { sfits = omega arith }
 next-fits (negsuc (suc n)) l e =
     let e : negsuc (suc n) +ℤ pos 1 ≡ negsuc (suc (suc n) - 2) = rw (lt-ltb 1 (suc (suc n)) (omega arith)) refl in

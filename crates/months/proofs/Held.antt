@@ -1,15 +1,16 @@
 -- A month by value that adding gives holds a history where the month before it does; and what is read of such a month is small.
 -- Assumes nothing.
-use mathlib.Core.Path.{_≡_, refl, ap}
+use mathlib.Core.Path.{_≡_, refl}
 use mathlib.Core.Bool.{Bool, true, false, cond, not, _&&_, false≢true}
-use mathlib.Core.Logic.{_⊎_, inl, inr, ⊎-elim}
+use mathlib.Core.Logic.{⊎-elim}
 use mathlib.Core.List.{List, [], _∷_, _++_}
 use Prim.Native.Nat.{ℕ, _/_, _^_, _≤_}
 use native.Mathlib.Omega.{arith}
 use lib.Dec.{eqb, leb}
 use lib.IntN.{ℤ, natAbs}
 use borrow.Author.Tests.{leb-true}
-use Rattle.refusals.specs.Refusals.{block, Verdict, refused, refusedAt, accepted}
+use Rattle.refusals.specs.Refusals.{block}
+use Rattle.refusals.proofs.Promises.{accepted-or-not}
 use Rattle.months.specs.declared.Month.{Month}
 use Rattle.months.specs.declared.Added.{Added}
 use Rattle.months.specs.declared.record.Sums.{Sums}
@@ -19,18 +20,6 @@ use Rattle.months.specs.Months.{lengthOf, blockNumber, cosineSum, sineSu
 use Rattle.months.specs.Answers.{verdictOf, sumsOf}
 use Rattle.months.specs.Promises.{AddPromise, SumsPromise, Held, Adding}
 use Rattle.months.proofs.Months.{sums-fit}
-
--- ---- a verdict accepts, or does not
-accepts : Verdict → Bool
-accepts (refused n) = false
-accepts (refusedAt n place) = false
-accepts accepted = true
-
-accepted-or-not : (v : Verdict) → (v ≡ accepted) ⊎ (v ≡ accepted → ⊥)
-unfolding accepts
-accepted-or-not (refused n) = inr (λ e. false≢true (ap accepts e))
-accepted-or-not (refusedAt n place) = inr (λ e. false≢true (ap accepts e))
-accepted-or-not accepted = inl refl
 
 pub adding : {month : Month} (recording : List ℤ) (start N allowance : ℕ) (cosine sine scratch : List ℤ)
     {cosine′ sine′ scratch′ : List ℤ} (added : Added)

@@ -42,12 +42,12 @@ module _ (month : List ℤ) where
   length-bad is = in-bad (word month 0) is
 
 -- ---- a length that is not 0 is one of the eleven
-some-length : (z : ℤ) (b : Bool) (n : ℕ) → isLength n ≡ b → (cond b n 0 ≡ 0 → ⊥) → isLength (cond b n 0) ≡ true
-some-length z true n e h = e
-some-length z false n e h = absurd (h refl)
+some-length : (b : Bool) (n : ℕ) → isLength n ≡ b → (cond b n 0 ≡ 0 → ⊥) → isLength (cond b n 0) ≡ true
+some-length true n e h = e
+some-length false n e h = absurd (h refl)
 
 in-some : (z : ℤ) → (lengthIn z ≡ 0 → ⊥) → isLength (lengthIn z) ≡ true
-in-some (pos n) h = some-length (pos n) (isLength n) n refl h
+in-some (pos n) h = some-length (isLength n) n refl h
 in-some (negsuc n) h = absurd (h refl)
 
 pub length-some : (month : List ℤ) → (lengthOf month ≡ 0 → ⊥) → isLength (lengthOf month) ≡ true

@@ -17,7 +17,7 @@ use Rattle.ffct.proofs.ElevenLengths.{is-power}
 use Rattle.ffct.proofs.Limits.{limits}
 use Rattle.ffct.proofs.Sizes.{coefficients-fit}
 use Rattle.refusals.specs.Refusals.{atMost}
-use Rattle.months.specs.Months.{History, lengthOf, cosineSum, sineSum, mostBlocks, full, Holds, BlockAdded}
+use Rattle.months.specs.Months.{lengthOf, full, mostBlocks, plus, BlockAdded, History, sumOver, Holds}
 use Rattle.months.specs.Laws.{MonthLimits, SumsFit}
 use Rattle.months.proofs.Lengths.{length-same, length-accepted}
 use Rattle.months.proofs.Adding.{plus-is}
@@ -72,6 +72,10 @@ module _ {month : List ℤ} {history : History} (held : Holds month history) whe
   roomy : (z : ℤ) → natAbs z ≤ length history * 2 ^ 31 → atMost (2 ^ 62) z ≡ true
   roomy z h = le-leb (natAbs z) (2 ^ 62) (omega (arith, h, held .atMost))
 
+  next-sum : (f : Samples → ℤ) (x : Samples) {z z′ : ℤ} → z ≡ sumOver f history → natAbs z ≤ length history * 2 ^ 31 → z′ ≡ plus z (f x)
+      → z′ ≡ sumOver f (history ++ (x ∷ []))
+  next-sum f x {z} is small e = e ∙ plus-is z (f x) (roomy z small) ∙ ap (λ y. y +ℤ f x) is ∙ sym (sum-more f history x)
+
   pub one-more : {month′ : List ℤ} {x : Samples} → full month ≡ false → AcceptedBlock (level (lengthOf month)) x
       → BlockAdded (lengthOf month) (spectrum (level (lengthOf month)) x .cosine) (spectrum (level (lengthOf month)) x .sine) month month′
       → Holds month′ (history ++ (x ∷ []))
@@ -81,14 +85,10 @@ module _ {month : List ℤ} {history : History} (held : Holds month history) whe
         blocks = rw same (accepted-more (lengthOf month) history x (held .blocks) a);
         number = added .number ∙ rw (held .number, length-append history (x ∷ [])) refl;
         atMost = simp length-append (omega (arith, not-full room));
-        cosine = λ k h. let l = rw same at h in rw same
-            (added .cosine k l ∙ plus-is _ _ (roomy (cosineSum month k) (sums-fit .cosine k l))
-            ∙ ap (λ z. z +ℤ spectrum (level (lengthOf month)) x .cosine k) (held .cosine k l)
-            ∙ sym (sum-more (λ y. spectrum (level (lengthOf month)) y .cosine k) history x));
-        sine = λ k h. let l = rw same at h in rw same
-            (added .sine k l ∙ plus-is _ _ (roomy (sineSum month k) (sums-fit .sine k l))
-            ∙ ap (λ z. z +ℤ spectrum (level (lengthOf month)) x .sine k) (held .sine k l)
-            ∙ sym (sum-more (λ y. spectrum (level (lengthOf month)) y .sine k) history x));
+        cosine = λ k h. let l = rw same at h in
+            rw same (next-sum _ x (held .cosine k l) (sums-fit .cosine k l) (added .cosine k l));
+        sine = λ k h. let l = rw same at h in
+            rw same (next-sum _ x (held .sine k l) (sums-fit .sine k l) (added .sine k l));
         beyond = λ k h l.
             let (c, s) = added .beyond k (rw same at h) l in
             let (d, t) = held .beyond k (rw same at h) l in
