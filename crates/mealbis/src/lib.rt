@@ -203,10 +203,10 @@ pub extern "C" fn mealbis_month_add(
         sine,
         scratch,
     );
-    let tally = record::spent_of(answer);
-    *products = tally.products;
-    *sums = tally.sums;
-    *largest_rest = tally.largest_rest;
+    let added = record::spent_of(answer);
+    *products = added.products;
+    *sums = added.sums;
+    *largest_rest = added.largest_rest;
     *place = record::place_of(answer);
     record::number_of(answer)
 }
