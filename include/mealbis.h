@@ -41,9 +41,11 @@
  *
  *   1  length is not one of the eleven lengths
  *   2  start + length is more than the words of a recording; a sum beyond SIZE_MAX is more, too;
- *      in mealbis_inverse_dct, fewer than length coefficients are stored
+ *      in mealbis_inverse_dct, fewer than length coefficients are stored; in mealbis_page, fewer than
+ *      length / 2 + 1 cosine or sine coefficients
  *   3  a result buffer is too short; in mealbis_read, a recording is shorter than the file's samples;
- *      in mealbis_write, the buffer of the file is shorter than 8 + 8 * samples bytes
+ *      in mealbis_write, the buffer of the file is shorter than 8 + 8 * samples bytes; in
+ *      mealbis_page, that of the page is below 31 bytes for each line
  *   4  scratch is shorter than 8 * length + 64 words
  *   5  the allowance is below the products that the call spends
  *   6  a sample is out of range, of the block or, in mealbis_read and mealbis_write, of the two whole
@@ -88,19 +90,19 @@
  *
  * ---- Buffers
  *
- *   - A buffer is a pointer and a count of WORDS, not of bytes (of bytes for a file). It may be
- *     longer than needed; the words beyond those listed at the function stay as they are. But
+ *   - A buffer is a pointer and a count of WORDS, not of bytes (of bytes for a file or a page). It may
+ *     be longer than needed; the words beyond those listed at the function stay as they are. But
  *     mealbis_read takes the whole file and mealbis_write both recordings whole: there the counts
  *     say how long they are.
  *   - What a call writes (results, scratch, a month, the recordings of mealbis_read, the file of
- *     mealbis_write, the single words) must not overlap anything else that the call is given. What
- *     it only reads may overlap: a and b of mealbis_pair, or of mealbis_write, may be one recording.
- *     Recordings, stored coefficients, months and files that are only read may lie in read-only
- *     memory.
+ *     mealbis_write, the page of mealbis_page, the single words) must not overlap anything else that
+ *     the call is given. What it only reads may overlap: a and b of mealbis_pair, or of
+ *     mealbis_write, may be one recording. Recordings, stored coefficients, months and files that are
+ *     only read may lie in read-only memory.
  *   - While a call runs, nobody else may write its buffers, nor read those that it writes: no other
  *     thread, no interrupt handler, no DMA transfer.
  *   - Pointers are aligned as their type asks: 4 bytes for int32_t and uint32_t, 8 for int64_t,
- *     uint64_t and size_t, 1 for a file.
+ *     uint64_t and size_t, 1 for a file and for a page.
  *   - What a call writes may hold anything before it. After an accepted call the first
  *     8 * length + 64 words of scratch are 0.
  *   - An empty buffer (count 0) is refused, by 2, 3, 4, 7, 8 or 11 where no earlier condition holds,
@@ -141,13 +143,13 @@ extern "C" {
 #endif
 
 /* The version, 10000 major + 100 minor + patch: of this header, and of the archive that is linked. */
-#define MEALBIS_VERSION 20100u
+#define MEALBIS_VERSION 20200u
 uint32_t mealbis_version(void);
 
 /* The answers. */
 #define MEALBIS_ACCEPTED 0u
 #define MEALBIS_BAD_LENGTH 1u
-#define MEALBIS_BEYOND_RECORDING 2u /* in mealbis_inverse_dct: too few coefficients */
+#define MEALBIS_BEYOND_RECORDING 2u /* in mealbis_inverse_dct and mealbis_page: too few coefficients */
 #define MEALBIS_RESULT_TOO_SHORT 3u
 #define MEALBIS_SCRATCH_TOO_SHORT 4u
 #define MEALBIS_ALLOWANCE_TOO_SMALL 5u
@@ -178,6 +180,8 @@ uint32_t mealbis_version(void);
 #define MEALBIS_SPECTRUM_WORDS(length) ((length) / 2 + 1)
 #define MEALBIS_SCRATCH_WORDS(length) (8 * (length) + 64)
 #define MEALBIS_FILE_BYTES(samples) (8 + 8 * (samples))
+#define MEALBIS_PAGE_LINE_BYTES 31
+#define MEALBIS_PAGE_BYTES(length) (MEALBIS_PAGE_LINE_BYTES * ((length) / 2 + 2))
 /* For one of the eleven lengths. It is signed, so that it may be compared with a coefficient. */
 #define MEALBIS_LARGEST_COEFFICIENT(length) ((int32_t)(length) * (MEALBIS_LARGEST_SAMPLE + 1))
 /* The words of an array, for the counts beside each pointer. Of an array, not of a pointer. */
@@ -287,6 +291,31 @@ int64_t mealbis_month_blocks(const mealbis_month *month);
  * coefficients. Tests 16: k is above N/2, or the month's beginning was refused.
  */
 uint32_t mealbis_month_sums(const mealbis_month *month, size_t k, int64_t *cosine, int64_t *sine);
+
+/*
+ * A page for the site binder: a spectrum that mealbis_spectrum made, or any other stored coefficients,
+ * as text. It has MEALBIS_PAGE_BYTES(N) bytes, in lines of 30 columns and a line feed, 31 bytes each:
+ * a heading, and below it a line for each k = 0 .. N/2 with cosine[k] and sine[k]. Columns are k in 4,
+ * cosine in 12 and sine in 12, right aligned, with one space between, the numbers in decimal:
+ *        k       cosine         sine
+ *        0       591440            0
+ *        1      -241255        19515
+ * It is put at the front of `page`. *bytes is how many bytes it has, and the bytes after it stay; no
+ * zero byte ends it. Tests 1, 2, 3.
+ *
+ * Every int32_t fits its column, so that no line is ever longer. Two spectra that differ in a
+ * coefficient have different pages.
+ *
+ *   cosine, cosine_words    at least N/2 + 1 words; only the first N/2 + 1 are read
+ *   sine, sine_words        the same
+ *   page, page_bytes        at least MEALBIS_PAGE_BYTES(N) bytes
+ */
+uint32_t mealbis_page(
+    const int32_t *cosine, size_t cosine_words,
+    const int32_t *sine, size_t sine_words,
+    size_t length,
+    uint8_t *page, size_t page_bytes,
+    size_t *bytes);
 
 /*
  * Cosine: the DCT-II of a block, for k = 0 .. N-1, with no factor 2 and no special weight at k = 0:

@@ -142,7 +142,7 @@ unfoldable mutual
 unfoldable pub dct : ℕ → Samples → Transform
 dct L x = dctBy L (λ y. cosineDft L y) (λ y. sineDft L y) x
 
--- ---- Spectrum: both transforms, with the counts of (21). It "yields k = 0 .. N/2 for both"
+-- ---- Spectrum: both transforms, with the counts of (21)
 pub record Spectrum : Type 0 where
   pub cosine : ℕ → ℤ
   pub sine : ℕ → ℤ
@@ -161,6 +161,10 @@ spectrum L x =
       sums = C .sums + S .sums;
       largestRest = max (C .largestRest) (S .largestRest);
     }
+
+-- it "yields k = 0 .. N/2 for both transforms (only k = 0 at N = 1)": so many coefficients of each
+abbrev pub spectrumYields : ℕ → ℕ
+spectrumYields N = N / 2 + 1
 
 -- ---- Pair, recordings a and b: "real(k) = C_a(k) + S_b(k), imaginary(k) = C_b(k) − S_a(k), with (9), (10) above N/2", for
 -- k = 0 .. N − 1. (22): two sums for each k but k = 0 and k = N/2, where the sine-DFT is zero for every block (at N = 1 there is none:

@@ -25,6 +25,9 @@ use Rattle.pairfile.specs.declared.writer.WriteAnswer.{WriteAnswer}
 use Rattle.pairfile.specs.ReadAnswers as file
 use Rattle.pairfile.specs.WriteAnswers as written
 use Rattle.pairfile.specs.Promises.{ReadPromise, WritePromise}
+use Rattle.pages.specs.declared.PageAnswer.{PageAnswer}
+use Rattle.pages.specs.Answers as page
+use Rattle.pages.specs.Promises.{PagePromise}
 
 -- ---- the calls on recordings
 
@@ -120,6 +123,16 @@ pub record InverseTold (coefficients : List ℤ) (N : ℕ) (values values′ : L
   pub promise : InversePromise coefficients N values values′ answer
   pub number-is : number ≡ numberOf (inverse.verdictOf answer)
   pub place-is : place′ ≡ inverse.placeOf answer
+
+-- ---- a page for the site binder
+
+-- There is an answer of which the promise of a page holds, with this buffer before and after, and it is the answer told. The bytes are 0 in
+-- every refusal.
+pub record PageTold (cosine sine : List ℤ) (N : ℕ) (buffer buffer′ : List ℕ) (bytes′ number : ℕ) : Type 0 where
+  pub answer : PageAnswer
+  pub promise : PagePromise cosine sine N buffer buffer′ answer
+  pub number-is : number ≡ numberOf (page.verdictOf answer)
+  pub bytes-is : bytes′ ≡ page.bytesOf answer
 
 -- ---- reading a file
 

@@ -16,7 +16,7 @@ ghost use Rattle.mealbis.specs.Promises.{Told, SpectrumTold, CosineTold,
 ghost use mathlib.Core.Path.{_≡_};
 ghost use Rattle.months.specs.Months.{lengthOf, blockNumber};
 ghost use Rattle.mealbis.specs.Promises.{BeginTold, AddTold, SumsTold};
-ghost use Rattle.mealbis.specs.Promises.{InverseTold, FileTold, ReadTold, WriteTold};
+ghost use Rattle.mealbis.specs.Promises.{InverseTold, PageTold, FileTold, ReadTold, WriteTold};
 
 // ---- answers
 
@@ -297,6 +297,23 @@ pub extern "C" fn mealbis_inverse_dct(
     let answer = inverse::inverse_dct(coefficients, length, values);
     *place = inverse::place_of(answer);
     inverse::number_of(answer)
+}
+
+// The page of a stored spectrum, into a lent buffer.
+#[no_mangle]
+pub extern "C" fn mealbis_page(
+    cosine: &[i32],
+    sine: &[i32],
+    length: usize,
+    page: &mut [u8],
+    bytes: &mut usize,
+) -> u32
+    ensures { λ r. ⌜ PageTold (now (cosine .entry)) (now (sine .entry)) length (now (page .entry)) (now (page .exit))
+        (now (bytes .exit)) r ⌝ }
+{
+    let answer = pages::print(cosine, sine, length, page);
+    *bytes = pages::bytes_of(answer);
+    pages::number_of(answer)
 }
 
 // A pair file, to two recordings.

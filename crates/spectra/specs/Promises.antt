@@ -9,7 +9,7 @@ use lib.ListN.{length}
 use Rattle.words.specs.Words.{Samples, word, Written}
 use Rattle.ffct.specs.Block.{AcceptedBlock, isLength, level}
 use Rattle.ffct.specs.Exact.{exactCosine, exactSine, exactDct, exactReal, exactImaginary, eighth, quarterOfNext, quarter, Within}
-use Rattle.ffct.specs.Transforms.{dct as dctOf, spectrum as spectrumOf, pair as pairOf}
+use Rattle.ffct.specs.Transforms.{dct as dctOf, spectrum as spectrumOf, spectrumYields, pair as pairOf}
 use Rattle.ffct.specs.Counts.{dctProducts, dctSums, spectrumProducts, spectrumSums, pairProducts, pairSums}
 use Rattle.counts.specs.declared.tally.Tally.{Tally}
 use Rattle.counts.specs.Counts.{SixCounts, SixPublished}
@@ -33,7 +33,7 @@ spectrumCall recording start N allowance cosine sine scratch =
       N = N;
       allowance = allowance;
       results = length cosine ∷ length sine ∷ [];
-      yields = N / 2 + 1;
+      yields = spectrumYields N;
       scratch = length scratch;
       products = spectrumOf (level N) (block recording start) .products;
     }
@@ -42,8 +42,8 @@ spectrumCall recording start N allowance cosine sine scratch =
 pub record SpectrumDone (N : ℕ) (x : Samples) (allowance : ℕ)
     (cosine sine scratch cosine′ sine′ scratch′ : List ℤ) (spent : Tally) : Type 0 where
   pub block : AcceptedBlock (level N) x
-  pub cosineWords : Written 0 (N / 2 + 1) (spectrumOf (level N) x .cosine) cosine cosine′
-  pub sineWords : Written 0 (N / 2 + 1) (spectrumOf (level N) x .sine) sine sine′
+  pub cosineWords : Written 0 (spectrumYields N) (spectrumOf (level N) x .cosine) cosine cosine′
+  pub sineWords : Written 0 (spectrumYields N) (spectrumOf (level N) x .sine) sine sine′
   pub cosineNear : (k : ℕ) → k ≤ N / 2 → Within (eighth N) (word cosine′ k) (exactCosine N x k)
   pub sineNear : (k : ℕ) → k ≤ N / 2 → Within (eighth N) (word sine′ k) (exactSine N x k)
   pub scratchCleared : Written 0 (scratchWords N) (λ k. pos 0) scratch scratch′

@@ -21,7 +21,7 @@ use Rattle.words.proofs.Putting.{put-none, _then_}
 use Rattle.text.proofs.Spelling.{digits-number, decimal-negative, decimal-natural, number-length, line-length}
 
 -- the number that a signed parameter's bits hold
-abbrev held : ℤ → ℤ
+abbrev pub held : ℤ → ℤ
 held x = toZ w32 (ofZ w32 x)
 
 -- ---- the digits that `io::decimal` writes, and what ends the number

@@ -1,4 +1,7 @@
-// The lines of `pairspec`, put into a lent page. Each function puts its text from the place `at` on and answers the place behind it.
+// Numbers in decimal and the lines of `pairspec`, put into a lent page. Each function puts its text from the place `at` on and answers the
+// place behind it.
+pub mod columns;
+
 ghost use Prim.Native.Nat.{_+_, _*_, _≤_, _<_};
 ghost use lib.IntN.{natAbs};
 ghost use lib.ListN.{length};

@@ -1,0 +1,50 @@
+-- The tests of a page, in their order: the answer at each, and what is known behind the last. Assumes nothing.
+use mathlib.Core.Bool.{Bool, true, false, not}
+use mathlib.Core.List.{List, [], _∷_, _++_}
+use mathlib.Core.Path.{_≡_, refl, sym, _∙_}
+use Prim.Native.Nat.{ℕ, _+_, _*_, _/_, min, _≤_, _<_}
+use native.Mathlib.Omega.{arith}
+use lib.IntN.{ℤ}
+use lib.ListN.{length}
+use borrow.Author.Tests.{lt-ltb, le-ltb, not-false}
+use Rattle.words.specs.Words.{word}
+use Rattle.words.specs.Put.{Put}
+use Rattle.ffct.specs.Block.{isLength}
+use Rattle.ffct.specs.Transforms.{spectrumYields}
+use Rattle.ffct.proofs.ElevenLengths.{length-le}
+use Rattle.refusals.specs.Refusals.{accepted}
+use Rattle.refusals.proofs.Conditions.{two-below}
+use Rattle.refusals.proofs.Promises.{turned-down, carried-out}
+use Rattle.pages.specs.declared.PageAnswer.the-variants.{BadLength, TooFewStored, PageTooShort, Printed}
+use Rattle.pages.specs.Page.{heading, lines, page, pageBytes, pageVerdict}
+use Rattle.pages.specs.Promises.{PagePromise}
+
+module _ (cs ss : List ℤ) (buffer : List ℕ) (N : ℕ) (ok : Bool) (is : ok ≡ isLength N) where
+  pub bad-length : not ok ≡ true → PagePromise cs ss N buffer buffer BadLength
+  unfolding pageVerdict
+  bad-length h = turned-down refl (omega arith) (rw (← is, h))
+
+  module _ (good : not ok ≡ false) where
+    pub few-lines : N / 2 + 1 ≤ 513
+    few-lines = omega (arith, length-le N (sym is ∙ not-false ok good))
+
+    module _ (fewest : ℕ) (least : fewest ≡ min (length cs) (length ss)) where
+      pub too-few : fewest < N / 2 + 1 → PagePromise cs ss N buffer buffer TooFewStored
+      unfolding pageVerdict
+      too-few h = turned-down refl (omega arith) (rw (← is, good, two-below (length cs) (length ss) least (spectrumYields N), lt-ltb _ _ h))
+
+      module _ (enough : N / 2 + 1 ≤ fewest) where
+        pub too-short : length buffer < 31 * (1 + (N / 2 + 1)) → PagePromise cs ss N buffer buffer PageTooShort
+        unfolding pageVerdict
+        too-short h =
+            turned-down refl (omega arith)
+            (rw (← is, good, two-below (length cs) (length ss) least (spectrumYields N), le-ltb _ _ enough, lt-ltb _ _ h))
+
+        pub printed : {bytes : ℕ} {buffer′ : List ℕ} → 31 * (1 + (N / 2 + 1)) ≤ length buffer
+            → Put buffer 0 (heading ++ lines (word cs) (word ss) (N / 2 + 1)) bytes buffer′ × (bytes ≡ 31 * (1 + (N / 2 + 1)))
+            → PagePromise cs ss N buffer buffer′ (Printed bytes)
+        unfolding pageVerdict page
+        printed room (put, is-all) =
+            carried-out refl
+            (rw (← is, good, two-below (length cs) (length ss) least (spectrumYields N), le-ltb _ _ enough, le-ltb _ _ room))
+            (record { printed = put; bytes-is = is-all; length-ok = sym is ∙ not-false ok good })

@@ -1,0 +1,4 @@
+pub mod Page
+pub mod Answers
+pub mod Promises
+pub mod Laws

@@ -1,0 +1,47 @@
+-- Document 02, (vii), "A page for the site binder": the page as the list of its bytes, and when a stored spectrum is turned down.
+-- cosine and sine are the stored coefficients, coefficient k at k; N is the block length.
+use mathlib.Core.Bool.{not, cond}
+use mathlib.Core.List.{List, [], _∷_, _++_}
+use Prim.Native.Nat.{ℕ, zero, suc, _+_, _*_}
+use lib.Dec.{ltb}
+use lib.IntN.{ℤ}
+use Rattle.ffct.specs.Block.{isLength}
+use Rattle.ffct.specs.Transforms.{spectrumYields}
+use Rattle.refusals.specs.Refusals.{Verdict, refused, accepted, someBelow}
+use Rattle.text.specs.Decimal.{number, decimal}
+use Rattle.text.specs.Lines.{space, lineFeed}
+use Rattle.text.specs.Alignment.{rightAligned}
+
+-- "Columns are k in 4, cosine in 12 and sine in 12, right aligned, with one space between." A line is "30 columns and a line feed"
+unfoldable pub columns : (k cosine sine : List ℕ) → List ℕ
+columns k cosine sine = rightAligned 4 k ++ space ++ rightAligned 12 cosine ++ space ++ rightAligned 12 sine ++ lineFeed
+
+-- "The first line holds the words `k`, `cosine` and `sine` in the same columns.": k, c o s i n e, s i n e
+unfoldable pub heading : List ℕ
+heading = columns (107 ∷ []) (99 ∷ 111 ∷ 115 ∷ 105 ∷ 110 ∷ 101 ∷ []) (115 ∷ 105 ∷ 110 ∷ 101 ∷ [])
+
+-- the line of k: the three numbers in decimal
+abbrev pub line : (k : ℕ) → (cosine sine : ℤ) → List ℕ
+line k cosine sine = columns (number k) (decimal cosine) (decimal sine)
+
+-- the lines "from k = 0 upwards", of k = 0 .. n - 1
+unfoldable pub lines : (cosine sine : ℕ → ℤ) → ℕ → List ℕ
+lines cosine sine zero = []
+lines cosine sine (suc k) = lines cosine sine k ++ line k (cosine k) (sine k)
+
+-- "Under it stands one line for each k that Spectrum yields"
+unfoldable pub page : ℕ → (cosine sine : ℕ → ℤ) → List ℕ
+page N cosine sine = heading ++ lines cosine sine (spectrumYields N)
+
+-- "Each line is exactly 31 bytes.": the heading, and a line for each k
+abbrev pub pageBytes : ℕ → ℕ
+pageBytes N = 31 * (1 + spectrumYields N)
+
+-- "Order: 1, 2 (fewer coefficients stored than Spectrum yields), 3 for a page buffer too short", on the words that are stored and the
+-- bytes that are lent
+unfoldable pub pageVerdict : (stored : List ℕ) → ℕ → (room : ℕ) → Verdict
+pageVerdict stored N room =
+    cond (not (isLength N)) (refused 1)
+    (cond (someBelow (spectrumYields N) stored) (refused 2)
+    (cond (ltb room (pageBytes N)) (refused 3)
+    accepted))
