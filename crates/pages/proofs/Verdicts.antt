@@ -1,6 +1,6 @@
 -- The tests of a page, in their order: the answer at each, and what is known behind the last. Assumes nothing.
 use mathlib.Core.Bool.{Bool, true, false, not}
-use mathlib.Core.List.{List, [], _∷_, _++_}
+use mathlib.Core.List.{List, _++_}
 use mathlib.Core.Path.{_≡_, refl, sym, _∙_}
 use Prim.Native.Nat.{ℕ, _+_, _*_, _/_, min, _≤_, _<_}
 use native.Mathlib.Omega.{arith}
@@ -12,11 +12,10 @@ use Rattle.words.specs.Put.{Put}
 use Rattle.ffct.specs.Block.{isLength}
 use Rattle.ffct.specs.Transforms.{spectrumYields}
 use Rattle.ffct.proofs.ElevenLengths.{length-le}
-use Rattle.refusals.specs.Refusals.{accepted}
 use Rattle.refusals.proofs.Conditions.{two-below}
 use Rattle.refusals.proofs.Promises.{turned-down, carried-out}
 use Rattle.pages.specs.declared.PageAnswer.the-variants.{BadLength, TooFewStored, PageTooShort, Printed}
-use Rattle.pages.specs.Page.{heading, lines, page, pageBytes, pageVerdict}
+use Rattle.pages.specs.Page.{heading, lines, page, pageVerdict}
 use Rattle.pages.specs.Promises.{PagePromise}
 
 module _ (cs ss : List ℤ) (buffer : List ℕ) (N : ℕ) (ok : Bool) (is : ok ≡ isLength N) where

@@ -1,3 +1,4 @@
 pub mod Spelling
 pub mod Runs
 pub mod Alignment
+pub mod Reading
