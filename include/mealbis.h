@@ -6,9 +6,9 @@
  * The archive is for x86-64 Linux: ELF, the System V calling convention, position-independent, SSE2
  * and no later instructions. The kit builds for no other target, also where it runs on an Arm
  * machine: not for ARM, not for 32 bits, not for Windows or macOS.
- * The library needs `memset` and nothing else of the C library. It is written in Rattle and proved:
- * for every input that keeps the section "Buffers" each function answers as said here, writes
- * nothing else, and ends. "Document 01" is docs/01-scope.md; the promises themselves are in
+ * The library needs `memset` and `memcpy` and nothing else of the C library. It is written in Rattle
+ * and proved: for every input that keeps the section "Buffers" each function answers as said here,
+ * writes nothing else, and ends. "Document 01" is docs/01-scope.md; the promises themselves are in
  * crates/mealbis/specs/Promises.antt.
  *
  * ---- Numbers
@@ -45,7 +45,7 @@
  *      length / 2 + 1 cosine or sine coefficients
  *   3  a result buffer is too short; in mealbis_read, a recording is shorter than the file's samples;
  *      in mealbis_write, the buffer of the file is shorter than 8 + 8 * samples bytes; in
- *      mealbis_page, that of the page is below 31 bytes for each line
+ *      mealbis_page, that of the page is below 31 bytes for each line, the heading too
  *   4  scratch is shorter than 8 * length + 64 words
  *   5  the allowance is below the products that the call spends
  *   6  a sample is out of range, of the block or, in mealbis_read and mealbis_write, of the two whole
@@ -90,15 +90,15 @@
  *
  * ---- Buffers
  *
- *   - A buffer is a pointer and a count of WORDS, not of bytes (of bytes for a file or a page). It may
- *     be longer than needed; the words beyond those listed at the function stay as they are. But
+ *   - A buffer is a pointer and a count of WORDS, not of bytes (of bytes for a file or a page). It
+ *     may be longer than needed; the words beyond those listed at the function stay as they are. But
  *     mealbis_read takes the whole file and mealbis_write both recordings whole: there the counts
  *     say how long they are.
  *   - What a call writes (results, scratch, a month, the recordings of mealbis_read, the file of
  *     mealbis_write, the page of mealbis_page, the single words) must not overlap anything else that
  *     the call is given. What it only reads may overlap: a and b of mealbis_pair, or of
- *     mealbis_write, may be one recording. Recordings, stored coefficients, months and files that are
- *     only read may lie in read-only memory.
+ *     mealbis_write, may be one recording, cosine and sine of mealbis_page one array. Recordings,
+ *     stored coefficients, months and files that are only read may lie in read-only memory.
  *   - While a call runs, nobody else may write its buffers, nor read those that it writes: no other
  *     thread, no interrupt handler, no DMA transfer.
  *   - Pointers are aligned as their type asks: 4 bytes for int32_t and uint32_t, 8 for int64_t,
@@ -149,7 +149,7 @@ uint32_t mealbis_version(void);
 /* The answers. */
 #define MEALBIS_ACCEPTED 0u
 #define MEALBIS_BAD_LENGTH 1u
-#define MEALBIS_BEYOND_RECORDING 2u /* in mealbis_inverse_dct and mealbis_page: too few coefficients */
+#define MEALBIS_BEYOND_RECORDING 2u /* of stored coefficients: too few */
 #define MEALBIS_RESULT_TOO_SHORT 3u
 #define MEALBIS_SCRATCH_TOO_SHORT 4u
 #define MEALBIS_ALLOWANCE_TOO_SMALL 5u
@@ -293,18 +293,19 @@ int64_t mealbis_month_blocks(const mealbis_month *month);
 uint32_t mealbis_month_sums(const mealbis_month *month, size_t k, int64_t *cosine, int64_t *sine);
 
 /*
- * A page for the site binder: a spectrum that mealbis_spectrum made, or any other stored coefficients,
- * as text. It has MEALBIS_PAGE_BYTES(N) bytes, in lines of 30 columns and a line feed, 31 bytes each:
- * a heading, and below it a line for each k = 0 .. N/2 with cosine[k] and sine[k]. Columns are k in 4,
- * cosine in 12 and sine in 12, right aligned, with one space between, the numbers in decimal:
+ * A page for the site binder: a spectrum that mealbis_spectrum made, or any stored coefficients, as
+ * text. It has MEALBIS_PAGE_BYTES(N) bytes, in lines of 30 columns and a line feed, 31 bytes each:
+ * a heading, and below it a line for each k = 0 .. N/2 (k = 0 at N = 1) with cosine[k] and sine[k].
+ * Columns are k in 4, cosine in 12 and sine in 12, right aligned, with one space between, the numbers
+ * in decimal:
  *        k       cosine         sine
  *        0       591440            0
  *        1      -241255        19515
  * It is put at the front of `page`. *bytes is how many bytes it has, and the bytes after it stay; no
  * zero byte ends it. Tests 1, 2, 3.
  *
- * Every int32_t fits its column, so that no line is ever longer. Two spectra that differ in a
- * coefficient have different pages.
+ * Every int32_t fits its column, so that no line is ever longer. Two pages are equal only if they are
+ * of one N, and every cosine[k] and sine[k] of the one equals that of the other.
  *
  *   cosine, cosine_words    at least N/2 + 1 words; only the first N/2 + 1 are read
  *   sine, sine_words        the same

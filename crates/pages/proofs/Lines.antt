@@ -37,40 +37,61 @@ decimal-fits x f = omega (arith, decimal-length x f)
 pub line-length : (k : ℕ) (c s : ℤ) → k < 10000 → SFits w32 c → SFits w32 s → length (line k c s) ≡ 31
 line-length k c s h f g = columns-length _ _ _ (number-fits k h) (decimal-fits c f) (decimal-fits s g)
 
--- ---- a run of `put_line`: its three columns, and what ends each
+-- ---- a run of `put_line`: the columns of k, of the cosine and of the sine, and what ends each
 pub held-fits : (x : ℤ) → SFits w32 x → length (decimal (held x)) ≤ 12
 held-fits x f = rw (toZ-ofZ f) (decimal-fits x f)
 
+abbrev column : ℤ → List ℕ → List ℕ
+column x end = rightAligned 12 (decimal (held x)) ++ end
+
 module _ (k at : ℕ) (page : List ℕ) (few : k < 10000) (room : at + 31 ≤ length page) where
-  index : decimal (toZ w32 k) ≡ number k
+  abbrev columnOfK : List ℕ
+  columnOfK = rightAligned 4 (decimal (toZ w32 k)) ++ space
+
+  k-is : decimal (toZ w32 k) ≡ number k
   unfolding decimal
-  index = rw (toZ-pos w32 {n = k} (omega arith)) refl
+  k-is = rw (toZ-pos w32 {n = k} (omega arith)) refl
 
-  pub index-fits : length (decimal (toZ w32 k)) ≤ 4
-  index-fits = rw index (number-fits k few)
+  pub k-fits : length (decimal (toZ w32 k)) ≤ 4
+  k-fits = rw k-is (number-fits k few)
 
-  module _ (c s : ℤ) (f : SFits w32 c) (g : SFits w32 s) (r₁ : ℕ) (page₁ : List ℕ)
-      (p₁ : Put page at (rightAligned 4 (decimal (toZ w32 k)) ++ space) r₁ page₁) where
-    index-length : length (rightAligned 4 (decimal (toZ w32 k)) ++ space) ≡ 5
-    index-length = column-length 4 (decimal (toZ w32 k)) space index-fits
+  five : length columnOfK ≡ 5
+  five = column-length 4 (decimal (toZ w32 k)) space k-fits
 
+  module _ (c s : ℤ) (f : SFits w32 c) (g : SFits w32 s) {r₁ : ℕ} {page₁ : List ℕ} (p₁ : Put page at columnOfK r₁ page₁) where
     pub cosine-ready : r₁ + 12 + 1 ≤ length page₁
-    cosine-ready = omega (arith, index-length)
+    cosine-ready = omega (arith, five)
 
-    module _ (r₂ : ℕ) (page₂ : List ℕ) (p₂ : Put page₁ r₁ (rightAligned 12 (decimal (held c)) ++ space) r₂ page₂) where
+    module _ {r₂ : ℕ} {page₂ : List ℕ} (p₂ : Put page₁ r₁ (column c space) r₂ page₂) where
       pub sine-ready : r₂ + 12 + 1 ≤ length page₂
-      sine-ready = omega (arith, index-length, column-length 12 (decimal (held c)) space (held-fits c f))
+      sine-ready = omega (arith, five, column-length 12 (decimal (held c)) space (held-fits c f))
 
-      in-parts : line k c s ≡ (rightAligned 4 (decimal (toZ w32 k)) ++ space) ++ (rightAligned 12 (decimal (held c)) ++ space)
-          ++ (rightAligned 12 (decimal (held s)) ++ lineFeed)
+      in-parts : line k c s ≡ columnOfK ++ column c space ++ column s lineFeed
       unfolding columns
-      in-parts = rw (index, toZ-ofZ f, toZ-ofZ g) (simp append-assoc)
+      in-parts = rw (k-is, toZ-ofZ f, toZ-ofZ g) (simp append-assoc)
 
-      pub line-put : {r₃ : ℕ} {page₃ : List ℕ} → Put page₂ r₂ (rightAligned 12 (decimal (held s)) ++ lineFeed) r₃ page₃
-          → Put page at (line k c s) r₃ page₃
+      pub line-put : {r₃ : ℕ} {page₃ : List ℕ} → Put page₂ r₂ (column s lineFeed) r₃ page₃ → Put page at (line k c s) r₃ page₃
       line-put p₃ = rw in-parts (p₁ then p₂ then p₃)
 
--- ---- a run of `put_page`: the heading, then no line yet, one more, and all
+-- ---- the lines below the heading: none yet, and one more
+pub record LinesPut (c s : ℕ → ℤ) (k : ℕ) (page : List ℕ) (at next : ℕ) (page₁ : List ℕ) : Type 0 where
+  pub put : Put page at (lines c s k) next page₁
+  pub behind : next ≡ at + 31 * k
+
+module _ (c s : ℕ → ℤ) {at : ℕ} {page : List ℕ} where
+  pub no-lines : at ≤ length page → LinesPut c s 0 page at at page
+  unfolding lines
+  no-lines room = record { put = put-none room; behind = omega arith }
+
+  pub line-more : (k : ℕ) {next q : ℕ} {page₁ page₂ : List ℕ} → LinesPut c s k page at next page₁
+      → Put page₁ next (line k (held (c k)) (held (s k))) q page₂ → k < 10000 → SFits w32 (c k) → SFits w32 (s k)
+      → LinesPut c s (k + 1) page at q page₂
+  unfolding lines
+  line-more k p l few f g =
+      let more = rw (toZ-ofZ f, toZ-ofZ g) at l in
+      record { put = rw add-one (p .put then more); behind = omega (arith, p .behind, more .next-is, line-length k (c k) (s k) few f g) }
+
+-- ---- a run of `put_page`: the heading is put, and the lines before k
 abbrev headingBytes : List ℕ
 headingBytes =
     32 ∷ 32 ∷ 32 ∷ 107 ∷ 32
@@ -81,33 +102,17 @@ heading-is : headingBytes ≡ heading
 unfolding heading columns rightAligned
 heading-is = refl
 
-pub record LinesPut (c s : ℕ → ℤ) (k : ℕ) (page : List ℕ) (at next : ℕ) (page₁ : List ℕ) : Type 0 where
-  pub put : Put page at (lines c s k) next page₁
-  pub behind : next ≡ at + 31 * k
+module _ (c s : ℕ → ℤ) (n : ℕ) {at : ℕ} {page page₀ : List ℕ} (first : Put page 0 headingBytes at page₀)
+    {k next : ℕ} {page₁ : List ℕ} (p : LinesPut c s k page₀ at next page₁) where
+  pub line-ready : 31 * (1 + n) ≤ length page → k < n → next + 31 ≤ length page₁
+  line-ready room h = omega (arith, p .put .len)
 
-module _ (c s : ℕ → ℤ) (n at : ℕ) (page page₀ : List ℕ) (first : Put page 0 headingBytes at page₀) (few : n ≤ 513)
-    (room : 31 * (1 + n) ≤ length page) where
-  pub no-lines : LinesPut c s 0 page₀ at at page₀
-  unfolding lines
-  no-lines = record { put = put-none (omega arith); behind = omega arith }
+  module _ (h : k ≤ n) (l : n ≤ k) where
+    all : k ≡ n
+    all = omega arith
 
-  module _ (k next : ℕ) (page₁ : List ℕ) (p : LinesPut c s k page₀ at next page₁) where
-    pub line-ready : k < n → next + 31 ≤ length page₁
-    line-ready h = omega (arith, p .put .len, p .behind)
+    pub page-put : Put page 0 (heading ++ lines c s n) next page₁
+    page-put = rw (← heading-is, ← all) (first then p .put)
 
-    pub line-more : {q : ℕ} {page₂ : List ℕ} → Put page₁ next (line k (held (c k)) (held (s k))) q page₂ → k < n
-        → SFits w32 (c k) → SFits w32 (s k) → LinesPut c s (k + 1) page₀ at q page₂
-    unfolding lines
-    line-more l h f g =
-        let more = rw (toZ-ofZ f, toZ-ofZ g) at l in
-        record { put = rw add-one (p .put then more); behind = omega (arith, p .behind, more .next-is, line-length k (c k) (s k) (omega arith) f g) }
-
-    module _ (h : k ≤ n) (l : n ≤ k) where
-      all : k ≡ n
-      all = omega arith
-
-      pub page-put : Put page 0 (heading ++ lines c s n) next page₁
-      page-put = rw (← heading-is, ← all) (first then p .put)
-
-      pub page-bytes : next ≡ 31 * (1 + n)
-      page-bytes = omega (arith, p .behind)
+    pub page-bytes : next ≡ 31 * (1 + n)
+    page-bytes = omega arith

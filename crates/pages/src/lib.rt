@@ -38,7 +38,8 @@ fn put_line(k: usize, cosine: i32, sine: i32, page: &mut [u8], at: usize) -> usi
 
 // The heading, and a line for each k below `yields`, put from byte 0 on; the answer is the number of their bytes.
 fn put_page(cosine: &[i32], sine: &[i32], yields: usize, page: &mut [u8]) -> usize
-    requires { ⌜ (yields ≤ 513) × (yields ≤ length (now cosine)) × (yields ≤ length (now sine)) × (31 * (1 + yields) ≤ length (now page)) ⌝ }
+    requires { ⌜ (yields ≤ 513) × (yields ≤ length (now cosine)) × (yields ≤ length (now sine))
+        × (31 * (1 + yields) ≤ length (now page)) ⌝ }
     ensures { λ r. ⌜ Put (now (page .entry)) 0
         (heading ++ lines (word (now (cosine .entry))) (word (now (sine .entry))) yields) r (now (page .exit))
         × (r ≡ 31 * (1 + yields)) ⌝ }

@@ -17,7 +17,8 @@ fn put_right(text: &[u8], width: usize, page: &mut [u8], at: usize) -> usize
     ensures { λ r. ⌜ Put (now (page .entry)) at (rightAligned width (now (text .entry))) r (now (page .exit)) ⌝ }
 {
     let spaces = [b' '; WIDEST];
-    let behind = put(&spaces[..width - text.len()], page, at);
+    let blank = &spaces[..width - text.len()];
+    let behind = put(blank, page, at);
     put(text, page, behind)
 }
 

@@ -22,6 +22,6 @@ print-spec =
     (λ c. search needs)  -- add-if3
     (λ c. record { fits = omega (arith, few (c .before .before)) })  -- mul-if3
     (λ c. search (needs, too-short))  -- returns-3
-    (λ c κs. (few (c .before .before .before .before), search needs, search needs, search needs))  -- put-page-requires
+    (λ c κs. (omega (arith, few (c .before .before .before .before)), search needs, search needs, search needs))  -- put-page-requires
     (λ c. search needs)  -- same-length
     (λ c. search (needs, printed)))  -- returns-4

@@ -1,6 +1,6 @@
 -- `pages::put_line` meets its contract: its three columns, and what ends them. Assumes nothing.
 use borrow.Author.Needs.{needs}
-use Rattle.pages.proofs.Lines.{held-fits, index-fits, cosine-ready, sine-ready, line-put}
+use Rattle.pages.proofs.Lines.{held-fits, k-fits, cosine-ready, sine-ready, line-put}
 use Rattle.pages.proofs.put_line.Statement.{statement}
 use Rattle.pages.proofs.put_line.Tie as tie
 
@@ -10,7 +10,7 @@ put-line-spec =
     (tie.spec
     (λ c. search needs)  -- cast-put-column
     (λ c. search needs)  -- slice-aggregate-put-column
-    (λ c κs. search (needs, index-fits))  -- put-column-requires
+    (λ c κs. search (needs, k-fits))  -- put-column-requires
     (λ c. search needs)  -- slice-aggregate-put-column-2
     (λ c κs. search (needs, held-fits, cosine-ready))  -- put-column-requires-2
     (λ c. search needs)  -- slice-aggregate-put-column-3
