@@ -1,6 +1,6 @@
 -- The tests of a page, in their order: the answer at each, and what is known behind the last. Assumes nothing.
 use mathlib.Core.Bool.{Bool, true, false, not}
-use mathlib.Core.List.{List, _++_}
+use mathlib.Core.List.{List, [], _∷_, _++_}
 use mathlib.Core.Path.{_≡_, refl, sym, _∙_}
 use Prim.Native.Nat.{ℕ, _+_, _*_, _/_, min, _≤_, _<_}
 use native.Mathlib.Omega.{arith}
@@ -12,6 +12,7 @@ use Rattle.words.specs.Put.{Put}
 use Rattle.ffct.specs.Block.{isLength}
 use Rattle.ffct.specs.Transforms.{spectrumYields}
 use Rattle.ffct.proofs.ElevenLengths.{length-le}
+use Rattle.refusals.specs.Refusals.{someBelow}
 use Rattle.refusals.proofs.Conditions.{two-below}
 use Rattle.refusals.proofs.Promises.{turned-down, carried-out}
 use Rattle.pages.specs.declared.PageAnswer.the-variants.{BadLength, TooFewStored, PageTooShort, Printed}
@@ -28,22 +29,22 @@ module _ (cs ss : List ℤ) (buffer : List ℕ) (N : ℕ) (ok : Bool) (is : ok �
     few-lines = omega (arith, length-le N (sym is ∙ not-false ok good))
 
     module _ (fewest : ℕ) (least : fewest ≡ min (length cs) (length ss)) where
+      counted : someBelow (spectrumYields N) (length cs ∷ length ss ∷ []) ≡ someBelow (spectrumYields N) (fewest ∷ [])
+      counted = two-below (length cs) (length ss) least (spectrumYields N)
+
       pub too-few : fewest < N / 2 + 1 → PagePromise cs ss N buffer buffer TooFewStored
       unfolding pageVerdict
-      too-few h = turned-down refl (omega arith) (rw (← is, good, two-below (length cs) (length ss) least (spectrumYields N), lt-ltb _ _ h))
+      too-few h = turned-down refl (omega arith) (rw (← is, good, counted, lt-ltb _ _ h))
 
       module _ (enough : N / 2 + 1 ≤ fewest) where
         pub too-short : length buffer < 31 * (1 + (N / 2 + 1)) → PagePromise cs ss N buffer buffer PageTooShort
         unfolding pageVerdict
-        too-short h =
-            turned-down refl (omega arith)
-            (rw (← is, good, two-below (length cs) (length ss) least (spectrumYields N), le-ltb _ _ enough, lt-ltb _ _ h))
+        too-short h = turned-down refl (omega arith) (rw (← is, good, counted, le-ltb _ _ enough, lt-ltb _ _ h))
 
         pub printed : {bytes : ℕ} {buffer′ : List ℕ} → 31 * (1 + (N / 2 + 1)) ≤ length buffer
             → Put buffer 0 (heading ++ lines (word cs) (word ss) (N / 2 + 1)) bytes buffer′ × (bytes ≡ 31 * (1 + (N / 2 + 1)))
             → PagePromise cs ss N buffer buffer′ (Printed bytes)
         unfolding pageVerdict page
-        printed room (put, is-all) =
-            carried-out refl
-            (rw (← is, good, two-below (length cs) (length ss) least (spectrumYields N), le-ltb _ _ enough, le-ltb _ _ room))
-            (record { printed = put; bytes-is = is-all; length-ok = sym is ∙ not-false ok good })
+        printed room (put, all) =
+            carried-out refl (rw (← is, good, counted, le-ltb _ _ enough, le-ltb _ _ room))
+            (record { printed = put; bytes-is = all; length-ok = sym is ∙ not-false ok good })
