@@ -128,8 +128,8 @@
  * Stack: a copy of the cosine table, 4,100 bytes, and frames whose number depends on the length
  * alone. Measured at length 1,024, in bytes: mealbis_cosine 7,376, mealbis_mark 7,264,
  * mealbis_month_add 7,248, mealbis_spectrum 7,216, mealbis_pair 7,136, mealbis_inverse_dct 4,168,
- * mealbis_write 128, mealbis_counts 112, mealbis_read 96, the other calls on a month 24 at most;
- * shorter blocks take no more.
+ * mealbis_page 168, mealbis_write 128, mealbis_counts 112, mealbis_read 96, the other calls on a month
+ * 24 at most; shorter blocks take no more.
  * The proof does not speak of the stack: allow 8 KiB. `self_check --stack` measures it.
  */
 #ifndef MEALBIS_H

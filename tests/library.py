@@ -106,7 +106,7 @@ def lent_samples(name, samples):
 
 
 def lent_bytes(rng, name, held):
-    """The bytes of a file, which may begin at any place of memory."""
+    """The bytes of a file or of a page, which may begin at any place of memory."""
     return Lent(name, len(held), held, (rng.randbytes(GUARD + rng.randrange(8)), rng.randbytes(GUARD)))
 
 

@@ -1,4 +1,4 @@
-"""Reference implementation of docs/01-scope.md and of requests (i) to (iii), (v) and (vi) of document 02, for tests only.
+"""Reference implementation of docs/01-scope.md and of requests (i) to (iii) and (v) to (vii) of document 02, for tests only.
 
 This module was written from the papers alone (documents 01 and 02, and source
 document 001 for the equations) and shares no code with the product.  It says
@@ -17,6 +17,7 @@ what every call answers, in whole numbers of any size, with no thought for speed
   the month            month_begin(length), month_add(month, ..), month_length(month),
                        month_blocks(month), month_sums(month, k),
                        exact_month(exact, blocks, k)
+  the page             page_bytes(N), page_call(cosine, sine, length, page_len)
   the pair file        read_pair_file(data, a_len, b_len), pairspec(data),
                        write_pair_file(a, b, length, file_len)
   telling blocks       DIFFERS_FROM_DIRECT, TIES, COSINE_TIE, SINE_TIE, INVERSE_TIES,
@@ -654,6 +655,40 @@ def month_sums(month, k):
     if N == 0 or k > N // 2:
         return 16, 0, 0
     return 0, month[FIRST_COSINE + k], month[FIRST_SINE + k]
+
+
+# --- The page ------------------------------------------------------------------
+
+COLUMNS = (4, 12, 12)           # of k, cosine and sine
+
+
+def page_line(*entries):
+    """The entries of a line, each right aligned in its column, with one space between, and a line feed."""
+    return " ".join(str(entry).rjust(width) for entry, width in zip(entries, COLUMNS)) + "\n"
+
+
+def page_bytes(N):
+    """The bytes of a page: 31 for the heading, and 31 for each k that Spectrum yields."""
+    return 31 + 31 * (N // 2 + 1)
+
+
+class Page(NamedTuple):
+    """What printing a page gives back; data is the page, which stands in the first bytes
+    of the lent buffer.  refusal is as in Answer."""
+    refusal: int
+    data: bytes = b""
+
+
+def page_call(cosine, sine, length, page_len):
+    if length not in LENGTHS:
+        return Page(1)
+    yielded = range(length // 2 + 1)
+    if len(cosine) < len(yielded) or len(sine) < len(yielded):
+        return Page(2)
+    if page_len < page_bytes(length):
+        return Page(3)
+    lines = [page_line("k", "cosine", "sine")] + [page_line(k, cosine[k], sine[k]) for k in yielded]
+    return Page(0, "".join(lines).encode("ascii"))
 
 
 # --- The pair file and the program ---------------------------------------------

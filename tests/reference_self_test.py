@@ -674,6 +674,79 @@ def check_words_of_no_month():
         assert ref.month_sums(month, 0) == (0, then, held)
 
 
+# --- The page ------------------------------------------------------------------
+
+HEADING = b"   k       cosine         sine\n"
+
+
+def page_of(cosine, sine, N):
+    """The page of an accepted call, with just the bytes that it takes."""
+    page = ref.page_call(cosine, sine, N, 31 * (N // 2 + 2))
+    assert page.refusal == 0
+    return page.data
+
+
+def check_page_lines():
+    """pages written by hand, to the byte: the ends of 32 bits, each number of digits, both signs, k of one digit to three"""
+    assert page_of([7], [0], 1) == HEADING + b"   0            7            0\n"
+    assert page_of([4, 2], [0, 0], 2) == HEADING + b"   0            4            0\n" + b"   1            2            0\n"
+    assert page_of([-2 ** 31, 0, 2 ** 31 - 1], [2 ** 31 - 1, -1, -2 ** 31], 4) == HEADING + (
+        b"   0  -2147483648   2147483647\n"
+        b"   1            0           -1\n"
+        b"   2   2147483647  -2147483648\n")
+    cosine = [1, -12, 123, -1234, 12345, -123456, 1234567, -12345678, 123456789, -1234567890]
+    rows = (b"            1           -1", b"          -12           12", b"          123         -123", b"        -1234         1234",
+            b"        12345       -12345", b"      -123456       123456", b"      1234567     -1234567", b"    -12345678     12345678",
+            b"    123456789   -123456789", b"  -1234567890   1234567890")
+    page = page_of(cosine + [0] * 503, [-number for number in cosine] + [-9] * 503, 1024).splitlines(True)
+    assert page[:11] == [HEADING] + [b"   %d" % k + row + b"\n" for k, row in enumerate(rows)]
+    assert [page[1 + k] for k in (10, 99, 100, 512)] == [
+        b"  10            0           -9\n", b"  99            0           -9\n",
+        b" 100            0           -9\n", b" 512            0           -9\n"]
+
+
+def check_pages():
+    """pages of every length: a heading and a line of 31 bytes for each k from 0 to N/2, words behind not printed; they read back as the input"""
+    rng = random.Random(35)
+    for N in ref.LENGTHS:
+        yielded = {1: 1, 2: 2, 4: 3, 8: 5, 16: 9, 32: 17, 64: 33, 128: 65, 256: 129, 512: 257, 1024: 513}[N]
+        assert yielded == len(ref.spectrum([1] * N)[0])
+        assert ref.page_bytes(N) == 31 * (1 + yielded)
+        for _ in range(4):
+            cosine, sine = ([rng.randint(-2 ** 31, 2 ** 31 - 1) >> rng.randrange(32) for _ in range(yielded)] for _ in range(2))
+            page = page_of(cosine, sine, N)
+            lines = page.splitlines(True)
+            assert lines[0] == HEADING and len(lines) == 1 + yielded and {len(line) for line in lines} == {31}
+            assert {(line[4], line[17], line[30]) for line in lines} == {(32, 32, 10)}
+            columns = [(line[:4], line[5:17], line[18:30]) for line in lines[1:]]
+            assert [tuple(map(int, entries)) for entries in columns] == list(zip(range(yielded), cosine, sine))
+            assert all(not entry.endswith(b" ") and entry.split() == [b"%d" % int(entry)] for entries in columns for entry in entries)
+            for more in (1, 31, 5000):
+                assert ref.page_call(cosine + [5] * more, sine + [6] * (more - 1), N, len(page) + more) == ref.Page(0, page)
+
+
+def broken_page(numbers, N):
+    """The call on a block of N, or of 3 N, with every one of the numbered conditions made to hold."""
+    length = 3 * N if 1 in numbers else N
+    stored = length // 2 + (0 if 2 in numbers else 1)
+    return dict(cosine=[5] * stored, sine=[6] * stored, length=length, page_len=31 * (length // 2 + 2) - (1 if 3 in numbers else 0))
+
+
+def check_page_refusals():
+    """every set of refusals 1, 2, 3 of a page at every length: the earliest wins; each at its edge, of the cosine and of the sine"""
+    for N in ref.LENGTHS:
+        assert ref.page_call(**broken_page((), N)).refusal == 0
+        for numbers in subsets((1, 2, 3)):
+            assert ref.page_call(**broken_page(numbers, N)) == ref.Page(min(numbers)), numbers
+        enough, few, size = [0] * (N // 2 + 1), [0] * (N // 2), 31 * (N // 2 + 2)
+        for cosine, sine in ((few, enough), (enough, few), (few, few), ([], enough), (enough, []), ([], [])):
+            assert ref.page_call(cosine, sine, N, size) == ref.page_call(cosine, sine, N, 0) == ref.Page(2)
+        for short in (0, 1, 30, 31, size - 32, size - 31, size - 1):
+            assert ref.page_call(enough, enough, N, short) == ref.Page(3)
+    for length in (0, 3, 5, 6, 7, 9, 1023, 1025, 2048, 2 ** 32, 2 ** 32 + 8, 2 ** 63, 2 ** 64 - 1):
+        assert ref.page_call([0] * 2048, [0] * 2048, length, 10 ** 6) == ref.Page(1)
+
+
 # --- The way back from stored coefficients -------------------------------------
 
 def limit(N):

@@ -10,22 +10,9 @@
 #include <inttypes.h>
 #include <stdio.h>
 #include "mealbis.h"
+#include "pair_file.h" /* file, recordings, get_file, refuse, end_output */
 
-static uint8_t file[MEALBIS_FILE_BYTES(MEALBIS_MOST_FILE_SAMPLES) + 1]; /* a byte more, so that a longer file is refused */
-static int32_t recordings[2][MEALBIS_MOST_FILE_SAMPLES];                 /* a and b */
-static mealbis_month months[2];                                          /* of a and b */
-
-/* Whether the file at this path, or as much of it as `file` takes, has been read. */
-static int get(const char *path, size_t *bytes)
-{
-    FILE *input = fopen(path, "rb");
-    if (input == NULL)
-        return 0;
-    *bytes = fread(file, 1, sizeof file, input);
-    int good = !ferror(input);
-    fclose(input);
-    return good;
-}
+static mealbis_month months[2]; /* of a and b */
 
 /* Adds all blocks of a recording to a month. The answer of the first call that is refused, else 0. */
 static uint32_t add_blocks(mealbis_month *month, const int32_t *recording, size_t samples, size_t length)
@@ -71,20 +58,6 @@ static void print_months(void)
     }
 }
 
-static const char *reason(uint32_t answer)
-{
-    switch (answer) {
-    case MEALBIS_BAD_LENGTH: return "the file's block length is none of the eleven";
-    case MEALBIS_OUT_OF_RANGE: return "a sample of the file is out of range";
-    case MEALBIS_FILE_BELOW_HEADER: return "the file is shorter than 8 bytes";
-    case MEALBIS_BAD_SAMPLE_COUNT: return "the file's sample count is 0 or above 4,096";
-    case MEALBIS_BAD_FILE_LENGTH: return "the file is not 8 + 8 * samples bytes long";
-    case MEALBIS_OTHER_LENGTH: return "the file's block length is not that of the first file";
-    case MEALBIS_MONTH_FULL: return "the month holds 100,000 blocks";
-    default: return "see include/mealbis.h";
-    }
-}
-
 int main(int argc, char **argv)
 {
     if (argc < 2) {
@@ -93,20 +66,12 @@ int main(int argc, char **argv)
     }
     for (int i = 1; i < argc; i++) {
         size_t bytes, place;
-        if (!get(argv[i], &bytes)) {
-            fprintf(stderr, "months: ");
-            perror(argv[i]);
+        if (!get_file("months", argv[i], &bytes))
             return 2;
-        }
         uint32_t answer = add_file(bytes, i == 1, &place);
-        if (answer != MEALBIS_ACCEPTED) {
-            fprintf(stderr, "refused %" PRIu32 ": %s: %s", answer, argv[i], reason(answer));
-            if (answer == MEALBIS_OUT_OF_RANGE)
-                fprintf(stderr, ", place %zu", place);
-            fprintf(stderr, "\n");
-            return 1;
-        }
+        if (answer != MEALBIS_ACCEPTED)
+            return refuse(answer, argv[i], place);
     }
     print_months();
-    return fflush(stdout) == 0 ? 0 : 2;
+    return end_output();
 }

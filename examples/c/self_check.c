@@ -1,6 +1,6 @@
 /*
  * Holds the library, as linked, to include/mealbis.h: its version, each answer of each call, the words that are written in every answer, buffers
- * and months that stay, what the coefficients mean, NULL with count 0, and the stack. Prints each check that fails, and 'N passed, M failed'.
+ * and months that stay, what the coefficients mean, pages, NULL with count 0, and the stack. Prints each check that fails, and 'N passed, M failed'.
  */
 #define _XOPEN_SOURCE 700
 #include <stdio.h>
@@ -14,7 +14,7 @@
 
 static int32_t x[LONGEST + 8], y[LONGEST + 8], one[LONGEST + 8], two[LONGEST + 8], kept[LONGEST + 8], stored[LONGEST + 8];
 static int64_t scratch[MEALBIS_SCRATCH_WORDS(LONGEST) + 8];
-static uint8_t file[MEALBIS_FILE_BYTES(8)], made[MEALBIS_FILE_BYTES(LONGEST) + 8], kept_bytes[sizeof made];
+static uint8_t file[MEALBIS_FILE_BYTES(8)], made[MEALBIS_PAGE_BYTES(LONGEST) + 8], kept_bytes[sizeof made]; /* a page or a file */
 static mealbis_month month, kept_month;
 static int64_t cosine_sum, sine_sum;
 static uint64_t products, sums, largest_rest, six[6];
@@ -78,6 +78,7 @@ static void refused(uint32_t number, size_t at, const char *what)
 #define INVERSE(...) (fill(), answer = mealbis_inverse_dct(__VA_ARGS__, &place))
 #define READ(...) (fill(), answer = mealbis_read(__VA_ARGS__, &samples, &length, &place))
 #define WRITE(...) (fill(), answer = mealbis_write(__VA_ARGS__, &bytes, &place))
+#define PRINT(...) (fill(), answer = mealbis_page(__VA_ARGS__, &bytes))
 
 static void calls(void)
 {
@@ -541,6 +542,61 @@ static void written_files(void)
     WRITE(x, 8, y, 8, 4, made, 71), write_refused(3, 0, "write, a byte too few");
 }
 
+static void page_refused(uint32_t number, const char *what)
+{
+    check(answer == number && bytes == 0, what, answer);
+    check(!memcmp(made, kept_bytes, sizeof made), what, number);
+}
+
+/* The page is this text, and the bytes behind it are as they were. */
+static void page_is(const char *text, const char *what)
+{
+    size_t size = strlen(text);
+    check(answer == 0 && bytes == size && !memcmp(made, text, size), what, bytes);
+    check(!memcmp(made + size, kept_bytes + size, sizeof made - size), what, size);
+}
+
+/* The page of n samples of x, as printf has its lines; the same with just enough of everything, and refused with a little less. */
+static void page_of_spectrum(size_t n)
+{
+    static int32_t cosine[LONGEST], sine[LONGEST];
+    static char text[sizeof made];
+    size_t k, words = MEALBIS_SPECTRUM_WORDS(n), size = MEALBIS_PAGE_BYTES(n);
+    SPECTRUM(x, LONGEST, 0, n, UINT64_MAX, cosine, LONGEST, sine, LONGEST, scratch, MEALBIS_WORDS(scratch));
+    sprintf(text, "%4s %12s %12s\n", "k", "cosine", "sine");
+    for (k = 0; k < words; k++)
+        sprintf(text + MEALBIS_PAGE_LINE_BYTES * (k + 1), "%4zu %12d %12d\n", k, (int)cosine[k], (int)sine[k]);
+    check(strlen(text) == size, "MEALBIS_PAGE_BYTES", n);
+    PRINT(cosine, LONGEST, sine, LONGEST, n, made, sizeof made), page_is(text, "page, of a spectrum");
+    PRINT(cosine, words, sine, words, n, made, size), page_is(text, "page, just enough of everything");
+    PRINT(cosine, words - 1, sine, LONGEST, n, made, size), page_refused(2, "page, a cosine too few");
+    PRINT(cosine, LONGEST, sine, words - 1, n, made, size), page_refused(2, "page, a sine too few");
+    PRINT(cosine, words, sine, words, n, made, size - 1), page_refused(3, "page, a byte too few");
+    PRINT(cosine, words, sine, words, n, made, size - MEALBIS_PAGE_LINE_BYTES), page_refused(3, "page, a line too few");
+}
+
+static void pages(void)
+{
+    static const int32_t widest[3] = {INT32_MIN, 0, -1}, other[3] = {INT32_MAX, 1000000000, -99};
+    size_t n;
+    PRINT(widest, 3, other, 3, 4, made, sizeof made);
+    page_is("   k       cosine         sine\n"
+            "   0  -2147483648   2147483647\n"
+            "   1            0   1000000000\n"
+            "   2           -1          -99\n", "page, written by hand");
+    PRINT(widest, 1, widest, 1, 1, made, 62);
+    page_is("   k       cosine         sine\n"
+            "   0  -2147483648  -2147483648\n", "page, cosine and sine one array");
+    for (n = 1; n <= LONGEST; n *= 2)
+        page_of_spectrum(n);
+    PRINT(widest, 2, other, 3, 6, made, 100), page_refused(1, "page, length 6");
+    PRINT(x, LONGEST, y, LONGEST, 0, made, sizeof made), page_refused(1, "page, length 0");
+    PRINT(x, LONGEST, y, LONGEST, 2048, made, sizeof made), page_refused(1, "page, length 2048");
+    PRINT(x, LONGEST, y, LONGEST, SIZE_MAX, made, sizeof made), page_refused(1, "page, length SIZE_MAX");
+    PRINT(widest, 2, other, 3, 4, made, 100), page_refused(2, "page, a cosine too few, and a short page");
+    PRINT(widest, 3, other, 2, 4, made, 100), page_refused(2, "page, a sine too few, and a short page");
+}
+
 /* NULL with count 0, for each buffer and for all. */
 static void empty_buffers(void)
 {
@@ -586,6 +642,11 @@ static void empty_buffers(void)
     WRITE(x, 8, y, 8, 4, NULL, 0), write_refused(3, 0, "write, no file");
     WRITE(x, 8, y, 8, 7, NULL, 0), write_refused(1, 0, "write, no file, blocks of 7");
     WRITE(NULL, 0, NULL, 0, 4, NULL, 0), write_refused(8, 0, "write, nothing");
+    PRINT(NULL, 0, y, 8, 8, made, 200), page_refused(2, "page, no cosine");
+    PRINT(x, 8, NULL, 0, 8, made, 200), page_refused(2, "page, no sine");
+    PRINT(x, 8, y, 8, 8, NULL, 0), page_refused(3, "page, no page");
+    PRINT(x, 8, y, 8, 7, NULL, 0), page_refused(1, "page, no page, length 7");
+    PRINT(NULL, 0, NULL, 0, 1, NULL, 0), page_refused(2, "page, nothing");
 }
 
 /* The stack of each call at the greatest length: it runs on a marked stack of its own. */
@@ -609,6 +670,7 @@ static void on_stack(void)
     case 9: mealbis_month_begin(&month, LONGEST); break;
     case 10: mealbis_month_add(&month, x, LONGEST, 0, LONGEST, UINT64_MAX, one, LONGEST, two, LONGEST, LENT); break;
     case 11: mealbis_month_sums(&month, LONGEST / 2, &cosine_sum, &sine_sum); break;
+    case 12: mealbis_page(x, LONGEST, y, LONGEST, LONGEST, made, sizeof made, &bytes); break;
     }
 }
 
@@ -632,7 +694,7 @@ int main(int argc, char **argv)
 {
     static const char *const names[] = {"no call", "mealbis_spectrum", "mealbis_cosine", "mealbis_pair", "mealbis_counts", "mealbis_read",
                                         "mealbis_inverse_dct", "mealbis_write", "mealbis_mark", "mealbis_month_begin", "mealbis_month_add",
-                                        "mealbis_month_sums"};
+                                        "mealbis_month_sums", "mealbis_page"};
     size_t i, own;
     for (i = 0; i < MEALBIS_WORDS(x); i++) {
         x[i] = (int32_t)(i * 7919 % 2000001) - 1000000;
@@ -650,6 +712,7 @@ int main(int argc, char **argv)
     inverses();
     files();
     written_files();
+    pages();
     empty_buffers();
     own = stack_used(0); /* what on_stack takes itself */
     for (i = 1; i < MEALBIS_WORDS(names); i++) {
@@ -659,6 +722,7 @@ int main(int argc, char **argv)
             printf("%s: %zu bytes of stack\n", names[i], used);
     }
     check(mealbis_month_blocks(&month) == 1, "the stack of an accepted block", 1);
+    check(bytes == MEALBIS_PAGE_BYTES(LONGEST), "the stack of a whole page", bytes);
     printf("%d passed, %d failed\n", passed, failed);
     return failed != 0;
 }

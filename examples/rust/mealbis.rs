@@ -23,6 +23,10 @@ extern "C" {
     fn mealbis_month_length(month: &Month) -> usize;
     fn mealbis_month_blocks(month: &Month) -> i64;
     fn mealbis_month_sums(month: &Month, k: usize, cosine: &mut i64, sine: &mut i64) -> u32;
+    fn mealbis_page(
+        cosine: *const i32, cosine_words: usize, sine: *const i32, sine_words: usize, length: usize, page: *mut u8, page_bytes: usize,
+        bytes: &mut usize,
+    ) -> u32;
     fn mealbis_cosine(
         recording: *const i32, recording_words: usize, start: usize, length: usize, allowance: u64,
         coefficients: *mut i32, coefficients_words: usize, scratch: *mut i64, scratch_words: usize,
@@ -150,6 +154,15 @@ impl Month {
             0 => Ok((cosine, sine)),
             number => Err(Refused(number, 0)),
         }
+    }
+}
+
+// The bytes of the page.
+pub fn page(cosine: &[i32], sine: &[i32], length: usize, page: &mut [u8]) -> Result<usize, Refused> {
+    let mut bytes = 0;
+    match unsafe { mealbis_page(cosine.as_ptr(), cosine.len(), sine.as_ptr(), sine.len(), length, page.as_mut_ptr(), page.len(), &mut bytes) } {
+        0 => Ok(bytes),
+        number => Err(Refused(number, 0)),
     }
 }
 

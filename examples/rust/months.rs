@@ -6,8 +6,10 @@
 // arguments are wrong.
 // examples/build compiles it; examples/months.txt is what it prints for examples/train_crossing.pair. include/mealbis.h says what the calls do.
 mod mealbis;
+mod pair_file;
 
 use mealbis::{read, Month, Refused};
+use pair_file::{get_file, refuse};
 use std::io::Write;
 use std::process::exit;
 
@@ -44,31 +46,11 @@ fn printed([a, b]: &[Month; 2]) -> String {
     lines
 }
 
-fn reason(number: u32) -> &'static str {
-    match number {
-        1 => "the file's block length is none of the eleven",
-        6 => "a sample of the file is out of range",
-        7 => "the file is shorter than 8 bytes",
-        8 => "the file's sample count is 0 or above 4,096",
-        9 => "the file is not 8 + 8 * samples bytes long",
-        13 => "the file's block length is not that of the first file",
-        14 => "the month holds 100,000 blocks",
-        _ => "see include/mealbis.h",
-    }
-}
-
 fn main() {
     let mut months = None;
     for path in std::env::args().skip(1) {
-        let file = std::fs::read(&path).unwrap_or_else(|error| {
-            eprintln!("months: {path}: {error}");
-            exit(2);
-        });
-        if let Err(Refused(number, place)) = add_file(&mut months, &file) {
-            let at = if number == 6 { format!(", place {place}") } else { String::new() };
-            eprintln!("refused {number}: {path}: {}{at}", reason(number));
-            exit(1);
-        }
+        let file = get_file("months", &path);
+        add_file(&mut months, &file).unwrap_or_else(|refused| refuse(refused, &path));
     }
     let Some(months) = months else {
         eprintln!("usage: months FILE..");

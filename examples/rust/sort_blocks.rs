@@ -1,12 +1,15 @@
-// Sorts the blocks of a pair file in Rust: marks each block of a and of b by a flat limit and a clip level, and prints the numbers of the blocks by mark.
+// Sorts the blocks of a pair file in Rust: marks each block of a and of b by a flat limit and a clip level, and prints the numbers of the blocks by
+// mark.
 //     sort_blocks FILE FLAT_LIMIT CLIP_LEVEL
-// Exit status: 0 the blocks are sorted; 1 the library refuses the file or the figures; 2 the file could not be read, the output not be written, or the
-// arguments are wrong. A file without a block asks nothing of the figures.
-// examples/build compiles it; examples/sort_blocks.txt is what it prints for examples/train_crossing.pair, 20000 and 6000. include/mealbis.h says what
-// the calls do.
+// Exit status: 0 the blocks are sorted; 1 the library refuses the file or the figures; 2 the file could not be read, the output not be written, or
+// the arguments are wrong. A file without a block asks nothing of the figures.
+// examples/build compiles it; examples/sort_blocks.txt is what it prints for examples/train_crossing.pair, 20000 and 6000. include/mealbis.h says
+// what the calls do.
 mod mealbis;
+mod pair_file;
 
 use mealbis::{mark, read, Figures, Refused, CLIPPED, FLAT, PLAIN};
+use pair_file::{get_file, refuse};
 use std::io::Write;
 use std::process::exit;
 
@@ -35,18 +38,6 @@ fn sorted(file: &[u8], figures: Figures) -> Result<String, Refused> {
     Ok(lines)
 }
 
-fn reason(number: u32) -> &'static str {
-    match number {
-        1 => "the file's block length is none of the eleven",
-        6 => "a sample of the file is out of range",
-        7 => "the file is shorter than 8 bytes",
-        8 => "the file's sample count is 0 or above 4,096",
-        9 => "the file is not 8 + 8 * samples bytes long",
-        12 => "the flat limit is negative, or the clip level is outside 1 to 1,000,000",
-        _ => "see include/mealbis.h",
-    }
-}
-
 // The path and the figures.
 fn read_words() -> Option<(String, Figures)> {
     let words: Vec<String> = std::env::args().skip(1).collect();
@@ -59,16 +50,7 @@ fn main() {
         eprintln!("usage: sort_blocks FILE FLAT_LIMIT CLIP_LEVEL");
         exit(2);
     };
-    let file = std::fs::read(path).unwrap_or_else(|error| {
-        eprintln!("sort_blocks: {error}");
-        exit(2);
-    });
-    match sorted(&file, figures) {
-        Ok(lines) => exit(if std::io::stdout().write_all(lines.as_bytes()).is_ok() { 0 } else { 2 }),
-        Err(Refused(number, place)) => {
-            let at = if number == 6 { format!(", place {place}") } else { String::new() };
-            eprintln!("refused {number}: {}{at}", reason(number));
-            exit(1);
-        }
-    }
+    let file = get_file("sort_blocks", &path);
+    let lines = sorted(&file, figures).unwrap_or_else(|refused| refuse(refused, &path));
+    exit(if std::io::stdout().write_all(lines.as_bytes()).is_ok() { 0 } else { 2 });
 }

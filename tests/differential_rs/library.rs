@@ -29,6 +29,11 @@ extern "C" {
 
     pub fn mealbis_month_sums(month: *const i64, k: usize, cosine: *mut i64, sine: *mut i64) -> u32;
 
+    pub fn mealbis_page(
+        cosine: *const i32, cosine_len: usize, sine: *const i32, sine_len: usize, length: usize,
+        page: *mut u8, page_len: usize, bytes: *mut usize,
+    ) -> u32;
+
     pub fn mealbis_cosine(
         recording: *const i32, recording_len: usize, start: usize, length: usize, allowance: u64,
         coefficients: *mut i32, coefficients_len: usize, scratch: *mut i64, scratch_len: usize,

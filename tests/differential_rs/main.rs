@@ -2,9 +2,10 @@
 //
 //     tests/differential [--seed S] [--seconds T | --rounds R] [--table FILE] [--item CLASS INDEX]
 //
-// Document 01 and requests (i) to (iii), (v) and (vi) of document 02 are implemented here once more, and the exact sums are evaluated term by
-// term. The answer of every call, its counts, its largest rest, its results and the words that it must not touch are compared with them.
-// Each class of calls is gone through once, then in rounds until the time is up or R rounds are made. --table writes docs/DISTANCES.md, --item repeats one item.
+// Document 01 and requests (i) to (iii) and (v) to (vii) of document 02 are implemented here once more, and the exact sums are evaluated
+// term by term. The answer of every call, its counts, its largest rest, its results and the words that it must not touch are compared with
+// them. Each class of calls is gone through once, then in rounds until the time is up or R rounds are made. --table writes
+// docs/DISTANCES.md, --item repeats one item.
 // The last line is 'N passed, 0 failed', N the calls compared.
 mod back;
 mod blocks;
@@ -17,6 +18,7 @@ mod known;
 mod library;
 mod marked;
 mod months;
+mod pages;
 mod random;
 mod record;
 mod rests;
@@ -27,7 +29,7 @@ mod transforms;
 mod written;
 
 use random::Random;
-use record::{with_commas, ADD, FUNCTIONS, INVERSE, MARK, READ, WRITE};
+use record::{with_commas, ADD, FUNCTIONS, INVERSE, MARK, PAGE, READ, WRITE};
 use run::Run;
 use std::time::{Duration, Instant};
 
@@ -68,6 +70,9 @@ fn classes() -> Vec<Class> {
         class("months", months::item, 330, 11),
         class("flawed-months", months::flawed_item, months::SETS, 16),
         class("extreme-months", months::extreme_item, 2000, 20),
+        class("pages", pages::item, pages::SHAPES as u64 * 11 * 10, 22),
+        class("flawed-pages", pages::flawed_item, pages::SETS, 16),
+        class("extreme-pages", pages::extreme_item, 2000, 20),
     ]
 }
 
@@ -90,6 +95,7 @@ fn main() {
     written::self_check();
     marked::self_check(&run.rules);
     months::self_check(&run.rules);
+    pages::self_check();
     rests::self_check(&run.rules.circle);
     let rounds = match &words.item {
         Some((name, index)) => one_item(&mut run, words.seed, name, *index),
@@ -114,6 +120,7 @@ fn whole_run(run: &mut Run, words: &Words) -> u64 {
     require_sets(run);
     require_rules(run);
     require_ties(run);
+    require_digits(run);
     rounds
 }
 
@@ -151,13 +158,14 @@ fn one_item(run: &mut Run, seed: u64, name: &str, index: u64) -> u64 {
 
 // Two or three refusals that can hold together must have done so on some call.
 fn require_sets(run: &mut Run) {
-    for function in [0, 1, 2, READ, INVERSE, WRITE, MARK, ADD] {
+    for function in [0, 1, 2, READ, INVERSE, WRITE, MARK, ADD, PAGE] {
         let (order, impossible) = match function {
             READ => (&files::ORDER[..], &files::IMPOSSIBLE[..]),
             INVERSE => (&stored::ORDER[..], &[][..]),
             WRITE => (&written::ORDER[..], &[][..]),
             MARK => (&marked::ORDER[..], &[][..]),
             ADD => (&months::ORDER[..], &[][..]),
+            PAGE => (&pages::ORDER[..], &[][..]),
             _ => (&[1, 2, 3, 4, 5, 6][..], &[][..]),
         };
         for set in twos_and_threes(order) {
@@ -180,6 +188,13 @@ fn require_rules(run: &mut Run) {
 fn require_ties(run: &mut Run) {
     if run.record.ties.contains(&0) {
         missing(run, format!("calls of Spectrum, Cosine and Pair with a tie: {:?}", run.record.ties));
+    }
+}
+
+// And in a page a number of each count of digits, negative and not, in both columns.
+fn require_digits(run: &mut Run) {
+    if run.record.digits.iter().flatten().flatten().any(|&count| count == 0) {
+        missing(run, format!("numbers in pages, of cosine and of sine, not negative and negative, by their digits: {:?}", run.record.digits));
     }
 }
 

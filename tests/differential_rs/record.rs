@@ -4,8 +4,8 @@ use crate::exact::{Part, ONE, PARTS};
 use std::collections::BTreeSet;
 
 // The functions of the library, in the order of FUNCTIONS.
-pub const FUNCTIONS: [&str; 11] =
-    ["Spectrum", "Cosine", "Pair", "counts", "read", "inverse DCT", "write", "mark", "month begin", "month add", "month sums"];
+pub const FUNCTIONS: [&str; 12] =
+    ["Spectrum", "Cosine", "Pair", "counts", "read", "inverse DCT", "write", "mark", "month begin", "month add", "month sums", "page"];
 pub const COUNTS: usize = 3;
 pub const READ: usize = 4;
 pub const INVERSE: usize = 5;
@@ -14,6 +14,7 @@ pub const MARK: usize = 7;
 pub const BEGIN: usize = 8;
 pub const ADD: usize = 9;
 pub const SUMS: usize = 10;
+pub const PAGE: usize = 11;
 
 pub fn function_of(kind: Kind) -> usize {
     match kind {
@@ -26,9 +27,9 @@ pub fn function_of(kind: Kind) -> usize {
 #[derive(Default)]
 pub struct Record {
     // calls by function and by the number answered
-    answers: [[u64; 17]; 11],
+    answers: [[u64; 17]; 12],
     // the sets of refusals whose conditions held on a call, by function
-    together: [BTreeSet<Vec<u32>>; 11],
+    together: [BTreeSet<Vec<u32>>; 12],
     // accepted blocks, and coefficients compared with their exact sums, by level
     pub blocks: [u64; 11],
     pub coefficients: [u64; 11],
@@ -42,6 +43,9 @@ pub struct Record {
     // blocks added to months, and sums of months compared with their exact sums, by level
     pub added: [u64; 11],
     pub month_sums: [u64; 11],
+    // pages by level, and the numbers in their columns of cosine and sine: negative or not, by their digits
+    pages: [u64; 11],
+    pub digits: [[[u64; 10]; 2]; 2],
 }
 
 impl Record {
@@ -63,6 +67,16 @@ impl Record {
         self.coefficients[level] += 1;
         let largest = &mut self.largest[level][part as usize];
         *largest = distance.max(*largest);
+    }
+
+    pub fn page(&mut self, n: usize, columns: [&[i32]; 2]) {
+        self.pages[n.trailing_zeros() as usize] += 1;
+        for (column, numbers) in columns.into_iter().enumerate() {
+            for &number in &numbers[..n / 2 + 1] {
+                let digits = number.unsigned_abs().checked_ilog10().unwrap_or(0);
+                self.digits[column][(number < 0) as usize][digits as usize] += 1;
+            }
+        }
     }
 
     // whether some call has met all of these refusals together
@@ -92,6 +106,7 @@ impl Record {
         lines.push(format!("calls with a tie       Spectrum: {spectrum}, Cosine: {cosine}, Pair: {pair}"));
         lines.push(format!("added to months        {}", by_length(&self.added)));
         lines.push(format!("sums held to exact     {}", by_length(&self.month_sums)));
+        lines.push(format!("pages by length        {}", by_length(&self.pages)));
         for (function, name) in FUNCTIONS.iter().enumerate() {
             let of = &self.answers[function];
             let numbers: Vec<String> = (0..of.len()).filter(|&number| of[number] > 0).map(|number| format!("{}: {}", number, of[number])).collect();

@@ -5,8 +5,9 @@ use crate::files::File;
 use crate::library::*;
 use crate::marked::Marking;
 use crate::months::{LentMonth, Month, FIRST_COSINE, FIRST_SINE};
+use crate::pages::Printing;
 use crate::random::Random;
-use crate::record::{function_of, Record, ADD, BEGIN, COUNTS, INVERSE, MARK, READ, SUMS, WRITE};
+use crate::record::{function_of, Record, ADD, BEGIN, COUNTS, INVERSE, MARK, PAGE, READ, SUMS, WRITE};
 use crate::stored::{rounded, Stored, StoredAnswer};
 use crate::written::Writing;
 
@@ -169,6 +170,30 @@ impl Run {
         found.push((blocks != month.month.blocks()).then(|| format!("the block number is {blocks} and not {}", month.month.blocks())));
         self.record.answer(SUMS, correct, &[]);
         self.end(found, number, correct, || format!("the sums for {k} of a month of {}", month.month.words[0]));
+    }
+
+    // ---- pages
+
+    pub fn page(&mut self, call: &Printing, random: &mut Random) {
+        let (correct, written) = call.answer();
+        let mut rows = [Lent::holding("cosine", &call.cosine, random), Lent::holding("sine", &call.sine, random)];
+        let mut page = Lent::filled("the page", call.bytes, random);
+        let mut bytes = Lent::<usize>::filled("the bytes", 1, random);
+        page.expect(&written);
+        bytes.expect(&[written.len()]);
+        let number = {
+            let [(cosine, cosine_len), (sine, sine_len)] = rows.each_mut().map(|row| (row.pointer(), row.len()));
+            let sine = if call.same_words { cosine } else { sine };
+            unsafe { mealbis_page(cosine, cosine_len, sine, sine_len, call.length, page.pointer(), page.len(), bytes.pointer()) }
+        };
+
+        let mut found = vec![page.difference(), bytes.difference()];
+        found.extend(rows.iter().map(Lent::difference));
+        if correct == 0 {
+            self.record.page(call.length, [&call.cosine, &call.sine]);
+        }
+        self.record.answer(PAGE, correct, &call.holding());
+        self.end(found, number, correct, || call.to_string());
     }
 
     // ---- the inverse DCT
