@@ -38,8 +38,11 @@ index-fits k N ok h = number-fits k (small k N ok h)
 pub lines-of-31 : LinesOf31
 lines-of-31 = (heading-length, λ k N c s ok h f g. line-length k c s (small k N ok h) f g)
 
--- the first n lines, n being at most as many as there are
-module _ (c s : ℕ → ℤ) (n : ℕ) (few : n ≤ 10000) (f : (k : ℕ) → k < n → SFits w32 (c k)) (g : (k : ℕ) → k < n → SFits w32 (s k)) where
+-- the first lines of n, with coefficients of 32 bits
+abbrev FitBelow : ℕ → (ℕ → ℤ) → Type 0
+FitBelow n c = (k : ℕ) → k < n → SFits w32 (c k)
+
+module _ (c s : ℕ → ℤ) (n : ℕ) (few : n ≤ 10000) (f : FitBelow n c) (g : FitBelow n s) where
   pub lines-length : (k : ℕ) → k ≤ n → length (lines c s k) ≡ 31 * k
   unfolding lines
   lines-length zero h = refl
@@ -97,8 +100,8 @@ line-back k c s d t f g i j e =
     )
 
 -- ---- so are the lines
-module _ (c s d t : ℕ → ℤ) (n : ℕ) (few : n ≤ 10000) (f : (k : ℕ) → k < n → SFits w32 (c k)) (g : (k : ℕ) → k < n → SFits w32 (s k))
-    (i : (k : ℕ) → k < n → SFits w32 (d k)) (j : (k : ℕ) → k < n → SFits w32 (t k)) where
+module _ (c s d t : ℕ → ℤ) (n : ℕ) (few : n ≤ 10000)
+    (f : FitBelow n c) (g : FitBelow n s) (i : FitBelow n d) (j : FitBelow n t) where
   lines-back : (m : ℕ) → m ≤ n → lines c s m ≡ lines d t m → (k : ℕ) → k < m → (c k ≡ d k) × (s k ≡ t k)
   unfolding lines
   lines-back zero h e k l = absurd (omega arith)
