@@ -15,22 +15,19 @@ use mir.Val.{SFits}
 use Rattle.whole.proofs.Cases.{le-or-lt, same-or-not}
 use Rattle.ffct.specs.Block.{isLength, level}
 use Rattle.ffct.specs.Transforms.{spectrumYields}
-use Rattle.ffct.proofs.ElevenLengths.{is-power, length-le}
+use Rattle.ffct.proofs.ElevenLengths.{is-power}
 use Rattle.text.specs.Decimal.{number, decimal}
 use Rattle.text.specs.Lines.{space, lineFeed}
 use Rattle.text.specs.Alignment.{rightAligned}
 use Rattle.text.proofs.Alignment.{aligned-length}
 use Rattle.text.proofs.Reading.{aligned-back}
 use Rattle.pages.specs.Page.{columns, heading, line, lines, page}
-use Rattle.pages.specs.Laws.{CoefficientFits, IndexFits, LinesOf31, Stored, PageLength, ReadsBack}
-use Rattle.pages.proofs.Lines.{number-fits, decimal-fits, heading-length, line-length}
+use Rattle.pages.specs.Laws.{IndexFits, LinesOf31, Stored, PageLength, ReadsBack}
+use Rattle.pages.proofs.Lines.{heading-length, number-fits, coefficient-fits, line-length, few-lines}
 
 -- ---- widths and lengths
-pub coefficient-fits : CoefficientFits
-coefficient-fits c f = decimal-fits c f
-
 small : (k N : ℕ) → isLength N ≡ true → k < spectrumYields N → k < 10000
-small k N ok h = omega (arith, length-le N ok)
+small k N ok h = omega (arith, few-lines N ok)
 
 pub index-fits : IndexFits
 index-fits k N ok h = number-fits k (small k N ok h)
@@ -54,9 +51,6 @@ module _ (c s : ℕ → ℤ) (n : ℕ) (few : n ≤ 10000) (f : FitBelow n c) (g
         line-length k (c k) (s k) (omega arith) (f k h) (g k h),
       )
 
-few-lines : (N : ℕ) → isLength N ≡ true → spectrumYields N ≤ 10000
-few-lines N ok = omega (arith, length-le N ok)
-
 pub page-length : PageLength
 unfolding page
 page-length N c s ok f g =
@@ -64,7 +58,7 @@ page-length N c s ok f g =
       arith,
       length-append heading (lines c s (spectrumYields N)),
       heading-length,
-      lines-length c s (spectrumYields N) (few-lines N ok) f g (spectrumYields N) (omega arith),
+      lines-length c s (spectrumYields N) (omega (arith, few-lines N ok)) f g (spectrumYields N) (omega arith),
     )
 
 -- ---- two texts of one length, each with one behind it
@@ -86,7 +80,7 @@ unfolding columns
 in-parts k c s = simp append-assoc
 
 same-width : (x y : ℤ) → SFits w32 x → SFits w32 y → length (rightAligned 12 (decimal x)) ≡ length (rightAligned 12 (decimal y))
-same-width x y f g = aligned-length 12 (decimal x) (decimal-fits x f) ∙ sym (aligned-length 12 (decimal y) (decimal-fits y g))
+same-width x y f g = aligned-length 12 (decimal x) (coefficient-fits x f) ∙ sym (aligned-length 12 (decimal y) (coefficient-fits y g))
 
 line-back : (k : ℕ) (c s d t : ℤ) → SFits w32 c → SFits w32 s → SFits w32 d → SFits w32 t → line k c s ≡ line k d t → (c ≡ d) × (s ≡ t)
 line-back k c s d t f g i j e =
@@ -95,8 +89,8 @@ line-back k c s d t f g i j e =
     let behind = same-parts {a = index} {b = index} (behindIndex c s) (behindIndex d t) refl same .1 in
     let (ofCosine, rest) = same-parts (behindCosine s) (behindCosine t) (same-width c d f i) (ap (drop 1) behind) in
     let (ofSine, _) = same-parts lineFeed lineFeed (same-width s t g j) (ap (drop 1) rest) in (
-      aligned-back 12 c d (decimal-fits c f) (decimal-fits d i) ofCosine,
-      aligned-back 12 s t (decimal-fits s g) (decimal-fits t j) ofSine,
+      aligned-back 12 c d (coefficient-fits c f) (coefficient-fits d i) ofCosine,
+      aligned-back 12 s t (coefficient-fits s g) (coefficient-fits t j) ofSine,
     )
 
 -- ---- so are the lines
@@ -136,4 +130,4 @@ reads-back N M c s d t a b f g i j e =
     let lines-same : lines c s (spectrumYields N) ≡ lines d t (spectrumYields N) = rw (← same) at below in
     let i′ : Stored N d = rw (← same) at i in
     let j′ : Stored N t = rw (← same) at j in
-    (same, lines-back c s d t (spectrumYields N) (few-lines N a) f g i′ j′ (spectrumYields N) (omega arith) lines-same)
+    (same, lines-back c s d t (spectrumYields N) (omega (arith, few-lines N a)) f g i′ j′ (spectrumYields N) (omega arith) lines-same)

@@ -1,4 +1,5 @@
 -- Lines of a page: how wide they are, and the runs of `put_line` and `put_page`. Assumes nothing.
+use mathlib.Core.Bool.{true}
 use mathlib.Core.Path.{_≡_, refl}
 use mathlib.Core.List.{List, [], _∷_, _++_, append-assoc}
 use Prim.Native.Nat.{ℕ, _+_, _*_, _≤_, _<_}
@@ -11,6 +12,9 @@ use mir.Val.{SFits, toZ}
 use mir.Facts.{toZ-ofZ, toZ-pos}
 use Rattle.words.specs.Put.{Put}
 use Rattle.words.proofs.Putting.{put-none, _then_}
+use Rattle.ffct.specs.Block.{isLength}
+use Rattle.ffct.specs.Transforms.{spectrumYields}
+use Rattle.ffct.proofs.ElevenLengths.{length-le}
 use Rattle.text.specs.Decimal.{number, decimal}
 use Rattle.text.specs.Lines.{space, lineFeed}
 use Rattle.text.specs.Alignment.{rightAligned}
@@ -18,6 +22,7 @@ use Rattle.text.proofs.Spelling.{number-length, decimal-length}
 use Rattle.text.proofs.Runs.{held}
 use Rattle.text.proofs.Alignment.{aligned-length, column-length}
 use Rattle.pages.specs.Page.{columns, heading, line, lines}
+use Rattle.pages.specs.Laws.{CoefficientFits}
 
 -- ---- widths
 columns-length : (k c s : List ℕ) → length k ≤ 4 → length c ≤ 12 → length s ≤ 12 → length (columns k c s) ≡ 31
@@ -31,15 +36,19 @@ heading-length = columns-length _ _ _ (omega arith) (omega arith) (omega arith)
 pub number-fits : (k : ℕ) → k < 10000 → length (number k) ≤ 4
 number-fits k h = number-length 3 k h
 
-pub decimal-fits : (x : ℤ) → SFits w32 x → length (decimal x) ≤ 12
-decimal-fits x f = omega (arith, decimal-length x f)
+pub coefficient-fits : CoefficientFits
+coefficient-fits x f = omega (arith, decimal-length x f)
 
 pub line-length : (k : ℕ) (c s : ℤ) → k < 10000 → SFits w32 c → SFits w32 s → length (line k c s) ≡ 31
-line-length k c s h f g = columns-length _ _ _ (number-fits k h) (decimal-fits c f) (decimal-fits s g)
+line-length k c s h f g = columns-length _ _ _ (number-fits k h) (coefficient-fits c f) (coefficient-fits s g)
+
+-- the lines of the longest block
+pub few-lines : (N : ℕ) → isLength N ≡ true → spectrumYields N ≤ 513
+few-lines N ok = omega (arith, length-le N ok)
 
 -- ---- a run of `put_line`: the columns of k, of the cosine and of the sine, and what ends each
 pub held-fits : (x : ℤ) → SFits w32 x → length (decimal (held x)) ≤ 12
-held-fits x f = rw (toZ-ofZ f) (decimal-fits x f)
+held-fits x f = rw (toZ-ofZ f) (coefficient-fits x f)
 
 abbrev column : ℤ → List ℕ → List ℕ
 column x end = rightAligned 12 (decimal (held x)) ++ end

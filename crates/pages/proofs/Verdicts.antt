@@ -11,13 +11,13 @@ use Rattle.words.specs.Words.{word}
 use Rattle.words.specs.Put.{Put}
 use Rattle.ffct.specs.Block.{isLength}
 use Rattle.ffct.specs.Transforms.{spectrumYields}
-use Rattle.ffct.proofs.ElevenLengths.{length-le}
 use Rattle.refusals.specs.Refusals.{someBelow}
 use Rattle.refusals.proofs.Conditions.{two-below}
 use Rattle.refusals.proofs.Promises.{turned-down, carried-out}
 use Rattle.pages.specs.declared.PageAnswer.the-variants.{BadLength, TooFewStored, PageTooShort, Printed}
 use Rattle.pages.specs.Page.{heading, lines, page, pageVerdict}
 use Rattle.pages.specs.Promises.{PagePromise}
+use Rattle.pages.proofs.Lines.{few-lines}
 
 module _ (cs ss : List ℤ) (buffer : List ℕ) (N : ℕ) (ok : Bool) (is : ok ≡ isLength N) where
   pub bad-length : not ok ≡ true → PagePromise cs ss N buffer buffer BadLength
@@ -25,8 +25,11 @@ module _ (cs ss : List ℤ) (buffer : List ℕ) (N : ℕ) (ok : Bool) (is : ok �
   bad-length h = turned-down refl (omega arith) (rw (← is, h))
 
   module _ (good : not ok ≡ false) where
-    pub few-lines : N / 2 + 1 ≤ 513
-    few-lines = omega (arith, length-le N (sym is ∙ not-false ok good))
+    length-ok : isLength N ≡ true
+    length-ok = sym is ∙ not-false ok good
+
+    pub few : N / 2 + 1 ≤ 513
+    few = few-lines N length-ok
 
     module _ (fewest : ℕ) (least : fewest ≡ min (length cs) (length ss)) where
       counted : someBelow (spectrumYields N) (length cs ∷ length ss ∷ []) ≡ someBelow (spectrumYields N) (fewest ∷ [])
@@ -47,4 +50,4 @@ module _ (cs ss : List ℤ) (buffer : List ℕ) (N : ℕ) (ok : Bool) (is : ok �
         unfolding pageVerdict page
         printed room (put, all) =
             carried-out refl (rw (← is, good, counted, le-ltb _ _ enough, le-ltb _ _ room))
-            (record { printed = put; bytes-is = all; length-ok = sym is ∙ not-false ok good })
+            (record { printed = put; bytes-is = all; length-ok = length-ok })

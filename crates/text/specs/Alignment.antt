@@ -3,6 +3,7 @@ use mathlib.Core.List.{List, _++_}
 use Prim.Native.Nat.{ℕ, _-_}
 use lib.ListN.{length, replicate}
 
+-- so many spaces (32)
 abbrev pub spaces : ℕ → List ℕ
 spaces n = replicate n 32
 
