@@ -16,12 +16,12 @@ use lib.ListN.{length}
 use Rattle.whole.proofs.Size.{within-size}
 use Rattle.words.specs.Words.{Samples, word, Written}
 use Rattle.words.proofs.Writing.{front, past, written-same}
-use Rattle.ffct.specs.Block.{AcceptedBlock, largestSum, level}
+use Rattle.lengths.specs.Block.{AcceptedBlock, largestSum, level}
 use Rattle.ffct.specs.Transforms.{cosineDft, sineDft, dct, spectrum}
 use Rattle.ffct.proofs.Blocks.{Same, dft-same, dct-same}
 use Rattle.ffct.proofs.Counts.{FewOperations, few-operations}
 use Rattle.ffct.proofs.Sizes.{accepted-inner, dft-size, dct-within}
-use Rattle.ffct.proofs.ElevenLengths.{is-power, as-len, level-le, length-le}
+use Rattle.lengths.proofs.ElevenLengths.{is-power, as-len, level-le, length-le}
 use Rattle.counts.specs.declared.tally.Tally.{Tally}
 use Rattle.counts.specs.Tally.{none, TalliedAs}
 use Rattle.transforms.specs.Pairs.{paired}

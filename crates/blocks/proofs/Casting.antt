@@ -11,7 +11,7 @@ use mir.Facts.{sfits-widen}
 use Rattle.whole.proofs.Size.{size-within, within-add, within-sub, within-fits}
 use Rattle.whole.proofs.Words as Words
 use Rattle.whole.proofs.Words.{Word, asked, made, narrows, narrowed}
-use Rattle.ffct.specs.Block.{largestSum}
+use Rattle.lengths.specs.Block.{largestSum}
 
 -- a word that is read
 module _ (z : ℤ) (h : natAbs z ≤ largestSum + 257) where

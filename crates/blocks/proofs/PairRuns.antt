@@ -7,10 +7,10 @@ use lib.IntN.{ℤ, pos, _+ℤ_, _-ℤ_}
 use lib.ListN.{length}
 use Rattle.words.specs.Words.{Samples}
 use Rattle.words.proofs.Writing.{written-same}
-use Rattle.ffct.specs.Block.{level}
+use Rattle.lengths.specs.Block.{level}
 use Rattle.ffct.specs.Transforms.{cosineBeyond, sineBeyond, sineDft, spectrum, pair}
-use Rattle.ffct.proofs.Lengths.{pow-len}
-use Rattle.ffct.proofs.ElevenLengths.{is-power, length-pos, length-le, half}
+use Rattle.lengths.proofs.Lengths.{pow-len}
+use Rattle.lengths.proofs.ElevenLengths.{is-power, length-pos, length-le, half}
 use Rattle.ffct.proofs.Blocks.{sine-first, sine-last, cosine-beyond-same, sine-beyond-same}
 use Rattle.counts.specs.declared.tally.Tally.{Tally}
 use Rattle.counts.specs.Tally.{none}

@@ -7,7 +7,7 @@ use Prim.Native.Nat.{ℕ, _+_, _*_, _/_, _≤_, _<_}
 use lib.IntN.{ℤ, pos, natAbs}
 use lib.ListN.{length}
 use Rattle.words.specs.Words.{Samples, word, Written}
-use Rattle.ffct.specs.Block.{largestSample, isLength, level}
+use Rattle.lengths.specs.Block.{largestSample, isLength, level}
 use Rattle.ffct.specs.Transforms.{Transform, Spectrum, PairSpectrum, spectrum as spectrumOf}
 use Rattle.counts.specs.declared.tally.Tally.{Tally}
 use Rattle.counts.specs.Tally.{Tallied, HasRoom}

@@ -7,7 +7,7 @@ use lib.Dec.{eqb}
 use lib.IntN.{ℤ, pos, natAbs, _+ℤ_, _-ℤ_}
 use lib.ListN.{length}
 use Rattle.words.specs.Words.{Samples, word, Written, TwoPut}
-use Rattle.ffct.specs.Block.{largestSum}
+use Rattle.lengths.specs.Block.{largestSum}
 use Rattle.ffct.specs.Transforms.{cosineBeyond, sineBeyond}
 use Rattle.counts.specs.declared.tally.Tally.{Tally}
 use Rattle.counts.specs.Tally.{Summed, HasRoom}

@@ -6,7 +6,7 @@ ghost use Prim.Native.Nat.{ℕ, _+_, _/_, _≤_, _<_};
 ghost use lib.IntN.{pos, natAbs};
 ghost use lib.ListN.{length};
 ghost use Rattle.words.specs.Words.{word, Written, TwoPut};
-ghost use Rattle.ffct.specs.Block.{isLength, largestSum};
+ghost use Rattle.lengths.specs.Block.{isLength, largestSum};
 ghost use Rattle.blocks.specs.Buffers.{wordsFrom, inPairs, SumReady, SumPut, PartsReady, PartsPut};
 
 // The block at the front of w.

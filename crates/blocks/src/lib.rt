@@ -15,7 +15,7 @@ use transforms::sine_dft;
 ghost use Prim.Native.Nat.{_+_, _/_, _≤_};
 ghost use lib.ListN.{length};
 ghost use Rattle.words.specs.Words.{word};
-ghost use Rattle.ffct.specs.Block.{level};
+ghost use Rattle.lengths.specs.Block.{level};
 ghost use Rattle.ffct.specs.Transforms.{dct as dctOf, spectrum as spectrumOf, pair as pairOf};
 ghost use Rattle.circle.specs.Circle.{IsQuarterWave};
 ghost use Rattle.blocks.specs.Blocks.{Workable, DftsReady, DftsMade, SpectrumMade, CosineMade, PairMade};

@@ -6,12 +6,12 @@ use Prim.Native.Nat.{ℕ, suc, _+_, _-_, _*_, _/_, _^_, _≤_, _<_}
 use native.Mathlib.Omega.{arith}
 use lib.IntN.{pos}
 use Rattle.words.specs.Words.{Samples}
-use Rattle.ffct.specs.Block.{topLevel, isLength, level}
+use Rattle.lengths.specs.Block.{topLevel, isLength, level}
 use Rattle.ffct.specs.Transforms.{evens, foldedSums, foldedDifferences, rearranged, cosineDft, sineDft, dct, spectrum, pair}
-use Rattle.ffct.proofs.Lengths.{len, pow-len, len-injective}
+use Rattle.lengths.proofs.Lengths.{len, pow-len, len-injective}
 use Rattle.ffct.proofs.Steps.{cosine-products, cosine-sums, sine-products, sine-sums, dct-products, dct-sums}
 use Rattle.ffct.proofs.Counts.{few-operations, published}
-use Rattle.ffct.proofs.ElevenLengths.{is-power, one-level, some-level, exponent-lt}
+use Rattle.lengths.proofs.ElevenLengths.{is-power, one-level, some-level, exponent-lt}
 use Rattle.counts.specs.Counts.{Costs, LevelCosts, SixCounts, SixPublished}
 use Rattle.counts.specs.declared.cost.Cost.{Cost}
 use Rattle.counts.specs.declared.Level.{Level}

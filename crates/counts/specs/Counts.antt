@@ -3,7 +3,7 @@ use mathlib.Core.Path.{_≡_}
 use Prim.Native.Nat.{ℕ, suc, _^_, _≤_}
 use lib.IntN.{pos}
 use Rattle.words.specs.Words.{Samples}
-use Rattle.ffct.specs.Block.{level}
+use Rattle.lengths.specs.Block.{level}
 use Rattle.ffct.specs.Transforms.{Transform, cosineDft, sineDft, dct, spectrum, pair}
 use Rattle.ffct.specs.Counts.{dctProducts, dctSums, spectrumProducts, spectrumSums, pairProducts, pairSums}
 use Rattle.counts.specs.declared.cost.Cost.{Cost}

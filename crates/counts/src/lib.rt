@@ -7,7 +7,7 @@ use cost::plus;
 ghost use mathlib.Core.Bool.{true};
 ghost use mathlib.Core.Path.{_≡_};
 ghost use Prim.Native.Nat.{_+_, _-_, _*_, _/_, _^_, _≤_};
-ghost use Rattle.ffct.specs.Block.{isLength, level};
+ghost use Rattle.lengths.specs.Block.{isLength, level};
 ghost use Rattle.counts.specs.Counts.{LevelCosts, SixCounts};
 
 // The counts of one level: of the cosine-DFT and the sine-DFT of n samples, and of the DCT of n / 2.

@@ -16,7 +16,7 @@ use Rattle.words.specs.Words.{Samples}
 use Rattle.ffct.specs.Transforms.{evens, foldedSums, foldedDifferences, alternate, rearranged}
 use Rattle.ffct.specs.Transforms.{cosineBeyond, sineBeyond, dctBeyond, apart, unrounded, rotated, rotationRest}
 use Rattle.ffct.specs.Transforms.{dctBy, cosineDft, sineDft, dct, spectrum, pair}
-use Rattle.ffct.proofs.Lengths.{len, pow-len, len-pos}
+use Rattle.lengths.proofs.Lengths.{len, pow-len, len-pos}
 use Rattle.ffct.proofs.Steps.{sine-step, cosine-low, cosine-high, sine-low, sine-high, dct-low, dct-middle, dct-high}
 use Rattle.ffct.proofs.Steps.{rearranged-source, rotated-zero, rotated-some, unrounded-low, unrounded-middle, unrounded-high}
 

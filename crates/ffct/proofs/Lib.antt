@@ -1,7 +1,5 @@
 pub mod Examples
-pub mod Lengths
 pub mod Alternate
-pub mod ElevenLengths
 pub mod Steps
 pub mod Sums
 pub mod Splits

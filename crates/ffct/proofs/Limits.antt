@@ -11,11 +11,11 @@ use Rattle.whole.proofs.Difference.{int}
 use Rattle.whole.proofs.Size.{size-within, within-size}
 use Rattle.circle.specs.Circle.{B}
 use Rattle.words.specs.Words.{Samples}
-use Rattle.ffct.specs.Block.{topLevel, largestSample, AcceptedBlock}
+use Rattle.lengths.specs.Block.{topLevel, largestSample, AcceptedBlock}
 use Rattle.ffct.specs.Exact.{Limit, eighth, quarterOfNext, quarter, Within}
 use Rattle.ffct.specs.Transforms.{cosineBeyond, sineBeyond, cosineDft, sineDft, dct, spectrum, pair}
 use Rattle.ffct.specs.Limits.{Limits, PairLimits}
-use Rattle.ffct.proofs.Lengths.{len, pow-len, per, len-per}
+use Rattle.lengths.proofs.Lengths.{len, pow-len, per, len-per}
 use Rattle.ffct.proofs.Steps.{cosine-low, sine-low}
 use Rattle.ffct.proofs.Sums.{cosSum, sinSum, cos-exact, sin-exact, dct-exact, real-exact, imaginary-exact}
 use Rattle.ffct.proofs.Near.{Near, Bounded, near-neg, near-add, cosine-beyond, sine-beyond}

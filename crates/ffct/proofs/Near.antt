@@ -23,7 +23,7 @@ use Rattle.circle.proofs.Stored.{at-entry}
 use Rattle.words.specs.Words.{Samples}
 use Rattle.ffct.specs.Transforms.{evens, foldedSums, foldedDifferences, alternate, rearranged}
 use Rattle.ffct.specs.Transforms.{cosineBeyond, sineBeyond, dctBeyond, apart, rotated, cosineDft, sineDft, dct}
-use Rattle.ffct.proofs.Lengths.{len}
+use Rattle.lengths.proofs.Lengths.{len}
 use Rattle.ffct.proofs.Steps.{cosine-low, cosine-high, sine-low, sine-high, dct-low, dct-middle, dct-high, rearranged-source}
 use Rattle.ffct.proofs.Steps.{rotated-zero, rotated-some, unrounded-low, unrounded-middle, unrounded-high}
 use Rattle.ffct.proofs.Steps.{cosine-step, sine-step, dct-step, dct-one}

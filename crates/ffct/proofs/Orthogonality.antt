@@ -22,11 +22,11 @@ use Rattle.circle.specs.Laws.{additionError}
 use Rattle.circle.proofs.Places.{mirror, opposite, turns-on, half-turn-on}
 use Rattle.circle.proofs.Wave.{K-within, K-start}
 use Rattle.words.specs.Words.{Samples}
-use Rattle.ffct.specs.Block.{topLevel}
+use Rattle.lengths.specs.Block.{topLevel}
 use Rattle.ffct.specs.Exact.{exactDct}
 use Rattle.ffct.specs.Transforms.{apart}
 use Rattle.ffct.specs.Orthogonality.{cosineProduct, orthogonalError, Orthogonal, exactInverse, Inverts}
-use Rattle.ffct.proofs.Lengths.{len, pow-len, per, len-per}
+use Rattle.lengths.proofs.Lengths.{len, pow-len, per, len-per}
 use Rattle.ffct.proofs.Sums.{dct-place, self-negated}
 use Rattle.ffct.proofs.Splits.{near-sum}
 

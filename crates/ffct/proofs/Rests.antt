@@ -11,7 +11,7 @@ use Rattle.words.specs.Words.{Samples}
 use Rattle.ffct.specs.Transforms.{evens, foldedSums, foldedDifferences, rearranged, rotationRest}
 use Rattle.ffct.specs.Transforms.{dctBy, cosineDft, sineDft, dct, spectrum, pair}
 use Rattle.ffct.specs.Limits.{RestLimits}
-use Rattle.ffct.proofs.Lengths.{len}
+use Rattle.lengths.proofs.Lengths.{len}
 use Rattle.ffct.proofs.Steps.{cosine-rest, sine-rest, dct-rest}
 
 rotation-small : (N : ℕ) (C S : ℕ → ℤ) → rotationRest N C S ≤ 2 ^ 29

@@ -22,10 +22,10 @@ use Rattle.circle.specs.Circle.{B, K}
 use Rattle.circle.proofs.Wave.{K-within}
 use Rattle.circle.proofs.Stored.{at-entry}
 use Rattle.words.specs.Words.{Samples}
-use Rattle.ffct.specs.Block.{topLevel, largestSample, AcceptedBlock, largestSum}
+use Rattle.lengths.specs.Block.{topLevel, largestSample, AcceptedBlock, largestSum}
 use Rattle.ffct.specs.Transforms.{cosineBeyond, sineBeyond, cosineDft, sineDft, dct, spectrum, pair}
 use Rattle.ffct.specs.Limits.{CoefficientsFit, PairFits}
-use Rattle.ffct.proofs.Lengths.{len, pow-len, len-pos, per, len-per}
+use Rattle.lengths.proofs.Lengths.{len, pow-len, len-pos, per, len-per}
 use Rattle.ffct.proofs.Steps.{cosine-low, cosine-high, sine-low, sine-high}
 use Rattle.ffct.proofs.Sums.{cos-size, sin-size, dct-size}
 use Rattle.ffct.proofs.Rotation.{coefficient-size}

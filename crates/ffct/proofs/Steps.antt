@@ -13,7 +13,7 @@ use Rattle.words.specs.Words.{Samples}
 use Rattle.ffct.specs.Transforms.{Transform, evens, foldedSums, foldedDifferences, rearranged}
 use Rattle.ffct.specs.Transforms.{cosineBeyond, sineBeyond, dctBeyond, apart, unrounded, rotated, rotationRest}
 use Rattle.ffct.specs.Transforms.{dctBy, cosineDft, sineDft, dct}
-use Rattle.ffct.proofs.Lengths.{len, pow-len, quotient}
+use Rattle.lengths.proofs.Lengths.{len, pow-len, quotient}
 
 -- ---- coefficients out of range
 module _ (N : ℕ) (f : ℕ → ℤ) (k : ℕ) where

@@ -15,7 +15,7 @@ use Rattle.circle.proofs.Places.{mirror, opposite}
 use Rattle.circle.proofs.Wave.{K-within}
 use Rattle.words.specs.Words.{Samples}
 use Rattle.ffct.specs.Exact.{exactCosine, exactSine, exactDct, exactReal, exactImaginary}
-use Rattle.ffct.proofs.Lengths.{quotient}
+use Rattle.lengths.proofs.Lengths.{quotient}
 
 unfoldable pub cosSum : ℕ → ℕ → Samples → ℕ → ℤ
 cosSum w n x k = sum n (λ i. x i *ℤ K (4 * w * i * k))

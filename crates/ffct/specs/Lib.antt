@@ -1,4 +1,3 @@
-pub mod Block
 pub mod Exact
 pub mod Transforms
 pub mod Counts

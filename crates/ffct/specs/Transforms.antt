@@ -162,10 +162,6 @@ spectrum L x =
       largestRest = max (C .largestRest) (S .largestRest);
     }
 
--- it "yields k = 0 .. N/2 for both transforms (only k = 0 at N = 1)": so many coefficients of each
-abbrev pub spectrumYields : ℕ → ℕ
-spectrumYields N = N / 2 + 1
-
 -- ---- Pair, recordings a and b: "real(k) = C_a(k) + S_b(k), imaginary(k) = C_b(k) − S_a(k), with (9), (10) above N/2", for
 -- k = 0 .. N − 1. (22): two sums for each k but k = 0 and k = N/2, where the sine-DFT is zero for every block (at N = 1 there is none:
 -- 2 · (1 − 2) is 0 on natural numbers)

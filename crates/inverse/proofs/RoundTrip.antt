@@ -17,11 +17,11 @@ use Rattle.whole.proofs.Sums.{sum-sub, sum-scaled, sum-within}
 use Rattle.circle.specs.Circle.{B, K}
 use Rattle.circle.specs.Laws.{additionError}
 use Rattle.words.specs.Words.{Samples}
-use Rattle.ffct.specs.Block.{topLevel, largestSample, AcceptedBlock}
+use Rattle.lengths.specs.Block.{topLevel, largestSample, AcceptedBlock}
 use Rattle.ffct.specs.Exact.{exactDct}
 use Rattle.ffct.specs.Orthogonality.{exactInverse}
 use Rattle.ffct.specs.Transforms.{dct}
-use Rattle.ffct.proofs.Lengths.{len, pow-len, per, len-per}
+use Rattle.lengths.proofs.Lengths.{len, pow-len, per, len-per}
 use Rattle.ffct.proofs.Sums.{dct-exact, dct-size}
 use Rattle.ffct.proofs.Rotation.{coefficient-size}
 use Rattle.ffct.proofs.Limits.{limits}

@@ -8,8 +8,8 @@ use lib.IntN.{ℤ, natAbs}
 use Rattle.whole.proofs.Difference.{int}
 use Rattle.whole.proofs.Rounding.{nearest-size}
 use Rattle.whole.proofs.Size.{_within_, size-within, within-int, within-le, within-mul, within-fits}
-use Rattle.ffct.specs.Block.{isLength}
-use Rattle.ffct.proofs.ElevenLengths.{length-le, length-pos}
+use Rattle.lengths.specs.Block.{isLength}
+use Rattle.lengths.proofs.ElevenLengths.{length-le, length-pos}
 use Rattle.ffct.proofs.Orthogonality.{twice-within}
 use Rattle.inverse.specs.Inverse.{inverseSum, inverseDct, largestCoefficient}
 use Rattle.inverse.specs.Laws.{ValuesFit}

@@ -9,7 +9,7 @@ use lib.IntN.{ℤ, pos, natAbs, _+ℤ_, _-ℤ_, _*ℤ_}
 use Rattle.whole.specs.Round.{nearest}
 use Rattle.whole.proofs.Difference.{int}
 use Rattle.words.specs.Words.{word}
-use Rattle.ffct.proofs.ElevenLengths.{length-le, twice-half, divides}
+use Rattle.lengths.proofs.ElevenLengths.{length-le, twice-half, divides}
 use Rattle.inverse.specs.declared.sum.Sum.{Sum}
 use Rattle.inverse.specs.Inverse.{inverseDct}
 use Rattle.inverse.specs.Steps.{held, Small, Joined, SumReady, SumMade, valueOf, ValueReady, TwoReady}

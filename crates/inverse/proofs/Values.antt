@@ -13,7 +13,7 @@ use Rattle.whole.proofs.Size.{near, _within_, size-within, within-int, within-l
 use Rattle.whole.proofs.Floor.{Floor, floor, floor-only}
 use Rattle.whole.proofs.Sums.{sum-cong}
 use Rattle.whole.proofs.Rounding.{by-quotient, nearest-exact}
-use Rattle.ffct.proofs.ElevenLengths.{length-le}
+use Rattle.lengths.proofs.ElevenLengths.{length-le}
 use Rattle.inverse.specs.declared.sum.Sum.{Sum}
 use Rattle.inverse.specs.Inverse.{T°, inverseSum, inverseDct}
 use Rattle.inverse.specs.Steps.{held, ValueReady, valueOf}

@@ -9,7 +9,7 @@ use lib.IntN.{ℤ, natAbs}
 use lib.ListN.{length}
 use borrow.Author.Tests.{lt-ltb, le-ltb, not-false}
 use Rattle.words.specs.Words.{word, Written}
-use Rattle.ffct.specs.Block.{isLength}
+use Rattle.lengths.specs.Block.{isLength}
 use Rattle.refusals.specs.declared.range.Pass.{Pass}
 use Rattle.refusals.specs.declared.range.Pass.the-variants.{None, At}
 use Rattle.refusals.specs.Refusals.{accepted, firstBeyondOr}

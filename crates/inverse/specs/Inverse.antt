@@ -10,7 +10,7 @@ use Rattle.whole.specs.Round.{nearest}
 use Rattle.whole.specs.Sum.{sum}
 use Rattle.words.specs.Words.{word}
 use Rattle.circle.specs.Circle.{T, onCircle}
-use Rattle.ffct.specs.Block.{isLength}
+use Rattle.lengths.specs.Block.{isLength}
 use Rattle.refusals.specs.Refusals.{Verdict, refused, accepted, firstBeyondOr}
 
 -- "T goes round the circle by K's symmetries.": T itself at the places 0 .. 1,024

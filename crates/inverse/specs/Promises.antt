@@ -6,7 +6,7 @@ use mathlib.Core.Path.{_≡_}
 use Prim.Native.Nat.{ℕ, _≤_, _<_}
 use lib.IntN.{ℤ, natAbs}
 use Rattle.words.specs.Words.{word, Written}
-use Rattle.ffct.specs.Block.{isLength}
+use Rattle.lengths.specs.Block.{isLength}
 use Rattle.refusals.specs.Refusals.{Promise}
 use Rattle.inverse.specs.declared.InverseAnswer.{InverseAnswer}
 use Rattle.inverse.specs.Answers.{verdictOf}

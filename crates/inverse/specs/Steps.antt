@@ -10,7 +10,7 @@ use mir.Val.{SFits}
 use Rattle.whole.specs.Round.{nearest}
 use Rattle.whole.specs.Sum.{sum as total}
 use Rattle.words.specs.Words.{word}
-use Rattle.ffct.specs.Block.{isLength}
+use Rattle.lengths.specs.Block.{isLength}
 use Rattle.inverse.specs.declared.sum.Sum.{Sum}
 use Rattle.inverse.specs.Inverse.{T°, inverseDct, largestCoefficient}
 

@@ -3,7 +3,7 @@
 mod sum;
 mod value;
 
-use refusals::length::is_length;
+use lengths::is_length;
 use refusals::range::Pass;
 use refusals::range::first_beyond;
 use value::put_values;

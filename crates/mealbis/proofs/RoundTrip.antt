@@ -8,9 +8,9 @@ use native.Mathlib.Omega.{arith}
 use lib.IntN.{ℤ, natAbs, _-ℤ_}
 use Rattle.words.specs.Words.{Samples, word}
 use Rattle.words.proofs.Writing.{front}
-use Rattle.ffct.specs.Block.{AcceptedBlock, isLength, level}
+use Rattle.lengths.specs.Block.{AcceptedBlock, isLength, level}
 use Rattle.ffct.specs.Transforms.{dct}
-use Rattle.ffct.proofs.ElevenLengths.{is-power, length-pos}
+use Rattle.lengths.proofs.ElevenLengths.{is-power, length-pos}
 use Rattle.refusals.specs.Refusals.{block, accepted}
 use Rattle.refusals.proofs.Calls.{Passes, passes}
 use Rattle.spectra.specs.Answers.{spent}

@@ -11,8 +11,8 @@ use lib.ListN.{length}
 use borrow.Author.Tests.{eqb-true, eqb-false, not-false}
 use Rattle.words.specs.Words.{Samples, word}
 use Rattle.words.proofs.Writing.{front}
-use Rattle.ffct.specs.Block.{isLength}
-use Rattle.ffct.proofs.ElevenLengths.{length-le}
+use Rattle.lengths.specs.Block.{isLength}
+use Rattle.lengths.proofs.ElevenLengths.{length-le}
 use Rattle.counts.specs.declared.tally.Tally.{Tally}
 use Rattle.refusals.specs.Refusals.{block, number}
 use Rattle.refusals.specs.Calls.{Call, tests, verdict}

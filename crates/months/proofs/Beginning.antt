@@ -12,8 +12,8 @@ use mir.Val.{toZ}
 use Rattle.whole.proofs.Difference.{int}
 use Rattle.whole.proofs.Operations.{natural}
 use Rattle.words.specs.Words.{word}
-use Rattle.ffct.specs.Block.{isLength}
-use Rattle.ffct.proofs.ElevenLengths.{length-le}
+use Rattle.lengths.specs.Block.{isLength}
+use Rattle.lengths.proofs.ElevenLengths.{length-le}
 use Rattle.refusals.specs.Refusals.{refused, accepted}
 use Rattle.months.specs.declared.record.BeginAnswer.{BeginAnswer}
 use Rattle.months.specs.declared.record.BeginAnswer.the-variants.{BadLength, Begun}

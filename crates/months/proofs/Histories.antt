@@ -10,7 +10,7 @@ use Rattle.whole.proofs.Ring.{expand}
 use Rattle.whole.proofs.Size.{size-add}
 use Rattle.circle.specs.Circle.{B}
 use Rattle.words.specs.Words.{Samples}
-use Rattle.ffct.specs.Block.{AcceptedBlock, level}
+use Rattle.lengths.specs.Block.{AcceptedBlock, level}
 use Rattle.ffct.specs.Exact.{distance, eighth, Within}
 use Rattle.months.specs.Months.{History, sumOver, AllAccepted, eighths}
 

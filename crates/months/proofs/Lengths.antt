@@ -11,8 +11,8 @@ use lib.Signed.{ltZ}
 use borrow.Author.Tests.{ltb-true}
 use Rattle.whole.proofs.Cases.{same-or-not}
 use Rattle.words.specs.Words.{word}
-use Rattle.ffct.specs.Block.{isLength, level, topLevel}
-use Rattle.ffct.proofs.ElevenLengths.{length-le}
+use Rattle.lengths.specs.Block.{isLength, level, topLevel}
+use Rattle.lengths.proofs.ElevenLengths.{length-le}
 use Rattle.months.specs.Months.{lengthIn, lengthOf}
 
 -- ---- by the number in the word

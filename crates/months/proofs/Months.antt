@@ -10,10 +10,10 @@ use lib.ListN.{length, length-append}
 use lib.Signed.{natAbs-le}
 use borrow.Author.Tests.{le-leb, leb-false}
 use Rattle.words.specs.Words.{Samples}
-use Rattle.ffct.specs.Block.{AcceptedBlock, level}
+use Rattle.lengths.specs.Block.{AcceptedBlock, level}
 use Rattle.ffct.specs.Exact.{Within, eighth, exactCosine, exactSine}
 use Rattle.ffct.specs.Transforms.{cosineDft, sineDft, spectrum}
-use Rattle.ffct.proofs.ElevenLengths.{is-power}
+use Rattle.lengths.proofs.ElevenLengths.{is-power}
 use Rattle.ffct.proofs.Limits.{limits}
 use Rattle.ffct.proofs.Sizes.{coefficients-fit}
 use Rattle.refusals.specs.Refusals.{atMost}

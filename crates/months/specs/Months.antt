@@ -9,7 +9,7 @@ use lib.IntN.{ℤ, pos, negsuc, _+ℤ_}
 use lib.ListN.{length, replicate}
 use lib.Signed.{leZ}
 use Rattle.words.specs.Words.{Samples, word}
-use Rattle.ffct.specs.Block.{AcceptedBlock, isLength, level}
+use Rattle.lengths.specs.Block.{AcceptedBlock, isLength, level}
 use Rattle.ffct.specs.Exact.{exactCosine, exactSine, Limit}
 use Rattle.ffct.specs.Transforms.{spectrum}
 use Rattle.refusals.specs.Refusals.{Verdict, refused, accepted, atMost}

@@ -5,7 +5,7 @@ use mathlib.Core.Path.{_≡_}
 use Prim.Native.Nat.{ℕ}
 use lib.IntN.{ℤ}
 use Rattle.words.specs.Words.{Samples}
-use Rattle.ffct.specs.Block.{isLength, level}
+use Rattle.lengths.specs.Block.{isLength, level}
 use Rattle.ffct.specs.Transforms.{spectrum as spectrumOf}
 use Rattle.refusals.specs.Refusals.{block, refused, accepted, Promise}
 use Rattle.spectra.specs.Promises.{spectrumCall, SpectrumDone}

@@ -1,7 +1,7 @@
 // The record of a month in words that the caller lends (specs/Months.antt has its places). A program in C keeps its months so.
 use counts::tally::NONE;
 use counts::tally::Tally;
-use refusals::length::is_length;
+use lengths::is_length;
 use spectra::Answer;
 use spectra::spectrum;
 ghost use mathlib.Core.Bool.{false};

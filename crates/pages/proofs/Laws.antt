@@ -13,9 +13,8 @@ use lib.Seq.{take-append-seam, drop-append-seam}
 use mir.Syntax.{w32}
 use mir.Val.{SFits}
 use Rattle.whole.proofs.Cases.{le-or-lt, same-or-not}
-use Rattle.ffct.specs.Block.{isLength, level}
-use Rattle.ffct.specs.Transforms.{spectrumYields}
-use Rattle.ffct.proofs.ElevenLengths.{is-power}
+use Rattle.lengths.specs.Block.{isLength, level, spectrumYields}
+use Rattle.lengths.proofs.ElevenLengths.{is-power}
 use Rattle.text.specs.Decimal.{number, decimal}
 use Rattle.text.specs.Lines.{space, lineFeed}
 use Rattle.text.specs.Alignment.{rightAligned}

@@ -12,9 +12,8 @@ use mir.Val.{SFits, toZ}
 use mir.Facts.{toZ-ofZ, toZ-pos}
 use Rattle.words.specs.Put.{Put}
 use Rattle.words.proofs.Putting.{put-none, _then_}
-use Rattle.ffct.specs.Block.{isLength}
-use Rattle.ffct.specs.Transforms.{spectrumYields}
-use Rattle.ffct.proofs.ElevenLengths.{length-le}
+use Rattle.lengths.specs.Block.{isLength, spectrumYields}
+use Rattle.lengths.proofs.ElevenLengths.{length-le}
 use Rattle.text.specs.Decimal.{number, decimal}
 use Rattle.text.specs.Lines.{space, lineFeed}
 use Rattle.text.specs.Alignment.{rightAligned}

@@ -9,8 +9,7 @@ use lib.ListN.{length}
 use borrow.Author.Tests.{lt-ltb, le-ltb, not-false}
 use Rattle.words.specs.Words.{word}
 use Rattle.words.specs.Put.{Put}
-use Rattle.ffct.specs.Block.{isLength}
-use Rattle.ffct.specs.Transforms.{spectrumYields}
+use Rattle.lengths.specs.Block.{isLength, spectrumYields}
 use Rattle.refusals.specs.Refusals.{someBelow}
 use Rattle.refusals.proofs.Conditions.{two-below}
 use Rattle.refusals.proofs.Promises.{turned-down, carried-out}

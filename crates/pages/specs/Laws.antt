@@ -6,8 +6,7 @@ use lib.IntN.{ℤ}
 use lib.ListN.{length}
 use mir.Syntax.{w32}
 use mir.Val.{SFits}
-use Rattle.ffct.specs.Block.{isLength}
-use Rattle.ffct.specs.Transforms.{spectrumYields}
+use Rattle.lengths.specs.Block.{isLength, spectrumYields}
 use Rattle.text.specs.Decimal.{number, decimal}
 use Rattle.pages.specs.Page.{heading, line, page, pageBytes}
 

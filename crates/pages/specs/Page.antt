@@ -5,8 +5,7 @@ use mathlib.Core.List.{List, [], _∷_, _++_}
 use Prim.Native.Nat.{ℕ, zero, suc, _+_, _*_}
 use lib.Dec.{ltb}
 use lib.IntN.{ℤ}
-use Rattle.ffct.specs.Block.{isLength}
-use Rattle.ffct.specs.Transforms.{spectrumYields}
+use Rattle.lengths.specs.Block.{isLength, spectrumYields}
 use Rattle.refusals.specs.Refusals.{Verdict, refused, accepted, someBelow}
 use Rattle.text.specs.Decimal.{number, decimal}
 use Rattle.text.specs.Lines.{space, lineFeed}

@@ -8,7 +8,7 @@ use lib.IntN.{ℤ}
 use lib.ListN.{length}
 use Rattle.words.specs.Words.{word}
 use Rattle.words.specs.Put.{Put}
-use Rattle.ffct.specs.Block.{isLength}
+use Rattle.lengths.specs.Block.{isLength}
 use Rattle.refusals.specs.Refusals.{Promise}
 use Rattle.pages.specs.declared.PageAnswer.{PageAnswer}
 use Rattle.pages.specs.Answers.{verdictOf, bytesOf}

@@ -1,6 +1,6 @@
 // A page for the site binder: a stored spectrum in lines of 30 columns (document 02, (vii)). The call asks nothing of its input: it tests
 // its refusals in their order, before anything is written, and promises its whole outcome (specs/Promises.antt).
-use refusals::length::is_length;
+use lengths::is_length;
 use refusals::length::shorter;
 use text::columns::put_column;
 use text::put;

@@ -10,7 +10,7 @@ use lib.Seq.{drop-at, drop-drop}
 use Rattle.words.specs.Words.{word}
 use Rattle.words.specs.Put.{Put}
 use Rattle.words.proofs.Putting.{_then_}
-use Rattle.ffct.proofs.ElevenLengths.{length-le}
+use Rattle.lengths.proofs.ElevenLengths.{length-le}
 use Rattle.little_endian.specs.Numbers.{AreBytes, signed, unsignedBytes}
 use Rattle.little_endian.proofs.Bytes.{unsigned-back, bytes-behind, four-bytes}
 use Rattle.little_endian.proofs.Signs.{bits-fit, signed-bits}

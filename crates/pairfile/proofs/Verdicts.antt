@@ -13,7 +13,7 @@ use lib.IntN.{ℤ, natAbs}
 use lib.ListN.{length}
 use borrow.Author.Tests.{lt-ltb, le-ltb, ltb-false, eq-eqb, ne-eqb, eqb-true, eqb-false, not-false}
 use Rattle.words.specs.Words.{Samples, Written}
-use Rattle.ffct.specs.Block.{isLength, largestSample}
+use Rattle.lengths.specs.Block.{isLength, largestSample}
 use Rattle.refusals.specs.declared.range.Pass.{Pass}
 use Rattle.refusals.specs.declared.range.Pass.the-variants.{None, At}
 use Rattle.refusals.specs.Refusals.{someBelow, firstOutOr, firstOutIn, refused, accepted}

@@ -11,8 +11,8 @@ use lib.ListN.{length}
 use borrow.Author.Tests.{lt-ltb, le-ltb, ltb-false, eq-eqb, ne-eqb, eqb-true, not-false}
 use Rattle.words.specs.Words.{word}
 use Rattle.words.specs.Put.{Put}
-use Rattle.ffct.specs.Block.{isLength, largestSample}
-use Rattle.ffct.proofs.ElevenLengths.{length-le}
+use Rattle.lengths.specs.Block.{isLength, largestSample}
+use Rattle.lengths.proofs.ElevenLengths.{length-le}
 use Rattle.refusals.specs.declared.range.Pass.{Pass}
 use Rattle.refusals.specs.declared.range.Pass.the-variants.{None, At}
 use Rattle.refusals.specs.Refusals.{firstOutOr, firstOutIn, Verdict, refused, accepted}

@@ -5,7 +5,7 @@ use Prim.Native.Nat.{ℕ, _+_, _*_}
 use lib.Dec.{eqb, ltb}
 use lib.ListN.{length}
 use Rattle.words.specs.Words.{Samples}
-use Rattle.ffct.specs.Block.{isLength}
+use Rattle.lengths.specs.Block.{isLength}
 use Rattle.refusals.specs.Refusals.{someBelow, Verdict, refused, accepted, firstOutIn}
 use Rattle.little_endian.specs.Numbers.{unsigned, signed}
 

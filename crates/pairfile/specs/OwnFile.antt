@@ -6,7 +6,7 @@ use lib.Dec.{eqb, ltb}
 use lib.IntN.{ℤ}
 use lib.ListN.{length}
 use Rattle.words.specs.Words.{word}
-use Rattle.ffct.specs.Block.{isLength}
+use Rattle.lengths.specs.Block.{isLength}
 use Rattle.refusals.specs.Refusals.{Verdict, refused, accepted, firstOutIn}
 use Rattle.little_endian.specs.Numbers.{unsignedBytes, signedBytes}
 use Rattle.pairfile.specs.File.{badCount, fileBytes}

@@ -8,7 +8,7 @@ use lib.IntN.{ℤ, natAbs}
 use lib.ListN.{length}
 use Rattle.words.specs.Words.{Samples, word, Written}
 use Rattle.words.specs.Put.{Put}
-use Rattle.ffct.specs.Block.{isLength, largestSample}
+use Rattle.lengths.specs.Block.{isLength, largestSample}
 use Rattle.refusals.specs.Refusals.{Promise}
 use Rattle.pairfile.specs.declared.reader.FileAnswer.{FileAnswer}
 use Rattle.pairfile.specs.declared.writer.WriteAnswer.{WriteAnswer}

@@ -1,15 +1,15 @@
 // The reader of the pair file.
 use crate::count::bad_count;
+use lengths::is_length;
 use little_endian::signed_at;
 use little_endian::unsigned_at;
-use refusals::length::is_length;
 use refusals::range::Pass;
 use refusals::range::in_range;
 ghost use mathlib.Core.Path.{_≡_};
 ghost use Prim.Native.Nat.{_+_, _*_, _≤_};
 ghost use lib.ListN.{length};
 ghost use Rattle.words.specs.Words.{Written};
-ghost use Rattle.ffct.specs.Block.{largestSample};
+ghost use Rattle.lengths.specs.Block.{largestSample};
 ghost use Rattle.refusals.specs.Refusals.{number};
 ghost use Rattle.refusals.specs.Passes.{OnePass};
 ghost use Rattle.pairfile.specs.File.{samplesAt};

@@ -1,8 +1,8 @@
 // The writer of the pair file: our own pair files (document 02, (ii)).
 use crate::count::bad_count;
+use lengths::is_length;
 use little_endian::put_signed;
 use little_endian::put_unsigned;
-use refusals::length::is_length;
 use refusals::range::Pass;
 use refusals::range::first_out;
 ghost use mathlib.Core.List.{flatMap};

@@ -9,7 +9,7 @@ use native.Mathlib.Omega.{arith}
 use lib.Dec.{ltb}
 use borrow.Author.Tests.{le-ltb, ltb-false, not-false}
 use Rattle.words.specs.Words.{Samples}
-use Rattle.ffct.specs.Block.{isLength}
+use Rattle.lengths.specs.Block.{isLength}
 use Rattle.refusals.specs.Refusals.{someBelow, scratchWords, Verdict, number, firstOutIn, accepted, Promise}
 use Rattle.refusals.specs.declared.call.Refusal.{Refusal}
 use Rattle.refusals.specs.declared.call.Refusal.the-variants.{BadLength, BeyondRecording, ResultTooShort, ScratchTooShort}

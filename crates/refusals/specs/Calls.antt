@@ -4,7 +4,7 @@ use mathlib.Core.List.{List, [], _∷_}
 use Prim.Native.Nat.{ℕ, _+_}
 use lib.Dec.{ltb}
 use Rattle.words.specs.Words.{Samples}
-use Rattle.ffct.specs.Block.{isLength}
+use Rattle.lengths.specs.Block.{isLength}
 use Rattle.refusals.specs.Refusals.{someBelow, scratchWords, Verdict, refused, accepted, firstOutIn}
 
 -- a call on recordings: the lengths of its recordings and their samples; the block; the lengths of its result buffers, and the words that

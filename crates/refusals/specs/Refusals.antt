@@ -7,7 +7,7 @@ use Prim.Native.Nat.{ℕ, zero, suc, _+_, _*_}
 use lib.Dec.{leb, ltb}
 use lib.IntN.{ℤ, natAbs}
 use Rattle.words.specs.Words.{Samples, word}
-use Rattle.ffct.specs.Block.{largestSample}
+use Rattle.lengths.specs.Block.{largestSample}
 
 -- ---- 1: "N is not one of the eleven lengths": `isLength` of the definitions of blocks
 

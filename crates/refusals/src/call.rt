@@ -1,9 +1,9 @@
 // The tests of a call on recordings, which every such call makes before it writes anything.
-use crate::length::is_length;
 use crate::length::reaches_beyond;
 use crate::length::scratch_words;
 use crate::range::Pass;
 use crate::range::first_out;
+use lengths::is_length;
 ghost use mathlib.Core.Path.{_≡_};
 ghost use Prim.Native.Nat.{_≤_};
 ghost use lib.ListN.{length as List·length};

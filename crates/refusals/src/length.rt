@@ -1,19 +1,8 @@
-// Lengths of blocks and of what is lent.
+// Lengths of what is lent.
 ghost use mathlib.Core.Path.{_≡_};
 ghost use Prim.Native.Nat.{_+_, min, _≤_};
 ghost use lib.Dec.{ltb};
-ghost use Rattle.ffct.specs.Block.{isLength};
 ghost use Rattle.refusals.specs.Refusals.{scratchWords};
-
-// Whether n is one of the eleven lengths 1, 2, 4 .. 1,024: a power of two has one binary digit that is 1.
-pub fn is_length(n: usize) -> bool
-    ensures { λ r. ⌜ r ≡ isLength n ⌝ }
-{
-    if 1024 < n {
-        return false;
-    }
-    usize::count_ones(n) == 1
-}
 
 // Whether start + n exceeds len; the sum itself might not fit a word.
 pub fn reaches_beyond(start: usize, n: usize, len: usize) -> bool

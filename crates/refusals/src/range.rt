@@ -3,7 +3,7 @@ ghost use mathlib.Core.Path.{_≡_};
 ghost use Prim.Native.Nat.{_+_, _^_, _≤_, _<_};
 ghost use lib.ListN.{length};
 ghost use Rattle.words.specs.Words.{word};
-ghost use Rattle.ffct.specs.Block.{largestSample};
+ghost use Rattle.lengths.specs.Block.{largestSample};
 ghost use Rattle.refusals.specs.Refusals.{atMost, inRange};
 ghost use Rattle.refusals.specs.Passes.{OnePass};
 

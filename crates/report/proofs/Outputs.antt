@@ -9,9 +9,9 @@ use lib.IntN.{ℤ}
 use lib.ListN.{length, take}
 use Rattle.words.specs.Words.{Samples, word}
 use Rattle.words.proofs.Writing.{front}
-use Rattle.ffct.specs.Block.{isLength, level}
-use Rattle.ffct.proofs.Lengths.{pow-len}
-use Rattle.ffct.proofs.ElevenLengths.{is-power, length-le}
+use Rattle.lengths.specs.Block.{isLength, level}
+use Rattle.lengths.proofs.Lengths.{pow-len}
+use Rattle.lengths.proofs.ElevenLengths.{is-power, length-le}
 use Rattle.ffct.proofs.Blocks.{pair-same}
 use Rattle.refusals.specs.Refusals.{Verdict, refused, refusedAt, accepted, number}
 use Rattle.words.specs.Put.{Put}

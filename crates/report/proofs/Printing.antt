@@ -13,9 +13,9 @@ use lib.Pow.{pow-pos}
 use mir.Syntax.{w64}
 use mir.Val.{Fits}
 use Rattle.words.specs.Words.{Samples, word}
-use Rattle.ffct.specs.Block.{isLength, level}
+use Rattle.lengths.specs.Block.{isLength, level}
 use Rattle.ffct.specs.Transforms.{pair as pairOf}
-use Rattle.ffct.proofs.ElevenLengths.{is-power}
+use Rattle.lengths.proofs.ElevenLengths.{is-power}
 use Rattle.refusals.specs.Refusals.{block, accepted}
 use Rattle.refusals.proofs.Calls.{is-accepted}
 use Rattle.spectra.specs.declared.Answer.{Answer}

@@ -4,7 +4,7 @@ use mathlib.Core.Path.{_≡_}
 use Prim.Native.Nat.{ℕ, zero, suc, _+_, _*_, _/_}
 use lib.ListN.{take}
 use Rattle.words.specs.Words.{Samples}
-use Rattle.ffct.specs.Block.{level}
+use Rattle.lengths.specs.Block.{level}
 use Rattle.ffct.specs.Transforms.{PairSpectrum, pair}
 use Rattle.refusals.specs.Refusals.{Verdict, refused, refusedAt, accepted}
 use Rattle.text.specs.Lines.{heading, refusal, lines}

@@ -6,7 +6,7 @@ use Prim.Native.Nat.{ℕ, _+_, _≤_, _<_}
 use lib.IntN.{ℤ, natAbs}
 use lib.ListN.{length}
 use Rattle.words.specs.Words.{word}
-use Rattle.ffct.specs.Block.{isLength, largestSample}
+use Rattle.lengths.specs.Block.{isLength, largestSample}
 use Rattle.refusals.specs.Refusals.{scratchWords}
 use Rattle.words.specs.Put.{Put}
 use Rattle.report.specs.Output.{output}

@@ -13,7 +13,7 @@ ghost use mathlib.Core.Path.{_≡_};
 ghost use Prim.Native.Nat.{_+_, _*_, _/_, _≤_, _<_};
 ghost use lib.ListN.{length};
 ghost use Rattle.words.specs.Words.{Samples, word};
-ghost use Rattle.ffct.specs.Block.{isLength, level};
+ghost use Rattle.lengths.specs.Block.{isLength, level};
 ghost use Rattle.ffct.specs.Transforms.{pair as pairOf};
 ghost use Rattle.report.specs.Output.{linesAt, spectra};
 ghost use Rattle.report.specs.Puts.{Printable, PutFrom, OutputPut};

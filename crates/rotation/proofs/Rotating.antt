@@ -12,7 +12,7 @@ use Rattle.whole.proofs.Largest.{both-ends, largest-none, largest-more, largest
 use Rattle.words.proofs.Writing.{Ends, ends-none, ends-both, ends-two}
 use Rattle.circle.specs.Circle.{T}
 use Rattle.ffct.specs.Transforms.{unrounded, rotated, rotationRest}
-use Rattle.ffct.proofs.ElevenLengths.{twice-half, divides}
+use Rattle.lengths.proofs.ElevenLengths.{twice-half, divides}
 use Rattle.ffct.proofs.Steps.{rotated-zero, rotated-some, unrounded-low, unrounded-middle, unrounded-high}
 use Rattle.counts.specs.declared.tally.Tally.{Tally}
 use Rattle.counts.specs.Tally.{Tallied}

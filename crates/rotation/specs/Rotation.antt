@@ -9,7 +9,7 @@ use lib.ListN.{length}
 use Rattle.whole.specs.Round.{round, restSize}
 use Rattle.words.specs.Words.{word, Written, TwoPut}
 use Rattle.circle.specs.Circle.{T}
-use Rattle.ffct.specs.Block.{isLength, largestSum}
+use Rattle.lengths.specs.Block.{isLength, largestSum}
 use Rattle.ffct.specs.Transforms.{rotated, rotationRest}
 use Rattle.counts.specs.declared.tally.Tally.{Tally}
 use Rattle.counts.specs.Tally.{Tallied, HasRoom}

@@ -9,7 +9,7 @@ ghost use Prim.Native.Nat.{_+_, _*_, _/_, _^_, _≤_};
 ghost use mathlib.Core.Path.{_≡_};
 ghost use lib.IntN.{natAbs};
 ghost use Rattle.circle.specs.Circle.{IsQuarterWave};
-ghost use Rattle.ffct.specs.Block.{largestSum};
+ghost use Rattle.lengths.specs.Block.{largestSum};
 ghost use Rattle.rotation.specs.Rotation.{PairRotated, MiddleRotated};
 ghost use Rattle.rotation.specs.Rotation.{PairReady, PairPut, SingleReady, SinglePut, RotationReady, Rotated};
 

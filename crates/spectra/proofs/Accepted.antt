@@ -10,9 +10,9 @@ use lib.ListN.{length, take, drop, length-drop, List·getD-append}
 use lib.Seq.{length-take-le, length-front, getD-take, getD-drop, getD-append-add}
 use Rattle.words.specs.Words.{word, Written}
 use Rattle.words.proofs.Writing.{front}
-use Rattle.ffct.specs.Block.{AcceptedBlock, isLength, level, largestSample}
+use Rattle.lengths.specs.Block.{AcceptedBlock, isLength, level, largestSample}
 use Rattle.ffct.specs.Transforms.{dct, spectrum, pair}
-use Rattle.ffct.proofs.ElevenLengths.{is-power, as-len, some-level, one-level}
+use Rattle.lengths.proofs.ElevenLengths.{is-power, as-len, some-level, one-level}
 use Rattle.ffct.proofs.Blocks.{Same, dct-same, spectrum-same, pair-same}
 use Rattle.ffct.proofs.Counts.{published}
 use Rattle.ffct.proofs.Limits.{limits, pair-limits}

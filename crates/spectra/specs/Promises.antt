@@ -7,9 +7,9 @@ use Prim.Native.Nat.{ℕ, _+_, _/_, _≤_, _<_}
 use lib.IntN.{ℤ, pos}
 use lib.ListN.{length}
 use Rattle.words.specs.Words.{Samples, word, Written}
-use Rattle.ffct.specs.Block.{AcceptedBlock, isLength, level}
+use Rattle.lengths.specs.Block.{AcceptedBlock, isLength, level, spectrumYields}
 use Rattle.ffct.specs.Exact.{exactCosine, exactSine, exactDct, exactReal, exactImaginary, eighth, quarterOfNext, quarter, Within}
-use Rattle.ffct.specs.Transforms.{dct as dctOf, spectrum as spectrumOf, spectrumYields, pair as pairOf}
+use Rattle.ffct.specs.Transforms.{dct as dctOf, spectrum as spectrumOf, pair as pairOf}
 use Rattle.ffct.specs.Counts.{dctProducts, dctSums, spectrumProducts, spectrumSums, pairProducts, pairSums}
 use Rattle.counts.specs.declared.tally.Tally.{Tally}
 use Rattle.counts.specs.Counts.{SixCounts, SixPublished}

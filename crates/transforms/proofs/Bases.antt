@@ -17,11 +17,11 @@ use Rattle.words.specs.Words.{Samples, word, Written}
 use Rattle.words.proofs.Writing.{ends-none, written-one, written-more, written-same}
 use Rattle.words.proofs.Parts.{part, part-at}
 use Rattle.circle.specs.Circle.{T}
-use Rattle.ffct.specs.Block.{level, largestSum}
+use Rattle.lengths.specs.Block.{level, largestSum}
 use Rattle.ffct.specs.Transforms.{Transform, dctBy, cosineDft, sineDft, dct, alternate, foldedDifferences, rearranged}
 use Rattle.ffct.specs.Transforms.{unrounded, rotated, rotationRest}
-use Rattle.ffct.proofs.Lengths.{len, len-pos}
-use Rattle.ffct.proofs.ElevenLengths.{as-len}
+use Rattle.lengths.proofs.Lengths.{len, len-pos}
+use Rattle.lengths.proofs.ElevenLengths.{as-len}
 use Rattle.counts.specs.declared.tally.Tally.{Tally}
 use Rattle.counts.specs.Tally.{Tallied, TalliedAs, Summed}
 use Rattle.transforms.specs.Pairs.{paired}

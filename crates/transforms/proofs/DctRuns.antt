@@ -13,10 +13,10 @@ use native.Mathlib.Omega.{arith}
 use lib.IntN.{ℤ}
 use Rattle.whole.proofs.Size.{within-size}
 use Rattle.words.specs.Words.{Samples, word}
-use Rattle.ffct.specs.Block.{isLength, level}
+use Rattle.lengths.specs.Block.{isLength, level}
 use Rattle.ffct.specs.Transforms.{Transform, rearranged, rotated, rotationRest, cosineDft, sineDft, dct}
-use Rattle.ffct.proofs.Lengths.{len, per, len-per}
-use Rattle.ffct.proofs.ElevenLengths.{as-len, level-le, Half, half, quarter}
+use Rattle.lengths.proofs.Lengths.{len, per, len-per}
+use Rattle.lengths.proofs.ElevenLengths.{as-len, level-le, Half, half, quarter}
 use Rattle.ffct.proofs.Sizes.{dft-size}
 use Rattle.ffct.proofs.Blocks.{Same, dft-same, rotated-same, rotation-rest-same}
 use Rattle.ffct.proofs.Steps.{dct-step, dct-products, dct-sums, dct-rest}

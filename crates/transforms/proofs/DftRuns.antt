@@ -18,10 +18,10 @@ use lib.ListN.{length}
 use Rattle.whole.proofs.Size.{within-size, size-add, within-sub, size-within}
 use Rattle.words.specs.Words.{Samples, word}
 use Rattle.words.proofs.Parts.{part, back, part-length, part-at}
-use Rattle.ffct.specs.Block.{isLength, level, largestSum}
+use Rattle.lengths.specs.Block.{isLength, level, largestSum}
 use Rattle.ffct.specs.Transforms.{Transform, evens, foldedSums, foldedDifferences, alternate, cosineDft, sineDft, dct}
-use Rattle.ffct.proofs.Lengths.{len}
-use Rattle.ffct.proofs.ElevenLengths.{as-len, half, Quarter, quarter}
+use Rattle.lengths.proofs.Lengths.{len}
+use Rattle.lengths.proofs.ElevenLengths.{as-len, half, Quarter, quarter}
 use Rattle.ffct.proofs.Near.{alternate-within, apart-le}
 use Rattle.ffct.proofs.Sizes.{Inner, dft-size, dct-within}
 use Rattle.ffct.proofs.Blocks.{Same, dft-same, dct-same, sine-first, sine-last, cosine-beyond-same, sine-beyond-same, dct-beyond-same}

@@ -17,7 +17,7 @@ use Rattle.whole.proofs.Words.{held}
 use Rattle.whole.proofs.Operations.{Computes}
 use Rattle.words.specs.Words.{Samples, word, Written}
 use Rattle.words.proofs.Writing.{Ends, ends-more}
-use Rattle.ffct.specs.Block.{largestSum}
+use Rattle.lengths.specs.Block.{largestSum}
 use Rattle.ffct.specs.Transforms.{foldedDifferences}
 use Rattle.ffct.proofs.Sizes.{added}
 use Rattle.ffct.proofs.Alternate.{alternate-even, alternate-turned}

@@ -10,10 +10,10 @@ use lib.IntN.{ℤ, natAbs}
 use lib.ListN.{length}
 use Rattle.words.specs.Words.{Samples, word}
 use Rattle.words.proofs.Parts.{part, back, back-length, back-front, back-at}
-use Rattle.ffct.specs.Block.{level, largestSum}
+use Rattle.lengths.specs.Block.{level, largestSum}
 use Rattle.ffct.specs.Transforms.{Transform}
-use Rattle.ffct.proofs.Lengths.{len}
-use Rattle.ffct.proofs.ElevenLengths.{as-len, level-le, length-pos, next-length}
+use Rattle.lengths.proofs.Lengths.{len}
+use Rattle.lengths.proofs.ElevenLengths.{as-len, level-le, length-pos, next-length}
 use Rattle.ffct.proofs.Sizes.{Inner, share-inner}
 use Rattle.counts.specs.declared.tally.Tally.{Tally}
 use Rattle.transforms.specs.Steps.{Ready, Gives, DftReady, DftDone, DctReady, DctDone}

@@ -8,7 +8,7 @@ use Prim.Native.Nat.{ℕ, _+_, _-_, _*_, _/_, _≤_, _<_, min}
 use lib.IntN.{ℤ, natAbs, _+ℤ_, _-ℤ_}
 use lib.ListN.{length}
 use Rattle.words.specs.Words.{Samples, word, Written}
-use Rattle.ffct.specs.Block.{isLength, level, largestSum}
+use Rattle.lengths.specs.Block.{isLength, level, largestSum}
 use Rattle.ffct.specs.Transforms.{Transform, dct, cosineBeyond, sineBeyond, dctBeyond, apart}
 use Rattle.counts.specs.declared.tally.Tally.{Tally}
 use Rattle.counts.specs.Tally.{TalliedAs, Summed, HasRoom}

@@ -2,7 +2,7 @@
 use mathlib.Core.Path.{refl, sym}
 use borrow.Author.Needs.{needs}
 use Rattle.ffct.specs.Transforms.{dctBy, cosineDft, sineDft, dct, spectrum, pair}
-use Rattle.ffct.proofs.ElevenLengths.{one-level, from-two, trailing, some-level, level-le, is-power}
+use Rattle.lengths.proofs.ElevenLengths.{one-level, from-two, trailing, some-level, level-le, is-power}
 use Rattle.counts.proofs.counts_of.Statement.{statement}
 use Rattle.counts.proofs.counts_of.Tie as tie
 

@@ -4,7 +4,7 @@ use Prim.Native.Nat.{_+_, _*_, _≤_}
 use native.Mathlib.Omega.{arith}
 use borrow.Author.Needs.{needs}
 use borrow.Author.Tests.{not-false}
-use Rattle.ffct.proofs.ElevenLengths.{length-le}
+use Rattle.lengths.proofs.ElevenLengths.{length-le}
 use Rattle.inverse.specs.Inverse.{largestCoefficient}
 use Rattle.inverse.proofs.Verdicts.{bad-length, too-few, too-short, beyond-limit, Accepted, all-within}
 use Rattle.inverse.proofs.inverse_dct.Statement.{statement}

@@ -2,7 +2,7 @@
 use mathlib.Core.Path.{refl}
 use native.Mathlib.Omega.{arith}
 use borrow.Author.Needs.{needs}
-use Rattle.ffct.proofs.ElevenLengths.{length-le}
+use Rattle.lengths.proofs.ElevenLengths.{length-le}
 use Rattle.refusals.specs.Refusals.{accepted}
 use Rattle.refusals.specs.Calls.{Call}
 use Rattle.refusals.specs.Tests.{Tells}

@@ -4,7 +4,7 @@ use mathlib.Core.Bool.{true}
 use native.Mathlib.Omega.{arith}
 use borrow.Author.Needs.{needs}
 use borrow.Author.Tests.{not-true, not-false}
-use Rattle.ffct.specs.Block.{isLength}
+use Rattle.lengths.specs.Block.{isLength}
 use Rattle.counts.proofs.Costs.{six-published}
 use Rattle.refusals.specs.Refusals.{number}
 use Rattle.spectra.proofs.count_query.Statement.{statement}

@@ -2,7 +2,7 @@
 use mathlib.Core.Path.{refl, sym, _∙_}
 use mathlib.Core.Bool.{false≢true}
 use borrow.Author.Needs.{needs}
-use Rattle.ffct.specs.Block.{isLength}
+use Rattle.lengths.specs.Block.{isLength}
 use Rattle.spectra.proofs.counts_at.Statement.{statement}
 use Rattle.spectra.proofs.counts_at.Tie as tie
 

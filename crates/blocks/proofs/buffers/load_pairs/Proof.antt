@@ -7,7 +7,7 @@ use lib.ListN.{length-set}
 use borrow.Author.Needs.{needs}
 use Rattle.words.specs.Words.{word}
 use Rattle.words.proofs.Writing.{Ends, ends-none, ends-front, ends-all, written-one}
-use Rattle.ffct.proofs.ElevenLengths.{length-pos, half}
+use Rattle.lengths.proofs.ElevenLengths.{length-pos, half}
 use Rattle.blocks.specs.Buffers.{inPairs}
 use Rattle.whole.proofs.Words.{read-widens, read-widened}
 use Rattle.blocks.proofs.Pairing.{pairs-even, pairs-odd}

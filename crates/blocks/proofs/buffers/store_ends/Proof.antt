@@ -8,7 +8,7 @@ use lib.ListN.{length-set}
 use borrow.Author.Needs.{needs}
 use Rattle.words.specs.Words.{word}
 use Rattle.words.proofs.Writing.{two-put}
-use Rattle.ffct.specs.Block.{largestSum}
+use Rattle.lengths.specs.Block.{largestSum}
 use Rattle.blocks.specs.Buffers.{wordsFrom}
 use Rattle.blocks.proofs.Casting.{coefficient-narrows, coefficient-narrowed}
 use Rattle.blocks.proofs.buffers.store_ends.Statement.{statement}

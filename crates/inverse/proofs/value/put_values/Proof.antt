@@ -10,7 +10,7 @@ use mir.Facts.{toZ-ofZ}
 use borrow.Author.Needs.{needs, sfits-of}
 use Rattle.words.specs.Words.{word}
 use Rattle.words.proofs.Writing.{Ends, ends-none, ends-turn, ends-all, written-one}
-use Rattle.ffct.proofs.ElevenLengths.{from-two, twice-half}
+use Rattle.lengths.proofs.ElevenLengths.{from-two, twice-half}
 use Rattle.inverse.specs.Inverse.{inverseDct}
 use Rattle.inverse.proofs.Values.{value-one}
 use Rattle.inverse.proofs.value.put_values.Statement.{statement}

@@ -13,7 +13,7 @@ use Rattle.whole.proofs.Difference.{int}
 use Rattle.whole.proofs.Size.{within-fits}
 use Rattle.whole.proofs.Words.{Word, word, asked, made, shifted, narrows, narrowed, done}
 use Rattle.whole.proofs.Operations.{natural}
-use Rattle.ffct.proofs.ElevenLengths.{is-power, level-le, trailing, length-le, twice-half}
+use Rattle.lengths.proofs.ElevenLengths.{is-power, level-le, trailing, length-le, twice-half}
 use Rattle.inverse.specs.Steps.{held, valueOf}
 use Rattle.inverse.proofs.Adding.{high-word, low-word}
 use Rattle.inverse.proofs.Values.{quotient, twice-small, less-small, quotient-small, sum-small, value-is}

@@ -4,8 +4,8 @@ use mathlib.Core.Bool.{true, false}
 use native.Mathlib.Omega.{arith}
 use borrow.Author.Needs.{needs}
 use borrow.Author.Tests.{not-true, not-false}
-use Rattle.ffct.specs.Block.{isLength}
-use Rattle.ffct.proofs.ElevenLengths.{length-le}
+use Rattle.lengths.specs.Block.{isLength}
+use Rattle.lengths.proofs.ElevenLengths.{length-le}
 use Rattle.months.proofs.Beginning.{begun, not-begun}
 use Rattle.months.proofs.record.begin_in.Statement.{statement}
 use Rattle.months.proofs.record.begin_in.Tie as tie

@@ -10,7 +10,7 @@ use mir.Facts.{toZ-ofZ, fits-natAbs}
 use borrow.Author.Needs.{needs, sfits-of}
 use Rattle.whole.proofs.Words.{not-negative}
 use Rattle.words.specs.Words.{word}
-use Rattle.ffct.specs.Block.{isLength}
+use Rattle.lengths.specs.Block.{isLength}
 use Rattle.months.proofs.Lengths.{length-negative, length-good, length-bad}
 use Rattle.months.proofs.record.length_of.Statement.{statement}
 use Rattle.months.proofs.record.length_of.Tie as tie

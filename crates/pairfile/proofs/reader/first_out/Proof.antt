@@ -4,7 +4,7 @@ use Prim.Native.Nat.{_-_, _≤_}
 use native.Mathlib.Omega.{arith}
 use mir.Facts.{toZ-ofZ}
 use borrow.Author.Needs.{needs, sfits-of}
-use Rattle.ffct.specs.Block.{largestSample}
+use Rattle.lengths.specs.Block.{largestSample}
 use Rattle.refusals.specs.Refusals.{inRange}
 use Rattle.refusals.proofs.Passes.{Looked, looked-none, looked-on, looked-out, looked-all}
 use Rattle.pairfile.specs.File.{samplesAt}

@@ -6,8 +6,8 @@ use native.Mathlib.Omega.{arith}
 use borrow.Author.Needs.{needs}
 use borrow.Author.Tests.{ltb-false, lt-ltb, le-ltb, not-false}
 use Rattle.words.specs.Words.{Samples}
-use Rattle.ffct.specs.Block.{isLength, largestSample}
-use Rattle.ffct.proofs.ElevenLengths.{length-le}
+use Rattle.lengths.specs.Block.{isLength, largestSample}
+use Rattle.lengths.proofs.ElevenLengths.{length-le}
 use Rattle.refusals.specs.declared.range.Pass.{Pass}
 use Rattle.refusals.specs.declared.range.Pass.the-variants.{None, At}
 use Rattle.refusals.specs.Refusals.{scratchWords, Verdict, refused, refusedAt, firstOutOr}

@@ -3,7 +3,7 @@ use mathlib.Core.Path.{refl}
 use native.Mathlib.Omega.{arith}
 use borrow.Author.Needs.{needs}
 use Rattle.whole.proofs.Words.{held}
-use Rattle.ffct.proofs.ElevenLengths.{length-pos}
+use Rattle.lengths.proofs.ElevenLengths.{length-pos}
 use Rattle.transforms.proofs.Bases.{cosine-one}
 use Rattle.transforms.proofs.Levels.{dft-branch, dft-branch-done}
 use Rattle.transforms.proofs.short.cosine_short.Statement.{statement}

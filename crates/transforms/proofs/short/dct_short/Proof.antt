@@ -1,7 +1,7 @@
 -- `transforms::short::dct_short` meets its contract: each branch has one length. Assumes nothing.
 use native.Mathlib.Omega.{arith}
 use borrow.Author.Needs.{needs}
-use Rattle.ffct.proofs.ElevenLengths.{length-pos}
+use Rattle.lengths.proofs.ElevenLengths.{length-pos}
 use Rattle.transforms.proofs.Bases.{dct-one}
 use Rattle.transforms.proofs.Levels.{dct-branch, dct-branch-done}
 use Rattle.transforms.proofs.short.dct_short.Statement.{statement}

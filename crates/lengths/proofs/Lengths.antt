@@ -4,7 +4,7 @@ use mathlib.Core.Path.{_≡_, refl, _∙_, ap}
 use Prim.Native.Nat.{ℕ, zero, suc, _+_, _*_, _-_, _/_, _^_, _≤_, _<_}
 use native.Mathlib.Nat.{pow-succ', mul-div-cancel-left}
 use native.Mathlib.Omega.{arith}
-use Rattle.ffct.specs.Block.{topLevel}
+use Rattle.lengths.specs.Block.{topLevel}
 
 abbrev pub len : ℕ → ℕ
 len zero = 1

@@ -12,8 +12,8 @@ use lib.Dec.{T, eqb, leb, ltb, eqb→eq, leb→le}
 use lib.Pow.{pow-pos, pow-mono}
 use borrow.Author.Tests.{eqb-true, le-ltb}
 use Rattle.whole.proofs.Cases.{both, both-left, both-right, below, below-at, le-or-lt}
-use Rattle.ffct.specs.Block.{lengths, topLevel, oneOf, isLength, level}
-use Rattle.ffct.proofs.Lengths.{len, pow-len, len-pos, per, len-per, quotient}
+use Rattle.lengths.specs.Block.{lengths, topLevel, oneOf, isLength, level}
+use Rattle.lengths.proofs.Lengths.{len, pow-len, len-pos, per, len-per, quotient}
 
 -- ---- a test of every number of a list, and what it says of one of them
 every : (ℕ → Bool) → List ℕ → Bool

@@ -1,7 +1,7 @@
 -- Document 01, "What the logger computes": blocks.
 use mathlib.Core.Bool.{Bool, false, cond, _||_}
 use mathlib.Core.List.{List, [], _∷_}
-use Prim.Native.Nat.{ℕ, suc, _^_, _<_, _≤_}
+use Prim.Native.Nat.{ℕ, suc, _+_, _/_, _^_, _<_, _≤_}
 use lib.Dec.{eqb}
 use lib.IntN.{natAbs}
 use Rattle.words.specs.Words.{Samples}
@@ -28,6 +28,10 @@ placeIn N (m ∷ ms) = cond (eqb N m) 0 (suc (placeIn N ms))
 
 unfoldable pub level : ℕ → ℕ
 level N = placeIn N lengths
+
+-- "Spectrum yields k = 0 .. N/2 for both transforms (only k = 0 at N = 1)": so many coefficients of each
+abbrev pub spectrumYields : ℕ → ℕ
+spectrumYields N = N / 2 + 1
 
 -- "A sample x(n) is a whole number .., −1,000,000 to 1,000,000."
 abbrev pub largestSample : ℕ
