@@ -7,7 +7,7 @@ use buffers::load;
 use buffers::load_pairs;
 use buffers::store;
 use circle::quarter_wave;
-use counts::tally::NONE;
+use counts::tally::EMPTY;
 use counts::tally::Tally;
 use transforms::cosine_dft;
 use transforms::dct;
@@ -47,7 +47,7 @@ pub fn spectrum_of(block: &[i32], cosine: &mut [i32], sine: &mut [i32], w: &mut 
 {
     let n = block.len();
     let wave = quarter_wave();
-    let spent = both_dfts(&wave, block, n, w, n, NONE);
+    let spent = both_dfts(&wave, block, n, w, n, EMPTY);
     store(w, n, cosine, n / 2 + 1);
     store(w, n + n / 2 + 1, sine, n / 2 + 1);
     clear(w);
@@ -64,7 +64,7 @@ pub fn cosine_of(block: &[i32], coefficients: &mut [i32], w: &mut [i64]) -> Tall
     let n = block.len();
     let wave = quarter_wave();
     load(block, w);
-    let spent = dct(&wave, w, n, NONE);
+    let spent = dct(&wave, w, n, EMPTY);
     store(w, 0, coefficients, n);
     clear(w);
     spent
@@ -87,7 +87,7 @@ pub fn pair_of(
 {
     let n = a.len();
     let wave = quarter_wave();
-    let of_a = both_dfts(&wave, a, n, w, n, NONE);
+    let of_a = both_dfts(&wave, a, n, w, n, EMPTY);
     let of_b = both_dfts(&wave, b, n, w, n + 2 * (n / 2 + 1), of_a);
     let spent = join_parts(w, n, real, imaginary, n, of_b);
     clear(w);

@@ -7,7 +7,7 @@ pub struct Tally {
 }
 
 // Nothing made yet.
-pub const NONE: Tally = Tally {
+pub const EMPTY: Tally = Tally {
     products: 0,
     sums: 0,
     largest_rest: 0,

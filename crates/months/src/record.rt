@@ -1,5 +1,5 @@
 // The record of a month in words that the caller lends (specs/Months.antt has its places). A program in C keeps its months so.
-use counts::tally::NONE;
+use counts::tally::EMPTY;
 use counts::tally::Tally;
 use lengths::is_length;
 use spectra::Answer;
@@ -223,8 +223,8 @@ pub fn spent_of(answer: AddAnswer) -> Tally
         × (r .«largest_rest» ≡ spent answer .«largest_rest») ⌝ }
 {
     match answer {
-        AddAnswer::OtherLength => NONE,
-        AddAnswer::Full => NONE,
+        AddAnswer::OtherLength => EMPTY,
+        AddAnswer::Full => EMPTY,
         AddAnswer::Spectrum(answer) => spectra::spent_of(answer),
     }
 }

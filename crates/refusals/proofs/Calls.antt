@@ -1,25 +1,23 @@
--- The tests of a call: what is known of a call that passes them, and back; those on several recordings, from those on the first; and the
--- promise of a call that they turn down.
+-- The tests of a call: what is known of a call that passes them, and back; those on several recordings, from those on the first; the
+-- promise of a call that they turn down; and the same of a stored block.
 -- Assumes nothing.
 use mathlib.Core.Path.{_≡_, refl, subst, _∙_}
 use mathlib.Core.Bool.{Bool, true, false, not, cond}
 use mathlib.Core.List.{List, [], _∷_}
-use Prim.Native.Nat.{ℕ, _+_, _≤_, _<_}
-use native.Mathlib.Omega.{arith}
+use Prim.Native.Nat.{ℕ, _+_, min, _≤_}
 use lib.Dec.{ltb}
 use borrow.Author.Tests.{le-ltb, ltb-false, not-false}
 use Rattle.words.specs.Words.{Samples}
 use Rattle.lengths.specs.Block.{isLength}
-use Rattle.refusals.specs.Refusals.{someBelow, scratchWords, Verdict, number, firstOutIn, accepted, Promise}
-use Rattle.refusals.specs.declared.call.Refusal.{Refusal}
-use Rattle.refusals.specs.declared.call.Refusal.the-variants.{BadLength, BeyondRecording, ResultTooShort, ScratchTooShort}
-use Rattle.refusals.specs.declared.call.Refusal.the-variants.{AllowanceTooSmall, OutOfRange}
-use Rattle.refusals.specs.declared.call.Tested.{Tested}
-use Rattle.refusals.specs.declared.call.Tested.the-variants.{Refused, Passed}
-use Rattle.refusals.specs.Calls.{Call, tests, oneRecording}
-use Rattle.refusals.specs.Tests.{verdictOf, outcome, Tells}
+use Rattle.refusals.specs.Refusals.{someBelow, scratchWords, Verdict, firstOutIn, accepted, Promise}
+use Rattle.refusals.specs.declared.refusal.Refusal.{Refusal}
+use Rattle.refusals.specs.declared.refusal.Outcome.{Outcome}
+use Rattle.refusals.specs.declared.refusal.Outcome.the-variants.{Refused, Accepted}
+use Rattle.refusals.specs.Answers.{verdictOf, behind}
+use Rattle.refusals.specs.Calls.{Call, tests, storedTests, oneRecording}
+use Rattle.refusals.specs.Tests.{Tells}
 use Rattle.refusals.proofs.Promises.{turned-down, past-test}
-use Rattle.refusals.proofs.Conditions.{AllReach, all-reach, reach-all, AllIn, in-verdict, past-in}
+use Rattle.refusals.proofs.Conditions.{AllReach, all-reach, reach-all, two-below, AllIn, in-verdict, past-in}
 
 -- ---- a call that passes its tests
 pub record Passes (call : Call) : Type 0 where
@@ -33,11 +31,11 @@ pub record Passes (call : Call) : Type 0 where
 pub passes : (call : Call) → tests call accepted ≡ accepted → Passes call
 unfolding tests
 passes call e =
-    let (good, past-1) = past-test (not (isLength (call .N))) e (omega arith) in
-    let (inside, past-2) = past-test (someBelow (call .start + call .N) (call .lengths)) past-1 (omega arith) in
-    let (room, past-3) = past-test (someBelow (call .yields) (call .results)) past-2 (omega arith) in
-    let (words, past-4) = past-test (ltb (call .scratch) (scratchWords (call .N))) past-3 (omega arith) in
-    let (allowed, past-5) = past-test (ltb (call .allowance) (call .products)) past-4 (omega arith) in
+    let (good, past-1) = past-test 1 (not (isLength (call .N))) e in
+    let (inside, past-2) = past-test 2 (someBelow (call .start + call .N) (call .lengths)) past-1 in
+    let (room, past-3) = past-test 3 (someBelow (call .yields) (call .results)) past-2 in
+    let (words, past-4) = past-test 4 (ltb (call .scratch) (scratchWords (call .N))) past-3 in
+    let (allowed, past-5) = past-test 5 (ltb (call .allowance) (call .products)) past-4 in
     record {
       length-ok = not-false _ good;
       recordings = reach-all _ (call .lengths) inside;
@@ -61,32 +59,44 @@ of-length : (b : Bool) (u v w : Verdict) → (b ≡ true → v ≡ w) → cond (
 of-length true u v w e = e refl
 of-length false u v w e = refl
 
-module _ (call : Call) {x : Samples} {others : List Samples} (is : call .samples ≡ x ∷ others) {shortest room products : ℕ}
+module _ (call : Call) {x : Samples} {others : List Samples} (is : call .samples ≡ x ∷ others) (shortest room products : ℕ)
     (below : (n : ℕ) → someBelow n (call .lengths) ≡ someBelow n (shortest ∷ []))
     (short : (n : ℕ) → someBelow n (call .results) ≡ someBelow n (room ∷ []))
     (spends : isLength (call .N) ≡ true → products ≡ call .products) where
-  pub by-first : {tested : Tested}
-      → Tells (oneRecording x shortest (call .start) (call .N) (call .allowance) room (call .yields) (call .scratch) products) tested
-      → (rest : Verdict) → tests call rest ≡ outcome tested (firstOutIn others (call .start) (call .N) rest)
+  pub by-first : {tested : Outcome}
+      → Tells (tests (oneRecording x shortest (call .start) (call .N) (call .allowance) room (call .yields) (call .scratch) products)) tested
+      → (rest : Verdict) → tests call rest ≡ behind tested (firstOutIn others (call .start) (call .N) rest)
   unfolding tests
   by-first t rest =
       rw (below (call .start + call .N), short (call .yields), is)
       (of-length (isLength (call .N)) _ _ _ (λ h. rw (spends h)))
       ∙ t .verdict (firstOutIn others (call .start) (call .N) rest)
 
--- ---- what the tests tell of a call: the promise of one that is turned down by them, and the verdict on one that passes
-pub some-number : (refusal : Refusal) → 0 < number (verdictOf refusal)
-some-number BadLength = omega arith
-some-number BeyondRecording = omega arith
-some-number ResultTooShort = omega arith
-some-number ScratchTooShort = omega arith
-some-number AllowanceTooSmall = omega arith
-some-number (OutOfRange place) = omega arith
-
-module _ {call : Call} {tested : Tested} (t : Tells call tested) (rest : Verdict) where
+-- ---- what tests tell: the promise of a call that is turned down by them, and the verdict on one that passes
+module _ {tests : Verdict → Verdict} {tested : Outcome} (t : Tells tests tested) (rest : Verdict) where
   pub refused-by : {Unchanged Done : Type 0} → Unchanged → {refusal : Refusal} → tested ≡ Refused refusal
-      → Promise (verdictOf refusal) (tests call rest) Unchanged Done
-  refused-by u {refusal} e = turned-down u (some-number refusal) (subst (Tells call) e t .verdict rest)
+      → Promise (verdictOf refusal) (tests rest) Unchanged Done
+  refused-by u {refusal} e = turned-down refusal u (subst (Tells tests) e t .verdict rest)
 
-  pub passed-by : tested ≡ Passed → tests call rest ≡ rest
-  passed-by e = subst (Tells call) e t .verdict rest
+  pub passed-by : tested ≡ Accepted → tests rest ≡ rest
+  passed-by e = subst (Tells tests) e t .verdict rest
+
+-- ---- a stored block: what is known where its tests are passed, and that they are passed where it is known; of two kinds of coefficients
+-- the fewer decide
+module _ (N needed : ℕ) where
+  pub stored-passes : (stored : List ℕ) {rest : Verdict} → storedTests N needed stored rest ≡ accepted
+      → (isLength N ≡ true) × AllReach needed stored × (rest ≡ accepted)
+  unfolding storedTests
+  stored-passes stored e =
+      let (good, past-1) = past-test 1 (not (isLength N)) e in
+      let (enough, past-2) = past-test 2 (someBelow needed stored) past-1 in
+      (not-false _ good, reach-all needed stored enough, past-2)
+
+  pub stored-accepted : (stored : List ℕ) (rest : Verdict) → isLength N ≡ true → AllReach needed stored → storedTests N needed stored rest ≡ rest
+  unfolding storedTests
+  stored-accepted stored rest ok h = rw (ok, all-reach needed stored h)
+
+  pub stored-two : (a b : ℕ) {m : ℕ} {tested : Outcome} → m ≡ min a b → Tells (storedTests N needed (m ∷ [])) tested
+      → Tells (storedTests N needed (a ∷ b ∷ [])) tested
+  unfolding storedTests
+  stored-two a b e t = record { verdict = rw (two-below a b e needed) (t .verdict) }

@@ -1,6 +1,6 @@
 -- The conditions of a refusal as tests, and as facts: lengths that reach a number, samples that are in range.
 -- Assumes nothing.
-use mathlib.Core.Path.{_≡_, refl, sym, ap, _∙_}
+use mathlib.Core.Path.{_≡_, refl, sym, _∙_}
 use mathlib.Core.Logic.{_⊎_, inl, inr, ⊎-elim}
 use mathlib.Core.Bool.{Bool, true, false, false≢true, _||_}
 use mathlib.Core.List.{List, [], _∷_}
@@ -14,8 +14,8 @@ use Rattle.lengths.specs.Block.{largestSample}
 use Rattle.refusals.specs.declared.range.Pass.{Pass}
 use Rattle.refusals.specs.declared.range.Pass.the-variants.{None, At}
 use Rattle.refusals.specs.Refusals.{someBelow, firstBeyond, firstBeyondOr, firstOutIn, Verdict, refusedAt, accepted}
-use Rattle.refusals.specs.Refusals.{number as numberOf}
 use Rattle.refusals.specs.Passes.{AllWithin, FirstAt, OnePass}
+use Rattle.refusals.proofs.Promises.{not-both}
 use Rattle.refusals.proofs.Passes.{all-in, first-at}
 use Rattle.refusals.proofs.Ranges.{first-end, first-place, all-within}
 
@@ -68,14 +68,14 @@ module _ (number limit : ℕ) (x : Samples) (s N : ℕ) (rest : Verdict) where
   first-beyond f = rw (first-place limit x s N f, lt-ltb _ (s + N) (f .to))
 
   -- a verdict that accepts has passed the test
-  past-beyond : firstBeyondOr number limit x s N rest ≡ accepted → 0 < number → AllWithin limit x s (s + N) × (rest ≡ accepted)
-  past-beyond e l = ⊎-elim within out (le-or-lt (s + N) (firstBeyond limit x s N))
+  past-beyond : firstBeyondOr number limit x s N rest ≡ accepted → AllWithin limit x s (s + N) × (rest ≡ accepted)
+  past-beyond e = ⊎-elim within out (le-or-lt (s + N) (firstBeyond limit x s N))
     where
       within : s + N ≤ firstBeyond limit x s N → AllWithin limit x s (s + N) × (rest ≡ accepted)
       within h = let all = all-within limit x s N h in (all, sym (none-beyond all) ∙ e)
 
       out : firstBeyond limit x s N < s + N → AllWithin limit x s (s + N) × (rest ≡ accepted)
-      out h = absurd (omega (arith, l, ap numberOf (rw (lt-ltb _ (s + N) h) at e)))
+      out h = absurd (not-both (rw (lt-ltb _ (s + N) h) at e))
 
 -- the same by what a pass has found
 module _ (number : ℕ) (rest : Verdict) {limit : ℕ} {x : Samples} {s N : ℕ} {pass : Pass} (p : OnePass limit x s N pass) where
@@ -99,6 +99,6 @@ module _ (s N : ℕ) (rest : Verdict) where
   pub past-in : (xs : List Samples) → firstOutIn xs s N rest ≡ accepted → AllIn xs s N × (rest ≡ accepted)
   past-in [] e = (tt, e)
   past-in (x ∷ xs) e =
-      let (here, on) = past-beyond 6 _ x s N _ e (omega arith) in
+      let (here, on) = past-beyond 6 _ x s N _ e in
       let (there, end) = past-in xs on in
       ((here, there), end)

@@ -1,4 +1,4 @@
--- The calls on recordings: "Calls on recordings test 1 to 6 in this order."
+-- The tests of the calls on recordings and on stored blocks. "Calls on recordings test 1 to 6 in this order."
 use mathlib.Core.Bool.{not, cond}
 use mathlib.Core.List.{List, [], _∷_}
 use Prim.Native.Nat.{ℕ, _+_}
@@ -36,6 +36,11 @@ tests call rest = cond (not (isLength (call .N))) (refused 1) (testsFromTwo call
 -- "A call is accepted exactly when none of the conditions it tests holds"
 abbrev pub verdict : Call → Verdict
 verdict call = tests call accepted
+
+-- ---- calls on a stored block: "Order: 1, 2 (fewer .. stored ..)", and what comes behind. N is the length of the block, `needed` the
+-- coefficients of each kind that are read, `stored` how many there are of each
+unfoldable pub storedTests : (N needed : ℕ) → (stored : List ℕ) → Verdict → Verdict
+storedTests N needed stored rest = cond (not (isLength N)) (refused 1) (cond (someBelow needed stored) (refused 2) rest)
 
 -- a call on one recording and with one result buffer; of several recordings it has the first, and of several lengths the shortest
 abbrev pub oneRecording : Samples → (shortest start N allowance room yields scratch products : ℕ) → Call

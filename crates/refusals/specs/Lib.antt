@@ -1,4 +1,5 @@
 pub mod Refusals
+pub mod Answers
 pub mod Passes
 pub mod Calls
 pub mod Tests

@@ -1,5 +1,5 @@
 -- Document 01, "When a call is turned down": the conditions 1 to 6, on lengths and samples, in their order; and what a call promises of its
--- verdict. The order itself is in Calls, of the calls on recordings; in the crate inverse; and in pairfile, of a file and of its writer.
+-- verdict. The order itself is in Calls, of the calls on recordings and on stored blocks; and where a call has tests of its own, in its crate.
 use mathlib.Core.Bool.{Bool, false, cond, _||_}
 use mathlib.Core.List.{List, [], _∷_}
 use mathlib.Core.Path.{_≡_}
@@ -36,17 +36,24 @@ firstBeyond limit x i (suc d) = cond (atMost limit (x i)) (firstBeyond limit x (
 abbrev pub inRange : ℤ → Bool
 inRange z = atMost largestSample z
 
--- ---- the verdict: the number of the first condition that holds, for 6 with "the place in the recording"
+-- ---- the verdict: a call is accepted, or turned down with the number of the first condition that holds and, for 6 and 10, the place of the
+-- first number out of range
 pub data Verdict : Type 0 where
-  refused : (number : ℕ) → Verdict
   refusedAt : (number place : ℕ) → Verdict
   accepted : Verdict
 
+-- where a condition has no place, 0 is told
+abbrev pub refused : ℕ → Verdict
+refused number = refusedAt number 0
+
 -- the number returned; 0 says that a call is accepted
 abbrev pub number : Verdict → ℕ
-number (refused n) = n
-number (refusedAt n place) = n
+number (refusedAt n i) = n
 number accepted = 0
+
+abbrev pub place : Verdict → ℕ
+place (refusedAt n i) = i
+place accepted = 0
 
 -- a refusal with the place of the first number beyond a limit, and then the rest
 abbrev pub firstBeyondOr : (number limit : ℕ) → Samples → ℕ → ℕ → Verdict → Verdict

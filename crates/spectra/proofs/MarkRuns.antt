@@ -15,21 +15,22 @@ use borrow.Author.Tests.{ltb-false}
 use Rattle.words.specs.Words.{word}
 use Rattle.words.proofs.Writing.{front}
 use Rattle.counts.specs.declared.tally.Tally.{Tally}
-use Rattle.refusals.specs.Refusals.{block, number}
-use Rattle.refusals.specs.Calls.{Call, verdict}
-use Rattle.refusals.specs.declared.call.Refusal.{Refusal}
-use Rattle.refusals.specs.declared.call.Tested.{Tested}
-use Rattle.refusals.specs.declared.call.Tested.the-variants.{Refused as TestRefused, Passed}
+use Rattle.refusals.specs.Refusals.{block}
+use Rattle.refusals.specs.Calls.{Call, tests, verdict}
+use Rattle.refusals.specs.declared.refusal.Refusal.{Refusal}
+use Rattle.refusals.specs.declared.refusal.Refusal.the-variants.{BadFigures}
+use Rattle.refusals.specs.declared.refusal.Outcome.{Outcome}
+use Rattle.refusals.specs.declared.refusal.Outcome.the-variants.{Refused as TestRefused, Accepted}
 use Rattle.refusals.specs.Tests.{Tells}
 use Rattle.refusals.proofs.Conditions.{none-of}
-use Rattle.refusals.proofs.Promises.{turned-down, carried-out}
-use Rattle.refusals.proofs.Calls.{passes, some-number, refused-by, passed-by}
+use Rattle.refusals.proofs.Promises.{refuses, turned-down, carried-out}
+use Rattle.refusals.proofs.Calls.{passes, refused-by, passed-by}
 use Rattle.spectra.specs.declared.Answer.{Answer}
 use Rattle.spectra.specs.declared.Answer.the-variants.{Refused, Done}
 use Rattle.spectra.specs.declared.marks.Mark.{Mark}
-use Rattle.spectra.specs.declared.marks.MarkAnswer.the-variants.{Refused as MarkRefused, BadFigures, Marked}
+use Rattle.spectra.specs.declared.marks.MarkAnswer.the-variants.{Refused as MarkRefused, Marked}
 use Rattle.spectra.specs.Marks.{mark, badFigures, markVerdict}
-use Rattle.spectra.specs.Promises.{spectrumCall, SpectrumPromise, MarkPromise}
+use Rattle.spectra.specs.Promises.{Buffers, spectrumCall, SpectrumPromise, MarkPromise}
 use Rattle.spectra.proofs.MarkRules.{mark-same}
 
 -- ---- figures that are accepted
@@ -55,38 +56,36 @@ figures f c e =
     record { flat-limit = natural f 0 not-negative .0; clip-level = clip-level; clip-some = clip-some }
 
 -- ---- a run
-module _ (r : List ℤ) (start N allowance : ℕ) (flatLimit clipLevel : ℤ) (cosine sine scratch : List ℤ) where
+module _ (r : List ℤ) (start N allowance : ℕ) (flatLimit clipLevel : ℤ) (lent : Buffers) where
   abbrev call : Call
-  call = spectrumCall r start N allowance cosine sine scratch
+  call = spectrumCall r start N allowance lent
 
-  module _ {tested : Tested} (t : Tells call tested) where
+  module _ {tested : Outcome} (t : Tells (tests call) tested) where
     pub tests-refused : {refusal : Refusal} → tested ≡ TestRefused refusal
-        → MarkPromise r start N allowance flatLimit clipLevel cosine sine scratch cosine sine scratch (MarkRefused refusal)
-    tests-refused e = refused-by t _ (refl, refl, refl) e
+        → MarkPromise r start N allowance flatLimit clipLevel lent lent (MarkRefused refusal)
+    tests-refused e = refused-by t _ refl e
 
-    pub figures-refused : badFigures flatLimit clipLevel ≡ true → tested ≡ Passed
-        → MarkPromise r start N allowance flatLimit clipLevel cosine sine scratch cosine sine scratch BadFigures
-    figures-refused bad e = turned-down (refl, refl, refl) (omega arith) (passed-by t _ e ∙ rw bad)
+    pub figures-refused : badFigures flatLimit clipLevel ≡ true → tested ≡ Accepted
+        → MarkPromise r start N allowance flatLimit clipLevel lent lent (MarkRefused BadFigures)
+    figures-refused bad e = turned-down BadFigures refl (passed-by t _ e ∙ rw bad)
 
   module _ (good : badFigures flatLimit clipLevel ≡ false) where
     as-spectrum : markVerdict call flatLimit clipLevel ≡ verdict call
     as-spectrum = rw good
 
-    module _ {cosine′ sine′ scratch′ : List ℤ} {answer : Answer}
-        (p : SpectrumPromise r start N allowance cosine sine scratch cosine′ sine′ scratch′ answer) where
-      with-answer : {a : Answer} → answer ≡ a → SpectrumPromise r start N allowance cosine sine scratch cosine′ sine′ scratch′ a
-      with-answer e = subst (λ a. SpectrumPromise r start N allowance cosine sine scratch cosine′ sine′ scratch′ a) e p
+    module _ {lent′ : Buffers} {answer : Answer} (p : SpectrumPromise r start N allowance lent lent′ answer) where
+      with-answer : {a : Answer} → answer ≡ a → SpectrumPromise r start N allowance lent lent′ a
+      with-answer e = subst (λ a. SpectrumPromise r start N allowance lent lent′ a) e p
 
       pub spectrum-refused : {refusal : Refusal} → answer ≡ Refused refusal
-          → MarkPromise r start N allowance flatLimit clipLevel cosine sine scratch cosine′ sine′ scratch′ (MarkRefused refusal)
+          → MarkPromise r start N allowance flatLimit clipLevel lent lent′ (MarkRefused refusal)
       spectrum-refused {refusal} e =
           let q = with-answer e in
-          let some = some-number refusal in
-          turned-down (q .unchanged (λ a. omega (arith, some, ap number a))) some (as-spectrum ∙ sym (q .verdict))
+          turned-down refusal (q .unchanged (refuses refusal)) (as-spectrum ∙ sym (q .verdict))
 
       pub spectrum-ready : SFits w32 flatLimit → SFits w32 clipLevel → {tally : Tally} → answer ≡ Done tally
           → (natAbs flatLimit < 2 ^ 31) × (1 ≤ natAbs clipLevel) × (natAbs clipLevel < 2 ^ 31)
-          × (start + N ≤ length r) × (N / 2 + 1 ≤ length cosine′) × (N / 2 + 1 ≤ length sine′)
+          × (start + N ≤ length r) × (N / 2 + 1 ≤ length (lent′ .cosine)) × (N / 2 + 1 ≤ length (lent′ .sine))
       spectrum-ready flat-fits clip-fits e =
           let q = with-answer e in
           let passed = passes call (sym (q .verdict)) in
@@ -101,8 +100,8 @@ module _ (r : List ℤ) (start N allowance : ℕ) (flatLimit clipLevel : ℤ) (c
           )
 
       pub spectrum-marked : {tally : Tally} {m : Mark} → answer ≡ Done tally
-          → m ≡ mark (pos (natAbs flatLimit)) (pos (natAbs clipLevel)) N (block r start) (word cosine′) (word sine′)
-          → MarkPromise r start N allowance flatLimit clipLevel cosine sine scratch cosine′ sine′ scratch′ (Marked m tally)
+          → m ≡ mark (pos (natAbs flatLimit)) (pos (natAbs clipLevel)) N (block r start) (word (lent′ .cosine)) (word (lent′ .sine))
+          → MarkPromise r start N allowance flatLimit clipLevel lent lent′ (Marked m tally)
       spectrum-marked {tally} e is =
           let q = with-answer e in
           let done = q .done refl in

@@ -1,4 +1,3 @@
 pub mod Answers
 pub mod Marks
-pub mod MarkAnswers
 pub mod Promises

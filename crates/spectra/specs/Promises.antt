@@ -1,5 +1,5 @@
 -- What the calls promise, for every input: the verdict, what stays after a refusal, and all that an accepted call leaves behind.
--- N is the length, x the samples of the block, x(0) being the sample at the start. A buffer after the call is marked ′.
+-- N is the length, x the samples of the block, x(0) being the sample at the start. What a buffer holds after the call is marked ′.
 use mathlib.Core.Bool.{not, cond}
 use mathlib.Core.List.{List, [], _∷_}
 use mathlib.Core.Path.{_≡_}
@@ -19,45 +19,59 @@ use Rattle.spectra.specs.declared.Answer.{Answer}
 use Rattle.spectra.specs.declared.CountsAnswer.{CountsAnswer}
 use Rattle.spectra.specs.declared.marks.MarkAnswer.{MarkAnswer}
 use Rattle.spectra.specs.declared.marks.MarkAnswer.the-variants.{Marked}
-use Rattle.spectra.specs.Answers.{verdictOf, spent, verdictOfCounts, countsOf}
+use Rattle.spectra.specs.Answers.{verdictOf, spent, verdictOfCounts, countsOf, verdictOfMark, spentMarking}
 use Rattle.spectra.specs.Marks.{mark, markVerdict}
-use Rattle.spectra.specs.MarkAnswers as marked
 
--- ---- Spectrum
-abbrev pub spectrumCall : List ℤ → (start N allowance : ℕ) → (cosine sine scratch : List ℤ) → Call
-spectrumCall recording start N allowance cosine sine scratch =
+-- ---- what every accepted call spends and clears. Products, sums and the largest rest are those that the definition of its coefficients
+-- carries. From a length on the counts are the published closed forms; below it, which is at N = 1 for Spectrum and Pair, the call "costs
+-- nothing"
+pub record Spends (N allowance products sums largestRest from : ℕ) (publishedProducts publishedSums : ℤ)
+    (scratch scratch′ : List ℤ) (spent : Tally) : Type 0 where
+  pub tallied : (spent .products ≡ products) × (spent .sums ≡ sums)
+  pub rest : spent .«largest_rest» ≡ largestRest
+  pub published : from ≤ N → (pos (spent .products) ≡ publishedProducts) × (pos (spent .sums) ≡ publishedSums)
+  pub nothingBelow : N < from → (spent .products ≡ 0) × (spent .sums ≡ 0)
+  pub allowed : spent .products ≤ allowance
+  pub scratchCleared : Written 0 (scratchWords N) (λ k. pos 0) scratch scratch′
+
+-- ---- Spectrum. What it is lent: two result buffers and scratch
+pub record Buffers : Type 0 where
+  pub cosine : List ℤ
+  pub sine : List ℤ
+  pub scratch : List ℤ
+
+abbrev pub buffers : (cosine sine scratch : List ℤ) → Buffers
+buffers cosine sine scratch = record { cosine = cosine; sine = sine; scratch = scratch }
+
+abbrev pub spectrumCall : List ℤ → (start N allowance : ℕ) → Buffers → Call
+spectrumCall recording start N allowance lent =
     record {
       lengths = length recording ∷ [];
       samples = word recording ∷ [];
       start = start;
       N = N;
       allowance = allowance;
-      results = length cosine ∷ length sine ∷ [];
+      results = length (lent .cosine) ∷ length (lent .sine) ∷ [];
       yields = spectrumYields N;
-      scratch = length scratch;
+      scratch = length (lent .scratch);
       products = spectrumOf (level N) (block recording start) .products;
     }
 
 -- an accepted call that spends a tally
-pub record SpectrumDone (N : ℕ) (x : Samples) (allowance : ℕ)
-    (cosine sine scratch cosine′ sine′ scratch′ : List ℤ) (spent : Tally) : Type 0 where
+pub record SpectrumDone (N : ℕ) (x : Samples) (allowance : ℕ) (lent lent′ : Buffers) (spent : Tally) : Type 0 where
   pub block : AcceptedBlock (level N) x
-  pub cosineWords : Written 0 (spectrumYields N) (spectrumOf (level N) x .cosine) cosine cosine′
-  pub sineWords : Written 0 (spectrumYields N) (spectrumOf (level N) x .sine) sine sine′
-  pub cosineNear : (k : ℕ) → k ≤ N / 2 → Within (eighth N) (word cosine′ k) (exactCosine N x k)
-  pub sineNear : (k : ℕ) → k ≤ N / 2 → Within (eighth N) (word sine′ k) (exactSine N x k)
-  pub scratchCleared : Written 0 (scratchWords N) (λ k. pos 0) scratch scratch′
-  pub tallied : (spent .products ≡ spectrumOf (level N) x .products) × (spent .sums ≡ spectrumOf (level N) x .sums)
-  pub rest : spent .«largest_rest» ≡ spectrumOf (level N) x .largestRest
-  pub published : 2 ≤ N → (pos (spent .products) ≡ spectrumProducts (level N)) × (pos (spent .sums) ≡ spectrumSums (level N))
-  pub nothingAtOne : N ≡ 1 → (spent .products ≡ 0) × (spent .sums ≡ 0)
-  pub allowed : spent .products ≤ allowance
+  pub cosineWords : Written 0 (spectrumYields N) (spectrumOf (level N) x .cosine) (lent .cosine) (lent′ .cosine)
+  pub sineWords : Written 0 (spectrumYields N) (spectrumOf (level N) x .sine) (lent .sine) (lent′ .sine)
+  pub cosineNear : (k : ℕ) → k ≤ N / 2 → Within (eighth N) (word (lent′ .cosine) k) (exactCosine N x k)
+  pub sineNear : (k : ℕ) → k ≤ N / 2 → Within (eighth N) (word (lent′ .sine) k) (exactSine N x k)
+  pub spends : let t = spectrumOf (level N) x in Spends N allowance (t .products) (t .sums) (t .largestRest)
+      2 (spectrumProducts (level N)) (spectrumSums (level N)) (lent .scratch) (lent′ .scratch) spent
 
-abbrev pub SpectrumPromise : List ℤ → ℕ → ℕ → ℕ → (cosine sine scratch cosine′ sine′ scratch′ : List ℤ) → Answer → Type 0
-SpectrumPromise recording start N allowance cosine sine scratch cosine′ sine′ scratch′ answer =
-    Promise (verdictOf answer) (verdict (spectrumCall recording start N allowance cosine sine scratch))
-    ((cosine′ ≡ cosine) × (sine′ ≡ sine) × (scratch′ ≡ scratch))
-    (SpectrumDone N (block recording start) allowance cosine sine scratch cosine′ sine′ scratch′ (spent answer))
+abbrev pub SpectrumPromise : List ℤ → (start N allowance : ℕ) → (lent lent′ : Buffers) → Answer → Type 0
+SpectrumPromise recording start N allowance lent lent′ answer =
+    Promise (verdictOf answer) (verdict (spectrumCall recording start N allowance lent))
+    (lent′ ≡ lent)
+    (SpectrumDone N (block recording start) allowance lent lent′ (spent answer))
 
 -- ---- Cosine
 abbrev pub cosineCall : List ℤ → (start N allowance : ℕ) → (coefficients scratch : List ℤ) → Call
@@ -79,11 +93,8 @@ pub record CosineDone (N : ℕ) (x : Samples) (allowance : ℕ)
   pub block : AcceptedBlock (level N) x
   pub words : Written 0 N (dctOf (level N) x .at) coefficients coefficients′
   pub near : (k : ℕ) → k < N → Within (quarterOfNext N) (word coefficients′ k) (exactDct N x k)
-  pub scratchCleared : Written 0 (scratchWords N) (λ k. pos 0) scratch scratch′
-  pub tallied : (spent .products ≡ dctOf (level N) x .products) × (spent .sums ≡ dctOf (level N) x .sums)
-  pub rest : spent .«largest_rest» ≡ dctOf (level N) x .largestRest
-  pub published : (pos (spent .products) ≡ dctProducts (level N)) × (pos (spent .sums) ≡ dctSums (level N))
-  pub allowed : spent .products ≤ allowance
+  pub spends : let t = dctOf (level N) x in Spends N allowance (t .products) (t .sums) (t .largestRest)
+      1 (dctProducts (level N)) (dctSums (level N)) scratch scratch′ spent
 
 abbrev pub CosinePromise : List ℤ → ℕ → ℕ → ℕ → (coefficients scratch coefficients′ scratch′ : List ℤ) → Answer → Type 0
 CosinePromise recording start N allowance coefficients scratch coefficients′ scratch′ answer =
@@ -114,12 +125,8 @@ pub record PairDone (N : ℕ) (x y : Samples) (allowance : ℕ)
   pub imaginaryWords : Written 0 N (pairOf (level N) x y .imaginary) imaginary imaginary′
   pub realNear : (k : ℕ) → k < N → Within (quarter N) (word real′ k) (exactReal N x y k)
   pub imaginaryNear : (k : ℕ) → k < N → Within (quarter N) (word imaginary′ k) (exactImaginary N x y k)
-  pub scratchCleared : Written 0 (scratchWords N) (λ k. pos 0) scratch scratch′
-  pub tallied : (spent .products ≡ pairOf (level N) x y .products) × (spent .sums ≡ pairOf (level N) x y .sums)
-  pub rest : spent .«largest_rest» ≡ pairOf (level N) x y .largestRest
-  pub published : 2 ≤ N → (pos (spent .products) ≡ pairProducts (level N)) × (pos (spent .sums) ≡ pairSums (level N))
-  pub nothingAtOne : N ≡ 1 → (spent .products ≡ 0) × (spent .sums ≡ 0)
-  pub allowed : spent .products ≤ allowance
+  pub spends : let t = pairOf (level N) x y in Spends N allowance (t .products) (t .sums) (t .largestRest)
+      2 (pairProducts (level N)) (pairSums (level N)) scratch scratch′ spent
 
 abbrev pub PairPromise : List ℤ → List ℤ → ℕ → ℕ → ℕ → (real imaginary scratch real′ imaginary′ scratch′ : List ℤ) → Answer → Type 0
 PairPromise a b start N allowance real imaginary scratch real′ imaginary′ scratch′ answer =
@@ -134,16 +141,14 @@ pub record CountsPromise (N : ℕ) (answer : CountsAnswer) : Type 0 where
 
 -- ---- the mark of a block. "A new call takes these two signed 32-bit figures beside all that Spectrum takes, and returns the mark with
 -- Spectrum's full answer."
-pub record MarkDone (flatLimit clipLevel : ℤ) (N : ℕ) (x : Samples) (allowance : ℕ)
-    (cosine sine scratch cosine′ sine′ scratch′ : List ℤ) (answer : MarkAnswer) : Type 0 where
-  pub spectrum : SpectrumDone N x allowance cosine sine scratch cosine′ sine′ scratch′ (marked.spent answer)
+pub record MarkDone (flatLimit clipLevel : ℤ) (N : ℕ) (x : Samples) (allowance : ℕ) (lent lent′ : Buffers) (answer : MarkAnswer)
+    : Type 0 where
+  pub spectrum : SpectrumDone N x allowance lent lent′ (spentMarking answer)
   pub marked : answer ≡ Marked (mark flatLimit clipLevel N x (spectrumOf (level N) x .cosine) (spectrumOf (level N) x .sine))
-      (marked.spent answer)
+      (spentMarking answer)
 
-abbrev pub MarkPromise : List ℤ → (start N allowance : ℕ) → (flatLimit clipLevel : ℤ)
-    → (cosine sine scratch cosine′ sine′ scratch′ : List ℤ) → MarkAnswer → Type 0
-MarkPromise recording start N allowance flatLimit clipLevel cosine sine scratch cosine′ sine′ scratch′ answer =
-    Promise (marked.verdictOf answer)
-    (markVerdict (spectrumCall recording start N allowance cosine sine scratch) flatLimit clipLevel)
-    ((cosine′ ≡ cosine) × (sine′ ≡ sine) × (scratch′ ≡ scratch))
-    (MarkDone flatLimit clipLevel N (block recording start) allowance cosine sine scratch cosine′ sine′ scratch′ answer)
+abbrev pub MarkPromise : List ℤ → (start N allowance : ℕ) → (flatLimit clipLevel : ℤ) → (lent lent′ : Buffers) → MarkAnswer → Type 0
+MarkPromise recording start N allowance flatLimit clipLevel lent lent′ answer =
+    Promise (verdictOfMark answer) (markVerdict (spectrumCall recording start N allowance lent) flatLimit clipLevel)
+    (lent′ ≡ lent)
+    (MarkDone flatLimit clipLevel N (block recording start) allowance lent lent′ answer)

@@ -7,25 +7,22 @@ use blocks::pair_of;
 use blocks::spectrum_of;
 use counts::Counts;
 use counts::counts_of;
-use counts::tally::NONE;
 use counts::tally::Tally;
 use lengths::is_length;
-use refusals::call;
-use refusals::call::Refusal;
-use refusals::call::Tested;
 use refusals::call::test;
 use refusals::length::scratch_words;
 use refusals::length::shorter;
 use refusals::range::Pass;
 use refusals::range::first_out;
+use refusals::refusal::Outcome;
+use refusals::refusal::Refusal;
 ghost use mathlib.Core.Bool.{true};
 ghost use mathlib.Core.Path.{_≡_};
 ghost use Rattle.lengths.specs.Block.{isLength, level};
 ghost use Rattle.counts.specs.Counts.{SixCounts};
-ghost use Rattle.refusals.specs.Refusals.{number};
+ghost use Rattle.refusals.specs.Calls.{tests};
 ghost use Rattle.refusals.specs.Tests.{Tells};
-ghost use Rattle.spectra.specs.Answers.{verdictOf, spent, place};
-ghost use Rattle.spectra.specs.Promises.{spectrumCall, pairCall};
+ghost use Rattle.spectra.specs.Promises.{buffers, spectrumCall, cosineCall, pairCall};
 ghost use Rattle.spectra.specs.Promises.{SpectrumPromise, CosinePromise, PairPromise, CountsPromise};
 
 // The answer of a call on recordings: a refusal, or the counts that were spent and the largest rest.
@@ -36,7 +33,7 @@ pub enum Answer {
 
 // The answer of the count query.
 pub enum CountsAnswer {
-    BadLength,
+    Refused(Refusal),
     Counted(Counts),
 }
 
@@ -62,9 +59,9 @@ fn test_spectrum(
     cosine: &[i32],
     sine: &[i32],
     scratch: &[i64],
-) -> Tested
-    ensures { λ r. ⌜ Tells (spectrumCall (now (recording .entry)) start length allowance
-        (now (cosine .entry)) (now (sine .entry)) (now (scratch .entry))) r ⌝ }
+) -> Outcome
+    ensures { λ r. ⌜ Tells (tests (spectrumCall (now (recording .entry)) start length allowance
+        (buffers (now (cosine .entry)) (now (sine .entry)) (now (scratch .entry))))) r ⌝ }
 {
     let counts = counts_at(length);
     let room = shorter(cosine.len(), sine.len());
@@ -81,6 +78,32 @@ fn test_spectrum(
     )
 }
 
+// The tests of Cosine.
+fn test_cosine(
+    recording: &[i32],
+    start: usize,
+    length: usize,
+    allowance: u64,
+    coefficients: &[i32],
+    scratch: &[i64],
+) -> Outcome
+    ensures { λ r. ⌜ Tells (tests (cosineCall (now (recording .entry)) start length allowance
+        (now (coefficients .entry)) (now (scratch .entry)))) r ⌝ }
+{
+    let counts = counts_at(length);
+    test(
+        recording,
+        recording.len(),
+        start,
+        length,
+        allowance,
+        coefficients.len(),
+        length,
+        scratch.len(),
+        counts.dct.products,
+    )
+}
+
 // The tests of Pair: those on a, and then 6 on b.
 fn test_pair(
     a: &[i32],
@@ -91,9 +114,9 @@ fn test_pair(
     real: &[i32],
     imaginary: &[i32],
     scratch: &[i64],
-) -> Tested
-    ensures { λ r. ⌜ Tells (pairCall (now (a .entry)) (now (b .entry)) start length allowance
-        (now (real .entry)) (now (imaginary .entry)) (now (scratch .entry))) r ⌝ }
+) -> Outcome
+    ensures { λ r. ⌜ Tells (tests (pairCall (now (a .entry)) (now (b .entry)) start length allowance
+        (now (real .entry)) (now (imaginary .entry)) (now (scratch .entry)))) r ⌝ }
 {
     let counts = counts_at(length);
     let shortest = shorter(a.len(), b.len());
@@ -109,17 +132,18 @@ fn test_pair(
         scratch.len(),
         counts.pair.products,
     );
-    if let Tested::Refused(refusal) = tested {
-        return Tested::Refused(refusal);
+    if let Outcome::Refused(refusal) = tested {
+        return Outcome::Refused(refusal);
     }
     if let Pass::At { place, looks: _ } = first_out(b, start, length) {
-        return Tested::Refused(Refusal::OutOfRange(place));
+        return Outcome::Refused(Refusal::OutOfRange(place));
     }
-    Tested::Passed
+    Outcome::Accepted
 }
 
 // ---- the calls
 
+// Spectrum: the cosine-DFT and the sine-DFT of the block of `length` samples from `start` on, k = 0 .. length / 2.
 pub fn spectrum(
     recording: &[i32],
     start: usize,
@@ -130,11 +154,11 @@ pub fn spectrum(
     scratch: &mut [i64],
 ) -> Answer
     ensures { λ r. ⌜ SpectrumPromise (now (recording .entry)) start length allowance
-        (now (cosine .entry)) (now (sine .entry)) (now (scratch .entry))
-        (now (cosine .exit)) (now (sine .exit)) (now (scratch .exit)) r ⌝ }
+        (buffers (now (cosine .entry)) (now (sine .entry)) (now (scratch .entry)))
+        (buffers (now (cosine .exit)) (now (sine .exit)) (now (scratch .exit))) r ⌝ }
 {
     let tested = test_spectrum(recording, start, length, allowance, cosine, sine, scratch);
-    if let Tested::Refused(refusal) = tested {
+    if let Outcome::Refused(refusal) = tested {
         return Answer::Refused(refusal);
     }
     let end = start + length;
@@ -142,6 +166,7 @@ pub fn spectrum(
     Answer::Done(spectrum_of(&recording[start..end], cosine, sine, &mut scratch[..m]))
 }
 
+// Cosine: the DCT-II of the block, k = 0 .. length - 1.
 pub fn cosine(
     recording: &[i32],
     start: usize,
@@ -154,19 +179,8 @@ pub fn cosine(
         (now (coefficients .entry)) (now (scratch .entry))
         (now (coefficients .exit)) (now (scratch .exit)) r ⌝ }
 {
-    let counts = counts_at(length);
-    let tested = test(
-        recording,
-        recording.len(),
-        start,
-        length,
-        allowance,
-        coefficients.len(),
-        length,
-        scratch.len(),
-        counts.dct.products,
-    );
-    if let Tested::Refused(refusal) = tested {
+    let tested = test_cosine(recording, start, length, allowance, coefficients, scratch);
+    if let Outcome::Refused(refusal) = tested {
         return Answer::Refused(refusal);
     }
     let end = start + length;
@@ -174,6 +188,7 @@ pub fn cosine(
     Answer::Done(cosine_of(&recording[start..end], coefficients, &mut scratch[..m]))
 }
 
+// Pair: the complex DFT of the blocks of two recordings, a + i b, k = 0 .. length - 1.
 pub fn pair(
     a: &[i32],
     b: &[i32],
@@ -189,7 +204,7 @@ pub fn pair(
         (now (real .exit)) (now (imaginary .exit)) (now (scratch .exit)) r ⌝ }
 {
     let tested = test_pair(a, b, start, length, allowance, real, imaginary, scratch);
-    if let Tested::Refused(refusal) = tested {
+    if let Outcome::Refused(refusal) = tested {
         return Answer::Refused(refusal);
     }
     let end = start + length;
@@ -208,40 +223,7 @@ pub fn count_query(length: usize) -> CountsAnswer
     ensures { λ r. ⌜ CountsPromise length r ⌝ }
 {
     if !is_length(length) {
-        return CountsAnswer::BadLength;
+        return CountsAnswer::Refused(Refusal::BadLength);
     }
     CountsAnswer::Counted(counts_of(length))
-}
-
-// ---- the answer of a call on recordings as plain numbers
-
-// Document 01's number of an answer; 0 where the call was accepted.
-pub fn number_of(answer: Answer) -> u32
-    ensures { λ r. ⌜ r ≡ number (verdictOf answer) ⌝ }
-{
-    match answer {
-        Answer::Refused(refusal) => call::number_of(refusal),
-        Answer::Done(_) => 0,
-    }
-}
-
-// The counts that an accepted call spent, and its largest rest; else 0 for each.
-pub fn spent_of(answer: Answer) -> Tally
-    ensures { λ r. ⌜ (r .products ≡ spent answer .products) × (r .sums ≡ spent answer .sums)
-        × (r .«largest_rest» ≡ spent answer .«largest_rest») ⌝ }
-{
-    match answer {
-        Answer::Done(tally) => tally,
-        Answer::Refused(_) => NONE,
-    }
-}
-
-// The place of the first sample out of range, of refusal 6; else 0.
-pub fn place_of(answer: Answer) -> usize
-    ensures { λ r. ⌜ r ≡ place answer ⌝ }
-{
-    match answer {
-        Answer::Refused(refusal) => call::place_of(refusal),
-        Answer::Done(_) => 0,
-    }
 }

@@ -2,23 +2,20 @@
 use crate::Answer;
 use crate::spectrum;
 use crate::test_spectrum;
-use counts::tally::NONE;
 use counts::tally::Tally;
-use refusals::call;
-use refusals::call::Refusal;
-use refusals::call::Tested;
 use refusals::range::Pass;
 use refusals::range::first_beyond;
+use refusals::refusal::Outcome;
+use refusals::refusal::Refusal;
 ghost use mathlib.Core.Path.{_≡_};
 ghost use Prim.Native.Nat.{_+_, _/_, _^_, _≤_, _<_};
 ghost use lib.IntN.{pos};
 ghost use lib.ListN.{length as List·length};
 ghost use lib.Signed.{leZ};
 ghost use Rattle.words.specs.Words.{word};
-ghost use Rattle.refusals.specs.Refusals.{block, number};
+ghost use Rattle.refusals.specs.Refusals.{block};
 ghost use Rattle.spectra.specs.Marks.{size, all, flat, clipped, mark, badFigures};
-ghost use Rattle.spectra.specs.MarkAnswers.{verdictOf, spent, place, markNumber};
-ghost use Rattle.spectra.specs.Promises.{MarkPromise};
+ghost use Rattle.spectra.specs.Promises.{buffers, MarkPromise};
 
 pub enum Mark {
     Flat,
@@ -26,10 +23,9 @@ pub enum Mark {
     Plain,
 }
 
-// The answer of the call: a refusal of Spectrum, that of the figures, or the mark with the counts that were spent.
+// The answer of the call: a refusal, or the mark with the counts that were spent and the largest rest.
 pub enum MarkAnswer {
     Refused(Refusal),
-    BadFigures,
     Marked(Mark, Tally),
 }
 
@@ -119,14 +115,14 @@ pub fn mark_block(
     scratch: &mut [i64],
 ) -> MarkAnswer
     ensures { λ r. ⌜ MarkPromise (now (recording .entry)) start length allowance «flat_limit» «clip_level»
-        (now (cosine .entry)) (now (sine .entry)) (now (scratch .entry))
-        (now (cosine .exit)) (now (sine .exit)) (now (scratch .exit)) r ⌝ }
+        (buffers (now (cosine .entry)) (now (sine .entry)) (now (scratch .entry)))
+        (buffers (now (cosine .exit)) (now (sine .exit)) (now (scratch .exit))) r ⌝ }
 {
     if bad_figures(flat_limit, clip_level) {
         let tested = test_spectrum(recording, start, length, allowance, cosine, sine, scratch);
         return match tested {
-            Tested::Refused(refusal) => MarkAnswer::Refused(refusal),
-            Tested::Passed => MarkAnswer::BadFigures,
+            Outcome::Refused(refusal) => MarkAnswer::Refused(refusal),
+            Outcome::Accepted => MarkAnswer::Refused(Refusal::BadFigures),
         };
     }
     let answer = spectrum(recording, start, length, allowance, cosine, sine, scratch);
@@ -138,56 +134,5 @@ pub fn mark_block(
             let mark = mark_by(limit, level, recording, start, length, cosine, sine);
             MarkAnswer::Marked(mark, tally)
         }
-    }
-}
-
-// ---- the answer as plain numbers
-
-// The number of an answer in document 01 or 02; 0 where the call was accepted.
-pub fn number_of(answer: MarkAnswer) -> u32
-    ensures { λ r. ⌜ r ≡ number (verdictOf answer) ⌝ }
-{
-    match answer {
-        MarkAnswer::Refused(refusal) => call::number_of(refusal),
-        MarkAnswer::BadFigures => 12,
-        MarkAnswer::Marked(_, _) => 0,
-    }
-}
-
-// The counts that an accepted call spent, and its largest rest; else 0 for each.
-pub fn spent_of(answer: MarkAnswer) -> Tally
-    ensures { λ r. ⌜ (r .products ≡ spent answer .products) × (r .sums ≡ spent answer .sums)
-        × (r .«largest_rest» ≡ spent answer .«largest_rest») ⌝ }
-{
-    match answer {
-        MarkAnswer::Marked(_, tally) => tally,
-        MarkAnswer::Refused(_) => NONE,
-        MarkAnswer::BadFigures => NONE,
-    }
-}
-
-// The place of the first sample out of range, of refusal 6; else 0.
-pub fn place_of(answer: MarkAnswer) -> usize
-    ensures { λ r. ⌜ r ≡ place answer ⌝ }
-{
-    match answer {
-        MarkAnswer::Refused(refusal) => call::place_of(refusal),
-        MarkAnswer::BadFigures => 0,
-        MarkAnswer::Marked(_, _) => 0,
-    }
-}
-
-// The mark as a number: flat 1, clipped 2, plain 3; 0 where the call was turned down.
-pub fn mark_of(answer: MarkAnswer) -> u32
-    ensures { λ r. ⌜ r ≡ markNumber answer ⌝ }
-{
-    match answer {
-        MarkAnswer::Marked(mark, _) => match mark {
-            Mark::Flat => 1,
-            Mark::Clipped => 2,
-            Mark::Plain => 3,
-        },
-        MarkAnswer::Refused(_) => 0,
-        MarkAnswer::BadFigures => 0,
     }
 }

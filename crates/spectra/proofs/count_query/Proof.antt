@@ -1,19 +1,18 @@
 -- `spectra::count_query` meets its contract. Assumes nothing.
-use mathlib.Core.Path.{_≡_, sym, ap, _∙_}
+use mathlib.Core.Path.{_≡_, sym, _∙_}
 use mathlib.Core.Bool.{true}
-use native.Mathlib.Omega.{arith}
 use borrow.Author.Needs.{needs}
 use borrow.Author.Tests.{not-true, not-false}
 use Rattle.lengths.specs.Block.{isLength}
 use Rattle.counts.proofs.Costs.{six-published}
-use Rattle.refusals.specs.Refusals.{number}
+use Rattle.refusals.proofs.Promises.{not-both}
 use Rattle.spectra.proofs.count_query.Statement.{statement}
 use Rattle.spectra.proofs.count_query.Tie as tie
 
 returns : tie.Need-returns
 returns c =
     let no = sym (c .before .is-length .ensures) ∙ not-true _ (c .if1 .taken) in
-    record { verdict = rw no; counted = λ e. absurd (omega (arith, ap number e)) }
+    record { verdict = rw no; counted = λ e. absurd (not-both e) }
 
 accepted : (c : tie.Else1) → isLength (c .before .before .args .length) ≡ true
 accepted c = sym (c .before .is-length .ensures) ∙ not-false _ (c .if1 .left)

@@ -46,7 +46,7 @@ pair-spec =
     (λ c. taken _ _ (omega (arith, passed (c .before .before .before .before .before .before) .scratch)))  -- slice-aggregate-pair-of
     (λ c κs. let m = c .before .before .before .before .before in
     let a = m .before .before .before .before .before .before .before .args in
-    pair-ready _ (m .scratch-words .ensures) _ _ (a .real .now) (a .imaginary .now) (passed (m .before)))  -- pair-of-requires
+    pair-ready (m .scratch-words .ensures) _ _ (a .real .now) (a .imaginary .now) _ (passed (m .before)))  -- pair-of-requires
     (λ c. search needs)  -- same-length-4
     (λ c. search needs)  -- same-length-5
     (λ c. search needs)  -- same-length-6

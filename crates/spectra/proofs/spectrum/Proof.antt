@@ -6,16 +6,18 @@ use Rattle.lengths.proofs.ElevenLengths.{length-le}
 use Rattle.refusals.specs.Refusals.{accepted}
 use Rattle.refusals.specs.Calls.{Call}
 use Rattle.refusals.proofs.Calls.{Passes, passes, refused-by, passed-by}
-use Rattle.spectra.specs.Promises.{spectrumCall}
+use Rattle.spectra.specs.Promises.{Buffers, buffers, spectrumCall}
 use Rattle.spectra.proofs.Accepted.{taken, spectrum-ready, spectrum-done}
 use Rattle.spectra.proofs.spectrum.Statement.{statement}
 use Rattle.spectra.proofs.spectrum.Tie as tie
 
+abbrev lent : tie.After-test-spectrum → Buffers
+lent c = let a = c .before .before .before .before .args in buffers (a .cosine .now) (a .sine .now) (a .scratch .now)
+
 abbrev call : tie.After-test-spectrum → Call
 call c =
     let a = c .before .before .before .before .args in
-    spectrumCall (a .recording .now) (a .start) (a .length) (a .allowance)
-    (a .cosine .now) (a .sine .now) (a .scratch .now)
+    spectrumCall (a .recording .now) (a .start) (a .length) (a .allowance) (lent c)
 
 passed : (c : tie.After-enum-told) → Passes (call (c .before .before))
 passed c = passes _ (passed-by (c .before .before .test-spectrum .ensures) accepted (c .enum-told .given .1))
@@ -30,7 +32,7 @@ spectrum-spec =
     (λ c. search needs)  -- same-length-2
     (λ c. search needs)  -- same-length-3
     (λ c. let t = c .before .before .before in
-    refused-by (t .test-spectrum .ensures) accepted (refl, refl, refl) (c .before .tested .given .1))  -- returns
+    refused-by (t .test-spectrum .ensures) accepted refl (c .before .tested .given .1))  -- returns
     (λ c. search needs)  -- enum-told
     (λ c. record { fits = omega (arith, passed c .recordings .0) })  -- add-end
     (λ c κs. length-le _ (passed c .length-ok))  -- scratch-words-requires
@@ -41,8 +43,7 @@ spectrum-spec =
     (λ c. omega (arith, passed (c .before .before .before .before) .scratch))  -- slice-relend-prefix-spectrum-of
     (λ c. taken _ _ (omega (arith, passed (c .before .before .before .before .before) .scratch)))  -- slice-aggregate-spectrum-of
     (λ c κs. let m = c .before .before .before .before in
-    let a = m .before .before .before .before .before .before .before .args in
-    spectrum-ready _ (m .scratch-words .ensures) _ (a .cosine .now) (a .sine .now) (passed (m .before)))  -- spectrum-of-requires
+    spectrum-ready (m .scratch-words .ensures) _ (lent (m .before .before .before)) (passed (m .before)))  -- spectrum-of-requires
     (λ c. search needs)  -- same-length-4
     (λ c. search needs)  -- same-length-5
     (λ c. search needs)  -- same-length-6

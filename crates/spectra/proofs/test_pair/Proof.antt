@@ -6,9 +6,9 @@ use lib.ListN.{length}
 use borrow.Author.Needs.{needs}
 use Rattle.words.specs.Words.{word}
 use Rattle.refusals.specs.Refusals.{Verdict, accepted, firstOutOr}
-use Rattle.refusals.specs.declared.call.Tested.{Tested}
+use Rattle.refusals.specs.declared.refusal.Outcome.{Outcome}
 use Rattle.refusals.specs.Calls.{Call, tests}
-use Rattle.refusals.specs.Tests.{outcome}
+use Rattle.refusals.specs.Answers.{behind}
 use Rattle.refusals.proofs.Conditions.{two-below, found-none, found-at}
 use Rattle.refusals.proofs.Calls.{passes, by-first, passed-by}
 use Rattle.spectra.specs.Promises.{pairCall}
@@ -20,15 +20,15 @@ call c =
     let a = c .before .before .before .before .args in
     pairCall (a .a .now) (a .b .now) (a .start) (a .length) (a .allowance) (a .real .now) (a .imaginary .now) (a .scratch .now)
 
-told : (c : tie.After-test) {tested : Tested} → c .test .result ≡ tested → (rest : Verdict)
+told : (c : tie.After-test) {tested : Outcome} → c .test .result ≡ tested → (rest : Verdict)
     → let a = c .before .before .before .before .args in
-    tests (call c) rest ≡ outcome tested (firstOutOr (word (a .b .now)) (a .start) (a .length) rest)
+    tests (call c) rest ≡ behind tested (firstOutOr (word (a .b .now)) (a .start) (a .length) rest)
 told c e rest =
     let a = c .before .before .before .before .args in
     let shortest = two-below _ _ (c .before .before .shorter .ensures) in
     let room = two-below _ _ (c .before .shorter2 .ensures) in
-    by-first (call c) refl shortest room (λ ok. c .before .before .before .counts-at .ensures ok .ofPair _ _ .0) (c .test .ensures) rest
-    ∙ ap (λ t. outcome t (firstOutOr (word (a .b .now)) (a .start) (a .length) rest)) e
+    by-first (call c) refl _ _ _ shortest room (λ ok. c .before .before .before .counts-at .ensures ok .ofPair _ _ .0) (c .test .ensures) rest
+    ∙ ap (λ t. behind t (firstOutOr (word (a .b .now)) (a .start) (a .length) rest)) e
 
 -- where a passes them, b's block lies in its recording
 inside : (c : tie.After-enum-told) → let a = c .before .before .before .before .before .before .args in

@@ -47,13 +47,13 @@ mark-block-spec =
     (λ c. search needs)  -- same-length-2
     (λ c. search needs)  -- same-length-3
     (λ c. let t = c .before .before .before in
-    tests-refused (t .before .before .before .before .before .before .args .recording .now) _ _ _ _ _ _ _ _
+    tests-refused (t .before .before .before .before .before .before .args .recording .now) _ _ _ _ _ _
     (t .test-spectrum .ensures) (c .before .tested .given .1))  -- returns
     (λ c. search needs)  -- same-length-4
     (λ c. search needs)  -- same-length-5
     (λ c. search needs)  -- same-length-6
     (λ c. let t = c .before .before in
-    figures-refused (t .before .before .before .before .before .before .args .recording .now) _ _ _ _ _ _ _ _
+    figures-refused (t .before .before .before .before .before .before .args .recording .now) _ _ _ _ _ _
     (t .test-spectrum .ensures) (bad (t .before .before .before .before)) (c .enum-told .given .1))  -- returns-2
     (λ c κs. search needs)  -- spectrum-requires
     (λ c. search needs)  -- enum-known-answer
@@ -65,19 +65,19 @@ mark-block-spec =
     (λ c κs. let s = c .before .before .before .before .before .before .before .before in
     let e = tested s .before .before in
     rw (toZ-ofZ (e .fits .flat-limit), toZ-ofZ (e .fits .clip-level))
-    (spectrum-ready (e .args .recording .now) _ _ _ _ _ _ _ _ (good (tested s)) (s .spectrum .ensures)
+    (spectrum-ready (e .args .recording .now) _ _ _ _ _ _ (good (tested s)) (s .spectrum .ensures)
     (e .fits .flat-limit) (e .fits .clip-level) (c .before .before .before .answer2 .given .1)))  -- mark-by-requires
     (λ c. search needs)  -- same-length-7
     (λ c. search needs)  -- same-length-8
     (λ c. search needs)  -- same-length-9
     (λ c. let s = c .before .before .before .before .before .before in
-    spectrum-refused (tested s .before .before .args .recording .now) _ _ _ _ _ _ _ _ (good (tested s)) (s .spectrum .ensures)
+    spectrum-refused (tested s .before .before .args .recording .now) _ _ _ _ _ _ (good (tested s)) (s .spectrum .ensures)
     (c .before .answer .given .1))  -- returns-3
     (λ c. search needs)  -- same-length-10
     (λ c. search needs)  -- same-length-11
     (λ c. search needs)  -- same-length-12
     (λ c. let s = c .before .before .before .before .before .before .before .before .before in
     let e = tested s .before .before in
-    spectrum-marked (e .args .recording .now) _ _ _ _ _ _ _ _ (good (tested s)) (s .spectrum .ensures)
+    spectrum-marked (e .args .recording .now) _ _ _ _ _ _ (good (tested s)) (s .spectrum .ensures)
     (c .before .before .before .before .answer2 .given .1)
     (rw (toZ-ofZ (e .fits .flat-limit), toZ-ofZ (e .fits .clip-level)) at (c .mark-by .ensures))))  -- returns-4
