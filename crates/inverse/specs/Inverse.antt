@@ -1,7 +1,7 @@
 -- Document 02, (i), "Strain back from a stored cosine block": the inverse of the DCT-II, and when a stored block is turned down.
 -- c are the coefficients, "Coefficient k is in word k"; N is the block length.
-use mathlib.Core.Bool.{not, cond}
-use mathlib.Core.List.{List}
+use mathlib.Core.Bool.{cond}
+use mathlib.Core.List.{List, [], _∷_}
 use Prim.Native.Nat.{ℕ, _+_, _-_, _*_, _/_, _^_}
 use lib.Dec.{ltb}
 use lib.IntN.{ℤ, pos, _+ℤ_, _*ℤ_}
@@ -10,8 +10,8 @@ use Rattle.whole.specs.Round.{nearest}
 use Rattle.whole.specs.Sum.{sum}
 use Rattle.words.specs.Words.{word}
 use Rattle.circle.specs.Circle.{T, onCircle}
-use Rattle.lengths.specs.Block.{isLength}
 use Rattle.refusals.specs.Refusals.{Verdict, refused, accepted, firstBeyondOr}
+use Rattle.refusals.specs.Calls.{storedTests}
 
 -- "T goes round the circle by K's symmetries.": T itself at the places 0 .. 1,024
 unfoldable pub T° : ℕ → ℤ
@@ -34,7 +34,6 @@ largestCoefficient N = N * 1000000 + N
 -- "Order: 1, 2 (fewer than N coefficients stored), 3, 10.", 10 "with the place of the first such"
 unfoldable pub inverseVerdict : (coefficients : List ℤ) → ℕ → (values : List ℤ) → Verdict
 inverseVerdict coefficients N values =
-    cond (not (isLength N)) (refused 1)
-    (cond (ltb (length coefficients) N) (refused 2)
+    storedTests N N (length coefficients ∷ [])
     (cond (ltb (length values) N) (refused 3)
-    (firstBeyondOr 10 (largestCoefficient N) (word coefficients) 0 N accepted)))
+    (firstBeyondOr 10 (largestCoefficient N) (word coefficients) 0 N accepted))

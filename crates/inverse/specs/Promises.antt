@@ -7,9 +7,9 @@ use Prim.Native.Nat.{ℕ, _≤_, _<_}
 use lib.IntN.{ℤ, natAbs}
 use Rattle.words.specs.Words.{word, Written}
 use Rattle.lengths.specs.Block.{isLength}
+use Rattle.refusals.specs.declared.refusal.Outcome.{Outcome}
 use Rattle.refusals.specs.Refusals.{Promise}
-use Rattle.inverse.specs.declared.InverseAnswer.{InverseAnswer}
-use Rattle.inverse.specs.Answers.{verdictOf}
+use Rattle.refusals.specs.Answers.{outcome}
 use Rattle.inverse.specs.Inverse.{inverseDct, largestCoefficient, inverseVerdict}
 
 -- "value n goes to word n of the result, and words beyond N stay"
@@ -19,6 +19,6 @@ pub record InverseDone (N : ℕ) (c : ℕ → ℤ) (values values′ : List ℤ)
   pub length-ok : isLength N ≡ true
   pub range : (k : ℕ) → k < N → natAbs (c k) ≤ largestCoefficient N
 
-abbrev pub InversePromise : (coefficients : List ℤ) → ℕ → (values values′ : List ℤ) → InverseAnswer → Type 0
+abbrev pub InversePromise : (coefficients : List ℤ) → ℕ → (values values′ : List ℤ) → Outcome → Type 0
 InversePromise coefficients N values values′ answer =
-    Promise (verdictOf answer) (inverseVerdict coefficients N values) (values′ ≡ values) (InverseDone N (word coefficients) values values′)
+    Promise (outcome answer) (inverseVerdict coefficients N values) (values′ ≡ values) (InverseDone N (word coefficients) values values′)

@@ -3,66 +3,29 @@
 mod sum;
 mod value;
 
-use lengths::is_length;
 use refusals::range::Pass;
 use refusals::range::first_beyond;
+use refusals::refusal::Outcome;
+use refusals::refusal::Refusal;
+use refusals::stored::test_stored;
 use value::put_values;
-ghost use mathlib.Core.Path.{_≡_};
-ghost use Rattle.refusals.specs.Refusals.{number};
-ghost use Rattle.inverse.specs.Answers.{verdictOf, placeOf};
 ghost use Rattle.inverse.specs.Promises.{InversePromise};
 
-// The answer of the call: a case for each refusal of document 02, or that the values are written.
-pub enum InverseAnswer {
-    BadLength,
-    TooFewStored,
-    ResultTooShort,
-    BeyondLimit(usize),
-    Done,
-}
-
-pub fn inverse_dct(coefficients: &[i32], length: usize, values: &mut [i32]) -> InverseAnswer
+// The strain of a block of `length` samples, from its stored DCT-II coefficients.
+pub fn inverse_dct(coefficients: &[i32], length: usize, values: &mut [i32]) -> Outcome
     ensures { λ r. ⌜ InversePromise (now (coefficients .entry)) length (now (values .entry)) (now (values .exit)) r ⌝ }
 {
-    if !is_length(length) {
-        return InverseAnswer::BadLength;
-    }
-    if coefficients.len() < length {
-        return InverseAnswer::TooFewStored;
+    let tested = test_stored(length, coefficients.len(), length);
+    if let Outcome::Refused(refusal) = tested {
+        return Outcome::Refused(refusal);
     }
     if values.len() < length {
-        return InverseAnswer::ResultTooShort;
+        return Outcome::Refused(Refusal::ResultTooShort);
     }
     let limit = (length * 1000000 + length) as u32;
     if let Pass::At { place, looks: _ } = first_beyond(limit, coefficients, 0, length) {
-        return InverseAnswer::BeyondLimit(place);
+        return Outcome::Refused(Refusal::BeyondLimit(place));
     }
     put_values(coefficients, length, values);
-    InverseAnswer::Done
-}
-
-// Document 02's number of an answer; 0 where the call was accepted.
-pub fn number_of(answer: InverseAnswer) -> u32
-    ensures { λ r. ⌜ r ≡ number (verdictOf answer) ⌝ }
-{
-    match answer {
-        InverseAnswer::BadLength => 1,
-        InverseAnswer::TooFewStored => 2,
-        InverseAnswer::ResultTooShort => 3,
-        InverseAnswer::BeyondLimit(_) => 10,
-        InverseAnswer::Done => 0,
-    }
-}
-
-// The place of the first coefficient beyond the limit, of refusal 10; else 0.
-pub fn place_of(answer: InverseAnswer) -> usize
-    ensures { λ r. ⌜ r ≡ placeOf answer ⌝ }
-{
-    match answer {
-        InverseAnswer::BeyondLimit(place) => place,
-        InverseAnswer::BadLength => 0,
-        InverseAnswer::TooFewStored => 0,
-        InverseAnswer::ResultTooShort => 0,
-        InverseAnswer::Done => 0,
-    }
+    Outcome::Accepted
 }

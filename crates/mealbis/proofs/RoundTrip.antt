@@ -16,7 +16,7 @@ use Rattle.refusals.proofs.Calls.{Passes, passes}
 use Rattle.spectra.specs.Answers.{spent}
 use Rattle.spectra.specs.Promises.{cosineCall, CosineDone}
 use Rattle.inverse.specs.Inverse.{inverseDct, largestCoefficient}
-use Rattle.inverse.specs.Answers as inverse
+use Rattle.refusals.specs.Answers.{outcome}
 use Rattle.inverse.proofs.Values.{value-same}
 use Rattle.inverse.proofs.Verdicts.{accepts}
 use Rattle.inverse.proofs.RoundTrip.{round-trip}
@@ -53,7 +53,7 @@ cosine-and-back r start N allowance cs scratch cs′ scratch′ cosine p ok valu
     words : (k : ℕ) → k < N → word cs′ k ≡ dct (level N) (block r start) .at k
     words = front (d .words)
 
-    is-accepted : inverse.verdictOf back ≡ accepted
+    is-accepted : outcome back ≡ accepted
     is-accepted = q .verdict
         ∙ accepts cs′ values N length-ok (omega (arith, d .words .len, passed .results .0)) room
         (stored N (block r start) cs′ length-ok (d .block) words)

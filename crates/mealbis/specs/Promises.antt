@@ -1,161 +1,97 @@
--- What the exported functions promise, for every input: the record of the call that they make, and what the words hold through which C is
--- told its answer. `number` is the number returned: the refusal's in document 01 or 02, and 0 where the call is accepted. A word marked ′
--- is one after the call.
-use mathlib.Core.List.{List}
+-- What the exported functions promise, for every input: the promise of the call that they make, and what C is told of its answer. A buffer
+-- or a word marked ′ is one after the call.
+use mathlib.Core.List.{List, [], _∷_}
 use mathlib.Core.Path.{_≡_}
 use Prim.Native.Nat.{ℕ}
 use lib.IntN.{ℤ}
-use Rattle.refusals.specs.Refusals.{number as numberOf}
+use Rattle.refusals.specs.declared.refusal.Outcome.{Outcome}
+use Rattle.refusals.specs.declared.refusal.Filled.{Filled}
+use Rattle.refusals.specs.Refusals.{Verdict, place, number as numberOf}
+use Rattle.refusals.specs.Answers.{outcome, filled, bytesOf}
 use Rattle.spectra.specs.declared.Answer.{Answer}
 use Rattle.spectra.specs.declared.CountsAnswer.{CountsAnswer}
 use Rattle.spectra.specs.declared.marks.MarkAnswer.{MarkAnswer}
-use Rattle.spectra.specs.Answers.{verdictOf, spent, place as placeOf, verdictOfCounts, countsOf}
-use Rattle.spectra.specs.MarkAnswers as marked
-use Rattle.spectra.specs.Promises.{SpectrumPromise, CosinePromise, PairPromise, MarkPromise, CountsPromise}
-use Rattle.months.specs.declared.record.BeginAnswer.{BeginAnswer}
-use Rattle.months.specs.declared.record.AddAnswer.{AddAnswer}
+use Rattle.spectra.specs.Answers.{verdictOf, spent, verdictOfCounts, countsOf, verdictOfMark, spentMarking, markNumber}
+use Rattle.spectra.specs.Promises.{Buffers, SpectrumPromise, CosinePromise, PairPromise, MarkPromise, CountsPromise}
 use Rattle.months.specs.declared.record.SumsAnswer.{SumsAnswer}
-use Rattle.months.specs.Answers as months
+use Rattle.months.specs.Answers.{verdictOfSums, sumsOf}
 use Rattle.months.specs.Promises.{BeginPromise, AddPromise, SumsPromise}
-use Rattle.inverse.specs.declared.InverseAnswer.{InverseAnswer}
-use Rattle.inverse.specs.Answers as inverse
 use Rattle.inverse.specs.Promises.{InversePromise}
-use Rattle.pairfile.specs.declared.reader.FileAnswer.{FileAnswer}
-use Rattle.pairfile.specs.declared.writer.WriteAnswer.{WriteAnswer}
-use Rattle.pairfile.specs.ReadAnswers as file
-use Rattle.pairfile.specs.WriteAnswers as written
+use Rattle.pairfile.specs.declared.reader.ReadAnswer.{ReadAnswer}
+use Rattle.pairfile.specs.Answers as file
 use Rattle.pairfile.specs.Promises.{ReadPromise, WritePromise}
-use Rattle.pages.specs.declared.PageAnswer.{PageAnswer}
-use Rattle.pages.specs.Answers as page
 use Rattle.pages.specs.Promises.{PagePromise}
 
--- ---- the calls on recordings
-
--- The answer of a call in five plain numbers. By their definitions the counts and the largest rest are 0 in every refusal, and the place is
--- 0 in every answer but refusal 6.
-pub record Told (answer : Answer) (products sums largestRest place number : ℕ) : Type 0 where
-  pub number-is : number ≡ numberOf (verdictOf answer)
-  pub products-is : products ≡ spent answer .products
-  pub sums-is : sums ≡ spent answer .sums
-  pub rest-is : largestRest ≡ spent answer .«largest_rest»
-  pub place-is : place ≡ placeOf answer
-
--- There is an answer of which the promise of Spectrum holds, with these buffers before and after, and it is the answer told.
-pub record SpectrumTold (recording : List ℤ) (start N allowance : ℕ)
-    (cosine sine scratch cosine′ sine′ scratch′ : List ℤ) (products′ sums′ largestRest′ place′ number : ℕ) : Type 0 where
+-- There is an answer that keeps the call's promise, and it is the answer told: by the number returned, which is the refusal's in document 01
+-- or 02 and 0 where the call is accepted, and by the words of a lent record, which hold in every answer what `words` has for it.
+pub record Told {Answer A : Type 0} (promise : Answer → Type 0) (verdict : Answer → Verdict) (words : Answer → List A)
+    (told′ : List A) (number : ℕ) : Type 0 where
   pub answer : Answer
-  pub promise : SpectrumPromise recording start N allowance cosine sine scratch cosine′ sine′ scratch′ answer
-  pub told : Told answer products′ sums′ largestRest′ place′ number
+  pub promised : promise answer
+  pub number-is : number ≡ numberOf (verdict answer)
+  pub words-are : told′ ≡ words answer
 
--- The same of Cosine.
-pub record CosineTold (recording : List ℤ) (start N allowance : ℕ)
-    (coefficients scratch coefficients′ scratch′ : List ℤ) (products′ sums′ largestRest′ place′ number : ℕ) : Type 0 where
-  pub answer : Answer
-  pub promise : CosinePromise recording start N allowance coefficients scratch coefficients′ scratch′ answer
-  pub told : Told answer products′ sums′ largestRest′ place′ number
+-- ---- the calls on recordings tell products, sums, the largest rest and the place. By their definitions the counts and the largest rest are
+-- 0 in every refusal, and the place is 0 in every answer but refusal 6
+abbrev pub spentAndPlace : Answer → List ℕ
+spentAndPlace a = spent a .products ∷ spent a .sums ∷ spent a .«largest_rest» ∷ place (verdictOf a) ∷ []
 
--- The same of Pair.
-pub record PairTold (a b : List ℤ) (start N allowance : ℕ)
-    (real imaginary scratch real′ imaginary′ scratch′ : List ℤ) (products′ sums′ largestRest′ place′ number : ℕ) : Type 0 where
-  pub answer : Answer
-  pub promise : PairPromise a b start N allowance real imaginary scratch real′ imaginary′ scratch′ answer
-  pub told : Told answer products′ sums′ largestRest′ place′ number
+abbrev pub SpectrumTold : List ℤ → (start N allowance : ℕ) → (lent lent′ : Buffers) → List ℕ → ℕ → Type 0
+SpectrumTold recording start N allowance lent lent′ = Told (SpectrumPromise recording start N allowance lent lent′) verdictOf spentAndPlace
 
--- ---- the mark of a block
+abbrev pub CosineTold : List ℤ → (start N allowance : ℕ) → (coefficients scratch coefficients′ scratch′ : List ℤ) → List ℕ → ℕ → Type 0
+CosineTold recording start N allowance coefficients scratch coefficients′ scratch′ =
+    Told (CosinePromise recording start N allowance coefficients scratch coefficients′ scratch′) verdictOf spentAndPlace
 
--- There is an answer of which the promise of the mark holds, with these buffers before and after, and it is the answer told. The counts,
--- the largest rest and the mark are 0 in every refusal, and the place is 0 in every answer but refusal 6.
-pub record MarkTold (recording : List ℤ) (start N allowance : ℕ) (flatLimit clipLevel : ℤ)
-    (cosine sine scratch cosine′ sine′ scratch′ : List ℤ) (products′ sums′ largestRest′ place′ mark′ number : ℕ) : Type 0 where
-  pub answer : MarkAnswer
-  pub promise : MarkPromise recording start N allowance flatLimit clipLevel cosine sine scratch cosine′ sine′ scratch′ answer
-  pub number-is : number ≡ numberOf (marked.verdictOf answer)
-  pub products-is : products′ ≡ marked.spent answer .products
-  pub sums-is : sums′ ≡ marked.spent answer .sums
-  pub rest-is : largestRest′ ≡ marked.spent answer .«largest_rest»
-  pub place-is : place′ ≡ marked.place answer
-  pub mark-is : mark′ ≡ marked.markNumber answer
+abbrev pub PairTold : (a b : List ℤ) → (start N allowance : ℕ) → (real imaginary scratch real′ imaginary′ scratch′ : List ℤ)
+    → List ℕ → ℕ → Type 0
+PairTold a b start N allowance real imaginary scratch real′ imaginary′ scratch′ =
+    Told (PairPromise a b start N allowance real imaginary scratch real′ imaginary′ scratch′) verdictOf spentAndPlace
 
--- ---- a month, in words that C lends
+-- ---- the mark of a block, as its number, stands behind these; it is 0 in every refusal
+abbrev pub markedAndPlace : MarkAnswer → List ℕ
+markedAndPlace a =
+    spentMarking a .products ∷ spentMarking a .sums ∷ spentMarking a .«largest_rest» ∷ place (verdictOfMark a) ∷ markNumber a ∷ []
 
--- There is an answer of which the promise of beginning holds, with these words after the call, and it is the answer told.
-pub record BeginTold (N : ℕ) (month′ : List ℤ) (number : ℕ) : Type 0 where
-  pub answer : BeginAnswer
-  pub promise : BeginPromise N month′ answer
-  pub number-is : number ≡ numberOf (months.verdictOfBegin answer)
+abbrev pub MarkTold : List ℤ → (start N allowance : ℕ) → (flatLimit clipLevel : ℤ) → (lent lent′ : Buffers) → List ℕ → ℕ → Type 0
+MarkTold recording start N allowance flatLimit clipLevel lent lent′ =
+    Told (MarkPromise recording start N allowance flatLimit clipLevel lent lent′) verdictOfMark markedAndPlace
 
--- The same of adding. The counts and the largest rest are 0 in every refusal, and the place is 0 in every answer but refusal 6.
-pub record AddTold (month recording : List ℤ) (start N allowance : ℕ)
-    (cosine sine scratch month′ cosine′ sine′ scratch′ : List ℤ) (products′ sums′ largestRest′ place′ number : ℕ) : Type 0 where
-  pub answer : AddAnswer
-  pub promise : AddPromise month recording start N allowance cosine sine scratch month′ cosine′ sine′ scratch′ answer
-  pub number-is : number ≡ numberOf (months.verdictOf answer)
-  pub products-is : products′ ≡ months.spent answer .products
-  pub sums-is : sums′ ≡ months.spent answer .sums
-  pub rest-is : largestRest′ ≡ months.spent answer .«largest_rest»
-  pub place-is : place′ ≡ months.place answer
+-- ---- a month, in words that C lends. Beginning tells its number alone, adding what Spectrum tells, reading the two sums for k, which are 0
+-- in a refusal
+abbrev pub BeginTold : ℕ → (month′ : List ℤ) → ℕ → Type 0
+BeginTold N month′ = Told {A = ℕ} (BeginPromise N month′) outcome (λ answer. []) []
 
--- The same of reading the sums for k. They are 0 in refusal 16.
-pub record SumsTold (month : List ℤ) (k : ℕ) (cosine′ sine′ : ℤ) (number : ℕ) : Type 0 where
-  pub answer : SumsAnswer
-  pub promise : SumsPromise month k answer
-  pub number-is : number ≡ numberOf (months.verdictOfSums answer)
-  pub cosine-is : cosine′ ≡ months.sumsOf answer .cosine
-  pub sine-is : sine′ ≡ months.sumsOf answer .sine
+abbrev pub AddTold : (month recording : List ℤ) → (start N allowance : ℕ) → Buffers → (month′ : List ℤ) → Buffers → List ℕ → ℕ → Type 0
+AddTold month recording start N allowance lent month′ lent′ =
+    Told (AddPromise month recording start N allowance lent month′ lent′) verdictOf spentAndPlace
 
--- ---- the count query
+abbrev pub SumsTold : (month : List ℤ) → (k : ℕ) → List ℤ → ℕ → Type 0
+SumsTold month k = Told (SumsPromise month k) verdictOfSums (λ a. sumsOf a .cosine ∷ sumsOf a .sine ∷ [])
 
--- There is an answer of which the promise of the count query holds, and it is the answer told. The counts are 0 in refusal 1.
-pub record CountsTold (N dctP′ dctS′ spectrumP′ spectrumS′ pairP′ pairS′ number : ℕ) : Type 0 where
-  pub answer : CountsAnswer
-  pub promise : CountsPromise N answer
-  pub number-is : number ≡ numberOf (verdictOfCounts answer)
-  pub dct-is : (dctP′ ≡ countsOf answer .dct .products) × (dctS′ ≡ countsOf answer .dct .sums)
-  pub spectrum-is : (spectrumP′ ≡ countsOf answer .spectrum .products) × (spectrumS′ ≡ countsOf answer .spectrum .sums)
-  pub pair-is : (pairP′ ≡ countsOf answer .pair .products) × (pairS′ ≡ countsOf answer .pair .sums)
+-- ---- the count query tells the six counts, products and sums of the DCT, of Spectrum and of Pair; they are 0 in refusal 1
+abbrev pub sixCounts : CountsAnswer → List ℕ
+sixCounts a =
+    let c = countsOf a in
+    c .dct .products ∷ c .dct .sums ∷ c .spectrum .products ∷ c .spectrum .sums ∷ c .pair .products ∷ c .pair .sums ∷ []
 
--- ---- strain back from a stored cosine block
+abbrev pub CountsTold : ℕ → List ℕ → ℕ → Type 0
+CountsTold N = Told (CountsPromise N) verdictOfCounts sixCounts
 
--- There is an answer of which the promise of the inverse DCT holds, with this buffer before and after, and it is the answer told. The place
--- is 0 in every answer but refusal 10.
-pub record InverseTold (coefficients : List ℤ) (N : ℕ) (values values′ : List ℤ) (place′ number : ℕ) : Type 0 where
-  pub answer : InverseAnswer
-  pub promise : InversePromise coefficients N values values′ answer
-  pub number-is : number ≡ numberOf (inverse.verdictOf answer)
-  pub place-is : place′ ≡ inverse.placeOf answer
+-- ---- strain back tells the place, which is 0 in every answer but refusal 10
+abbrev pub InverseTold : (coefficients : List ℤ) → ℕ → (values values′ : List ℤ) → List ℕ → ℕ → Type 0
+InverseTold coefficients N values values′ =
+    Told (InversePromise coefficients N values values′) outcome (λ a. place (outcome a) ∷ [])
 
--- ---- a page for the site binder
+-- ---- a page tells its bytes, 0 in every refusal; a file that is written, its bytes and the place; one that is read, m, N and the place. The
+-- place is 0 in every answer but refusal 6
+abbrev pub PageTold : (cosine sine : List ℤ) → ℕ → (buffer buffer′ : List ℕ) → List ℕ → ℕ → Type 0
+PageTold cosine sine N buffer buffer′ = Told (PagePromise cosine sine N buffer buffer′) filled (λ a. bytesOf a ∷ [])
 
--- There is an answer of which the promise of a page holds, with this buffer before and after, and it is the answer told. The bytes are 0 in
--- every refusal.
-pub record PageTold (cosine sine : List ℤ) (N : ℕ) (buffer buffer′ : List ℕ) (bytes′ number : ℕ) : Type 0 where
-  pub answer : PageAnswer
-  pub promise : PagePromise cosine sine N buffer buffer′ answer
-  pub number-is : number ≡ numberOf (page.verdictOf answer)
-  pub bytes-is : bytes′ ≡ page.bytesOf answer
+abbrev pub WriteTold : (a b : List ℤ) → ℕ → (buffer buffer′ : List ℕ) → List ℕ → ℕ → Type 0
+WriteTold a b N buffer buffer′ = Told (WritePromise a b N buffer buffer′) filled (λ w. bytesOf w ∷ place (filled w) ∷ [])
 
--- ---- reading a file
-
--- The answer of the reader in four plain numbers. The sizes are 0 in every refusal, and the place is 0 in every answer but refusal 6.
-pub record FileTold (answer : FileAnswer) (m N place number : ℕ) : Type 0 where
-  pub number-is : number ≡ numberOf (file.verdictOf answer)
-  pub samples-is : m ≡ file.sampleCountOf answer
-  pub length-is : N ≡ file.blockLengthOf answer
-  pub place-is : place ≡ file.placeOf answer
-
--- There is an answer of which the promise of the reader holds, with these recordings before and after, and it is the answer told.
-pub record ReadTold (bytes : List ℕ) (a b a′ b′ : List ℤ) (m′ N′ place′ number : ℕ) : Type 0 where
-  pub answer : FileAnswer
-  pub promise : ReadPromise bytes a b a′ b′ answer
-  pub told : FileTold answer m′ N′ place′ number
-
--- ---- writing a file
-
--- There is an answer of which the promise of the writer holds, with this buffer before and after, and it is the answer told. The bytes are
--- 0 in every refusal, and the place is 0 in every answer but refusal 6.
-pub record WriteTold (a b : List ℤ) (N : ℕ) (buffer buffer′ : List ℕ) (bytes′ place′ number : ℕ) : Type 0 where
-  pub answer : WriteAnswer
-  pub promise : WritePromise a b N buffer buffer′ answer
-  pub number-is : number ≡ numberOf (written.verdictOf answer)
-  pub bytes-is : bytes′ ≡ written.bytesOf answer
-  pub place-is : place′ ≡ written.placeOf answer
+abbrev pub ReadTold : List ℕ → (a b a′ b′ : List ℤ) → List ℕ → ℕ → Type 0
+ReadTold bytes a b a′ b′ =
+    Told (ReadPromise bytes a b a′ b′) file.verdictOf
+    (λ r. file.sizesOf r .samples ∷ file.sizesOf r .length ∷ place (file.verdictOf r) ∷ [])

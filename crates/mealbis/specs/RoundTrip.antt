@@ -10,8 +10,8 @@ use Rattle.refusals.specs.Refusals.{block, accepted}
 use Rattle.spectra.specs.declared.Answer.{Answer}
 use Rattle.spectra.specs.Answers.{verdictOf}
 use Rattle.spectra.specs.Promises.{CosinePromise}
-use Rattle.inverse.specs.declared.InverseAnswer.{InverseAnswer}
-use Rattle.inverse.specs.Answers as inverse
+use Rattle.refusals.specs.declared.refusal.Outcome.{Outcome}
+use Rattle.refusals.specs.Answers.{outcome}
 use Rattle.inverse.specs.Promises.{InversePromise}
 
 -- Cosine on the block at `start` was accepted and left coefficients′; the inverse DCT was called with these, N and a buffer of at least N
@@ -21,8 +21,8 @@ CosineAndBack =
     (recording : List ℤ) (start N allowance : ℕ) (coefficients scratch coefficients′ scratch′ : List ℤ) (cosine : Answer)
     → CosinePromise recording start N allowance coefficients scratch coefficients′ scratch′ cosine
     → verdictOf cosine ≡ accepted
-    → (values values′ : List ℤ) (back : InverseAnswer)
+    → (values values′ : List ℤ) (back : Outcome)
     → InversePromise coefficients′ N values values′ back
     → N ≤ length values
-    → (inverse.verdictOf back ≡ accepted)
+    → (outcome back ≡ accepted)
     × ((n : ℕ) → n < N → natAbs (word values′ n -ℤ block recording start n) ≤ N)

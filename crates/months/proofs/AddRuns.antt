@@ -14,16 +14,15 @@ use Rattle.words.proofs.Writing.{front}
 use Rattle.lengths.specs.Block.{isLength}
 use Rattle.lengths.proofs.ElevenLengths.{length-le}
 use Rattle.counts.specs.declared.tally.Tally.{Tally}
-use Rattle.refusals.specs.Refusals.{block, number}
 use Rattle.refusals.specs.Calls.{Call, tests, verdict}
-use Rattle.refusals.specs.declared.call.Refusal.{Refusal}
+use Rattle.refusals.specs.declared.refusal.Refusal.{Refusal}
+use Rattle.refusals.specs.declared.refusal.Refusal.the-variants.{OtherLength, MonthFull}
 use Rattle.refusals.proofs.Conditions.{none-of}
-use Rattle.refusals.proofs.Promises.{turned-down, carried-out}
-use Rattle.refusals.proofs.Calls.{passes, some-number}
+use Rattle.refusals.proofs.Promises.{refuses, turned-down, carried-out}
+use Rattle.refusals.proofs.Calls.{passes}
 use Rattle.spectra.specs.declared.Answer.{Answer}
 use Rattle.spectra.specs.declared.Answer.the-variants.{Refused, Done}
-use Rattle.spectra.specs.Promises.{spectrumCall, SpectrumPromise}
-use Rattle.months.specs.declared.record.AddAnswer.the-variants.{OtherLength, Full, Spectrum}
+use Rattle.spectra.specs.Promises.{Buffers, spectrumCall, SpectrumPromise}
 use Rattle.months.specs.Months.{lengthOf, otherLength, full, addVerdict, plus, BlockAdded}
 use Rattle.months.specs.Promises.{AddPromise}
 use Rattle.months.proofs.Lengths.{length-some}
@@ -48,37 +47,34 @@ own-length month N e =
     (is, rw is at (length-some month (eqb-false (lengthOf month) 0 some)))
 
 -- ---- a run
-module _ (month r : List ℤ) (start N allowance : ℕ) (cosine sine scratch : List ℤ) where
+module _ (month r : List ℤ) (start N allowance : ℕ) (lent : Buffers) where
   abbrev call : Call
-  call = spectrumCall r start N allowance cosine sine scratch
+  call = spectrumCall r start N allowance lent
 
-  pub other-length : otherLength month N ≡ true
-      → AddPromise month r start N allowance cosine sine scratch month cosine sine scratch OtherLength
-  other-length e = turned-down (refl, refl, refl, refl) (omega arith) (rw e refl)
+  pub other-length : otherLength month N ≡ true → AddPromise month r start N allowance lent month lent (Refused OtherLength)
+  other-length e = turned-down OtherLength (refl, refl) (rw e refl)
 
   module _ (own : otherLength month N ≡ false) where
-    pub is-full : full month ≡ true → AddPromise month r start N allowance cosine sine scratch month cosine sine scratch Full
-    is-full e = turned-down (refl, refl, refl, refl) (omega arith) (rw (own, e) refl)
+    pub is-full : full month ≡ true → AddPromise month r start N allowance lent month lent (Refused MonthFull)
+    is-full e = turned-down MonthFull (refl, refl) (rw (own, e) refl)
 
     as-spectrum : full month ≡ false → addVerdict month call ≡ verdict call
     unfolding tests
     as-spectrum room = rw (own, room, own-length month N own .1) refl
 
-    module _ (room : full month ≡ false) {cosine′ sine′ scratch′ : List ℤ} {answer : Answer}
-        (p : SpectrumPromise r start N allowance cosine sine scratch cosine′ sine′ scratch′ answer) where
-      with-answer : {a : Answer} → answer ≡ a → SpectrumPromise r start N allowance cosine sine scratch cosine′ sine′ scratch′ a
-      with-answer e = subst (λ a. SpectrumPromise r start N allowance cosine sine scratch cosine′ sine′ scratch′ a) e p
+    module _ (room : full month ≡ false) {lent′ : Buffers} {answer : Answer}
+        (p : SpectrumPromise r start N allowance lent lent′ answer) where
+      with-answer : {a : Answer} → answer ≡ a → SpectrumPromise r start N allowance lent lent′ a
+      with-answer e = subst (λ a. SpectrumPromise r start N allowance lent lent′ a) e p
 
       pub spectrum-refused : {refusal : Refusal} → answer ≡ Refused refusal
-          → AddPromise month r start N allowance cosine sine scratch month cosine′ sine′ scratch′ (Spectrum answer)
+          → AddPromise month r start N allowance lent month lent′ answer
       spectrum-refused {refusal} e =
           let q = with-answer e in
-          let some = some-number refusal in
-          let (c, s, w) = q .unchanged (λ a. omega (arith, some, ap number a)) in
-          rw e (turned-down (refl, c, s, w) some (as-spectrum room ∙ sym (q .verdict)))
+          rw e (turned-down refusal (refl, q .unchanged (refuses refusal)) (as-spectrum room ∙ sym (q .verdict)))
 
       module _ {tally : Tally} (e : answer ≡ Done tally) where
-        pub add-ready : (N ≤ 1024) × (N / 2 + 1 ≤ length cosine′) × (N / 2 + 1 ≤ length sine′)
+        pub add-ready : (N ≤ 1024) × (N / 2 + 1 ≤ length (lent′ .cosine)) × (N / 2 + 1 ≤ length (lent′ .sine))
         add-ready =
             let q = with-answer e in
             let passed = passes call (sym (q .verdict)) in
@@ -88,8 +84,8 @@ module _ (month r : List ℤ) (start N allowance : ℕ) (cosine sine scratch : L
               omega (arith, passed .results .1 .0, done .sineWords .len),
             )
 
-        pub block-held : {month′ : List ℤ} → BlockAdded N (word cosine′) (word sine′) month month′
-            → AddPromise month r start N allowance cosine sine scratch month′ cosine′ sine′ scratch′ (Spectrum answer)
+        pub block-held : {month′ : List ℤ} → BlockAdded N (word (lent′ .cosine)) (word (lent′ .sine)) month month′
+            → AddPromise month r start N allowance lent month′ lent′ answer
         block-held {month′} b =
             let q = with-answer e in
             let done = q .done refl in

@@ -14,12 +14,13 @@ use Rattle.whole.proofs.Operations.{natural}
 use Rattle.words.specs.Words.{word}
 use Rattle.lengths.specs.Block.{isLength}
 use Rattle.lengths.proofs.ElevenLengths.{length-le}
+use Rattle.refusals.specs.declared.refusal.Refusal.the-variants.{BadLength}
+use Rattle.refusals.specs.declared.refusal.Outcome.{Outcome}
+use Rattle.refusals.specs.declared.refusal.Outcome.the-variants.{Refused, Accepted}
 use Rattle.refusals.specs.Refusals.{refused, accepted}
-use Rattle.months.specs.declared.record.BeginAnswer.{BeginAnswer}
-use Rattle.months.specs.declared.record.BeginAnswer.the-variants.{BadLength, Begun}
+use Rattle.refusals.specs.Answers.{outcome}
 use Rattle.months.specs.Months.{lengthOf, newMonth, Holds, sumOver, AllAccepted}
 use Rattle.months.specs.Laws.{AlwaysOther}
-use Rattle.months.specs.Answers.{verdictOfBegin}
 use Rattle.months.specs.Promises.{BeginPromise}
 use Rattle.months.proofs.Lengths.{length-begun}
 
@@ -43,7 +44,7 @@ empty N = record {
   beyond = λ k h l. (new-word N (2 + k) (omega arith), new-word N (515 + k) (omega arith));
 }
 
-promise : (b : Bool) {N : ℕ} {answer : BeginAnswer} → isLength N ≡ b → verdictOfBegin answer ≡ cond (not b) (refused 1) accepted
+promise : (b : Bool) {N : ℕ} {answer : Outcome} → isLength N ≡ b → outcome answer ≡ cond (not b) (refused 1) accepted
     → BeginPromise N (newMonth (cond b N 0)) answer
 promise b {N} e told = record {
   verdict = rw e told;
@@ -52,11 +53,11 @@ promise b {N} e told = record {
   empty = empty (cond b N 0);
 }
 
-pub not-begun : {N : ℕ} → isLength N ≡ false → BeginPromise N (newMonth 0) BadLength
+pub not-begun : {N : ℕ} → isLength N ≡ false → BeginPromise N (newMonth 0) (Refused BadLength)
 not-begun e = promise false e refl
 
 -- the length as the word that is stored
-pub begun : {N : ℕ} → isLength N ≡ true → BeginPromise N (toZ w64 N ∷ replicate 1027 (pos 0)) Begun
+pub begun : {N : ℕ} → isLength N ≡ true → BeginPromise N (toZ w64 N ∷ replicate 1027 (pos 0)) Accepted
 unfolding int
 begun {N} e = let is = natural {w = w64} {n = N} (omega (arith, length-le N e)) .is in rw is (promise true e refl)
 

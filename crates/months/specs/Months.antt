@@ -107,6 +107,9 @@ full month = leZ (pos mostBlocks) (blockNumber month)
 abbrev pub addVerdict : List ℤ → Call → Verdict
 addVerdict month call = cond (otherLength month (call .N)) (refused 13) (cond (full month) (refused 14) (testsFromTwo call accepted))
 
--- ---- reading: whether Spectrum yields k for blocks of the month's length; a month of the length 0 has no blocks
+-- ---- reading the sums for k: 16, "when k is not yielded" by Spectrum for blocks of the month's length; a month of the length 0 has none
 abbrev pub yielded : List ℤ → ℕ → Bool
 yielded month k = not (eqb (lengthOf month) 0) && leb k (lengthOf month / 2)
+
+abbrev pub sumsVerdict : List ℤ → ℕ → Verdict
+sumsVerdict month k = cond (yielded month k) accepted (refused 16)

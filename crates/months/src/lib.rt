@@ -2,11 +2,12 @@
 // gives the month back as it was.
 pub mod record;
 
-use record::AddAnswer;
-use record::BeginAnswer;
 use record::Record;
 use record::SumsAnswer;
+use refusals::refusal::Outcome;
+use spectra::Answer;
 ghost use mathlib.Core.Path.{_≡_};
+ghost use Rattle.spectra.specs.Promises.{buffers};
 ghost use Rattle.months.specs.Months.{lengthOf, blockNumber};
 ghost use Rattle.months.specs.Promises.{Beginning, Adding, SumsPromise};
 
@@ -16,12 +17,12 @@ pub struct Month {
 
 pub struct Begun {
     pub month: Month,
-    pub answer: BeginAnswer,
+    pub answer: Outcome,
 }
 
 pub struct Added {
     pub month: Month,
-    pub answer: AddAnswer,
+    pub answer: Answer,
 }
 
 // A month for one length; where the length is refused, one to which no block can be added.
@@ -45,8 +46,8 @@ pub fn add(
     scratch: &mut [i64],
 ) -> Added
     ensures { λ r. ⌜ Adding month (now (recording .entry)) start length allowance
-        (now (cosine .entry)) (now (sine .entry)) (now (scratch .entry))
-        (now (cosine .exit)) (now (sine .exit)) (now (scratch .exit)) r ⌝ }
+        (buffers (now (cosine .entry)) (now (sine .entry)) (now (scratch .entry)))
+        (buffers (now (cosine .exit)) (now (sine .exit)) (now (scratch .exit))) r ⌝ }
 {
     let mut next = month;
     let answer = record::add_to(

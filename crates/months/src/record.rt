@@ -1,7 +1,7 @@
 // The record of a month in words that the caller lends (specs/Months.antt has its places). A program in C keeps its months so.
-use counts::tally::EMPTY;
-use counts::tally::Tally;
 use lengths::is_length;
+use refusals::refusal::Outcome;
+use refusals::refusal::Refusal;
 use spectra::Answer;
 use spectra::spectrum;
 ghost use mathlib.Core.Bool.{false};
@@ -9,9 +9,9 @@ ghost use mathlib.Core.Path.{_≡_};
 ghost use Prim.Native.Nat.{_+_, _/_, _^_, _≤_};
 ghost use lib.ListN.{length as List·length};
 ghost use Rattle.words.specs.Words.{word, Written};
-ghost use Rattle.refusals.specs.Refusals.{number, atMost};
+ghost use Rattle.refusals.specs.Refusals.{atMost};
 ghost use Rattle.months.specs.Months.{lengthOf, blockNumber, full, otherLength, plus, BlockAdded};
-ghost use Rattle.months.specs.Answers.{verdictOfBegin, verdictOf, verdictOfSums, spent, place, sumsOf};
+ghost use Rattle.spectra.specs.Promises.{buffers};
 ghost use Rattle.months.specs.Promises.{BeginPromise, AddPromise, SumsPromise};
 
 // The words of a record, and the places in it: of the length, the block number, and the sums for k = 0 of the cosine and of the sine.
@@ -27,19 +27,6 @@ const SINE_SUMS: usize = 515;
 
 const MOST_BLOCKS: i64 = 100000;
 
-// The answer of beginning.
-pub enum BeginAnswer {
-    BadLength,
-    Begun,
-}
-
-// The answer of adding: one of the month's own refusals, or that of Spectrum.
-pub enum AddAnswer {
-    OtherLength,
-    Full,
-    Spectrum(Answer),
-}
-
 // The two sums of a month for one k.
 pub struct Sums {
     pub cosine: i64,
@@ -48,7 +35,7 @@ pub struct Sums {
 
 // The answer of reading them.
 pub enum SumsAnswer {
-    NotYielded,
+    Refused(Refusal),
     Yielded(Sums),
 }
 
@@ -79,29 +66,28 @@ pub fn sums_at(month: &Record, k: usize) -> SumsAnswer
 {
     let length = length_of(month);
     if length == 0 {
-        return SumsAnswer::NotYielded;
+        return SumsAnswer::Refused(Refusal::NotYielded);
     }
     if length / 2 < k {
-        return SumsAnswer::NotYielded;
+        return SumsAnswer::Refused(Refusal::NotYielded);
     }
-    SumsAnswer::Yielded(Sums {
-        cosine: month[COSINE_SUMS + k],
-        sine: month[SINE_SUMS + k],
-    })
+    let cosine = month[COSINE_SUMS + k];
+    let sine = month[SINE_SUMS + k];
+    SumsAnswer::Yielded(Sums { cosine, sine })
 }
 
 // ---- beginning
 
 // A month of no blocks, in whatever words are lent.
-pub fn begin_in(month: &mut Record, length: usize) -> BeginAnswer
+pub fn begin_in(month: &mut Record, length: usize) -> Outcome
     ensures { λ r. ⌜ BeginPromise length (now (month .exit)) r ⌝ }
 {
     *month = [0; 1028];
     if !is_length(length) {
-        return BeginAnswer::BadLength;
+        return Outcome::Refused(Refusal::BadLength);
     }
     month[LENGTH] = length as i64;
-    BeginAnswer::Begun
+    Outcome::Accepted
 }
 
 // ---- adding
@@ -173,89 +159,23 @@ pub fn add_to(
     cosine: &mut [i32],
     sine: &mut [i32],
     scratch: &mut [i64],
-) -> AddAnswer
+) -> Answer
     ensures { λ r. ⌜ AddPromise (now (month .entry)) (now (recording .entry)) start length allowance
-        (now (cosine .entry)) (now (sine .entry)) (now (scratch .entry))
-        (now (month .exit)) (now (cosine .exit)) (now (sine .exit)) (now (scratch .exit)) r ⌝ }
+        (buffers (now (cosine .entry)) (now (sine .entry)) (now (scratch .entry)))
+        (now (month .exit)) (buffers (now (cosine .exit)) (now (sine .exit)) (now (scratch .exit))) r ⌝ }
 {
     if is_other_length(month, length) {
-        return AddAnswer::OtherLength;
+        return Answer::Refused(Refusal::OtherLength);
     }
     if MOST_BLOCKS <= month[BLOCK_NUMBER] {
-        return AddAnswer::Full;
+        return Answer::Refused(Refusal::MonthFull);
     }
     let answer = spectrum(recording, start, length, allowance, cosine, sine, scratch);
     match answer {
-        Answer::Refused(_) => AddAnswer::Spectrum(answer),
+        Answer::Refused(_) => answer,
         Answer::Done(_) => {
             add_block(month, length, cosine, sine);
-            AddAnswer::Spectrum(answer)
+            answer
         }
-    }
-}
-
-// ---- the answers as plain numbers
-
-// The number of an answer of beginning in document 02; 0 where the month is begun.
-pub fn begin_number(answer: BeginAnswer) -> u32
-    ensures { λ r. ⌜ r ≡ number (verdictOfBegin answer) ⌝ }
-{
-    match answer {
-        BeginAnswer::BadLength => 1,
-        BeginAnswer::Begun => 0,
-    }
-}
-
-// The number of an answer of adding in document 01 or 02; 0 where the block is added.
-pub fn number_of(answer: AddAnswer) -> u32
-    ensures { λ r. ⌜ r ≡ number (verdictOf answer) ⌝ }
-{
-    match answer {
-        AddAnswer::OtherLength => 13,
-        AddAnswer::Full => 14,
-        AddAnswer::Spectrum(answer) => spectra::number_of(answer),
-    }
-}
-
-// The counts that an accepted call spent, and its largest rest; else 0 for each.
-pub fn spent_of(answer: AddAnswer) -> Tally
-    ensures { λ r. ⌜ (r .products ≡ spent answer .products) × (r .sums ≡ spent answer .sums)
-        × (r .«largest_rest» ≡ spent answer .«largest_rest») ⌝ }
-{
-    match answer {
-        AddAnswer::OtherLength => EMPTY,
-        AddAnswer::Full => EMPTY,
-        AddAnswer::Spectrum(answer) => spectra::spent_of(answer),
-    }
-}
-
-// The place of the first sample out of range, of refusal 6; else 0.
-pub fn place_of(answer: AddAnswer) -> usize
-    ensures { λ r. ⌜ r ≡ place answer ⌝ }
-{
-    match answer {
-        AddAnswer::OtherLength => 0,
-        AddAnswer::Full => 0,
-        AddAnswer::Spectrum(answer) => spectra::place_of(answer),
-    }
-}
-
-// The number of an answer of reading in document 02; 0 where the sums are given.
-pub fn sums_number(answer: SumsAnswer) -> u32
-    ensures { λ r. ⌜ r ≡ number (verdictOfSums answer) ⌝ }
-{
-    match answer {
-        SumsAnswer::NotYielded => 16,
-        SumsAnswer::Yielded(_) => 0,
-    }
-}
-
-// The two sums; else 0 for each.
-pub fn sums_of(answer: SumsAnswer) -> Sums
-    ensures { λ r. ⌜ (r .cosine ≡ sumsOf answer .cosine) × (r .sine ≡ sumsOf answer .sine) ⌝ }
-{
-    match answer {
-        SumsAnswer::NotYielded => Sums { cosine: 0, sine: 0 },
-        SumsAnswer::Yielded(both) => both,
     }
 }

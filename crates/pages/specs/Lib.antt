@@ -1,4 +1,3 @@
 pub mod Page
-pub mod Answers
 pub mod Promises
 pub mod Laws

@@ -1,12 +1,13 @@
 -- Document 02, (vii), "A page for the site binder": the page as the list of its bytes, and when a stored spectrum is turned down.
 -- cosine and sine are the stored coefficients, coefficient k at k; N is the block length.
-use mathlib.Core.Bool.{not, cond}
+use mathlib.Core.Bool.{cond}
 use mathlib.Core.List.{List, [], _∷_, _++_}
 use Prim.Native.Nat.{ℕ, zero, suc, _+_, _*_}
 use lib.Dec.{ltb}
 use lib.IntN.{ℤ}
-use Rattle.lengths.specs.Block.{isLength, spectrumYields}
-use Rattle.refusals.specs.Refusals.{Verdict, refused, accepted, someBelow}
+use Rattle.lengths.specs.Block.{spectrumYields}
+use Rattle.refusals.specs.Refusals.{Verdict, refused, accepted}
+use Rattle.refusals.specs.Calls.{storedTests}
 use Rattle.text.specs.Decimal.{number, decimal}
 use Rattle.text.specs.Lines.{space, lineFeed}
 use Rattle.text.specs.Alignment.{rightAligned}
@@ -40,7 +41,4 @@ pageBytes N = 31 * (1 + spectrumYields N)
 -- bytes that are lent
 unfoldable pub pageVerdict : (stored : List ℕ) → ℕ → (room : ℕ) → Verdict
 pageVerdict stored N room =
-    cond (not (isLength N)) (refused 1)
-    (cond (someBelow (spectrumYields N) stored) (refused 2)
-    (cond (ltb room (pageBytes N)) (refused 3)
-    accepted))
+    storedTests N (spectrumYields N) stored (cond (ltb room (pageBytes N)) (refused 3) accepted)

@@ -9,9 +9,9 @@ use lib.ListN.{length}
 use Rattle.words.specs.Words.{word}
 use Rattle.words.specs.Put.{Put}
 use Rattle.lengths.specs.Block.{isLength}
+use Rattle.refusals.specs.declared.refusal.Filled.{Filled}
 use Rattle.refusals.specs.Refusals.{Promise}
-use Rattle.pages.specs.declared.PageAnswer.{PageAnswer}
-use Rattle.pages.specs.Answers.{verdictOf, bytesOf}
+use Rattle.refusals.specs.Answers.{filled, bytesOf}
 use Rattle.pages.specs.Page.{page, pageBytes, pageVerdict}
 
 -- the page stands at the front of the buffer. "Bytes after the last line stay."
@@ -22,8 +22,8 @@ pub record PageDone (N : ℕ) (cosine sine : ℕ → ℤ) (buffer buffer′ : Li
   pub length-ok : isLength N ≡ true
 
 -- "3 for a page buffer too short, which then is unchanged", as after every refusal
-abbrev pub PagePromise : (cosine sine : List ℤ) → ℕ → (buffer buffer′ : List ℕ) → PageAnswer → Type 0
+abbrev pub PagePromise : (cosine sine : List ℤ) → ℕ → (buffer buffer′ : List ℕ) → Filled → Type 0
 PagePromise cosine sine N buffer buffer′ answer =
-    Promise (verdictOf answer) (pageVerdict (length cosine ∷ length sine ∷ []) N (length buffer))
+    Promise (filled answer) (pageVerdict (length cosine ∷ length sine ∷ []) N (length buffer))
     (buffer′ ≡ buffer)
     (PageDone N (word cosine) (word sine) buffer buffer′ (bytesOf answer))

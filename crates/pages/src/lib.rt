@@ -1,7 +1,10 @@
 // A page for the site binder: a stored spectrum in lines of 30 columns (document 02, (vii)). The call asks nothing of its input: it tests
 // its refusals in their order, before anything is written, and promises its whole outcome (specs/Promises.antt).
-use lengths::is_length;
 use refusals::length::shorter;
+use refusals::refusal::Filled;
+use refusals::refusal::Outcome;
+use refusals::refusal::Refusal;
+use refusals::stored::test_stored;
 use text::columns::put_column;
 use text::put;
 ghost use mathlib.Core.Path.{_≡_};
@@ -10,18 +13,8 @@ ghost use Prim.Native.Nat.{_+_, _*_, _≤_, _<_};
 ghost use lib.ListN.{length};
 ghost use Rattle.words.specs.Words.{word};
 ghost use Rattle.words.specs.Put.{Put};
-ghost use Rattle.refusals.specs.Refusals.{number};
 ghost use Rattle.pages.specs.Page.{heading, line, lines};
-ghost use Rattle.pages.specs.Answers.{verdictOf, bytesOf};
 ghost use Rattle.pages.specs.Promises.{PagePromise};
-
-// The answer of the call: a case for each refusal of document 02, or the bytes of the page that was printed.
-pub enum PageAnswer {
-    BadLength,
-    TooFewStored,
-    PageTooShort,
-    Printed(usize),
-}
 
 // The bytes of a line.
 const LINE: usize = 31;
@@ -56,42 +49,16 @@ fn put_page(cosine: &[i32], sine: &[i32], yields: usize, page: &mut [u8]) -> usi
 }
 
 // The page of a stored spectrum of blocks of `length` samples, put at the front of a lent buffer.
-pub fn print(cosine: &[i32], sine: &[i32], length: usize, page: &mut [u8]) -> PageAnswer
+pub fn fill_page(cosine: &[i32], sine: &[i32], length: usize, page: &mut [u8]) -> Filled
     ensures { λ r. ⌜ PagePromise (now (cosine .entry)) (now (sine .entry)) length (now (page .entry)) (now (page .exit)) r ⌝ }
 {
-    if !is_length(length) {
-        return PageAnswer::BadLength;
-    }
     let yields = length / 2 + 1;
-    if shorter(cosine.len(), sine.len()) < yields {
-        return PageAnswer::TooFewStored;
+    let tested = test_stored(length, shorter(cosine.len(), sine.len()), yields);
+    if let Outcome::Refused(refusal) = tested {
+        return Filled::Refused(refusal);
     }
     if page.len() < LINE * (1 + yields) {
-        return PageAnswer::PageTooShort;
+        return Filled::Refused(Refusal::ResultTooShort);
     }
-    PageAnswer::Printed(put_page(cosine, sine, yields, page))
-}
-
-// Document 02's number of an answer; 0 where the page was printed.
-pub fn number_of(answer: PageAnswer) -> u32
-    ensures { λ r. ⌜ r ≡ number (verdictOf answer) ⌝ }
-{
-    match answer {
-        PageAnswer::BadLength => 1,
-        PageAnswer::TooFewStored => 2,
-        PageAnswer::PageTooShort => 3,
-        PageAnswer::Printed(_) => 0,
-    }
-}
-
-// The bytes of a page that was printed; else 0.
-pub fn bytes_of(answer: PageAnswer) -> usize
-    ensures { λ r. ⌜ r ≡ bytesOf answer ⌝ }
-{
-    match answer {
-        PageAnswer::Printed(bytes) => bytes,
-        PageAnswer::BadLength => 0,
-        PageAnswer::TooFewStored => 0,
-        PageAnswer::PageTooShort => 0,
-    }
+    Filled::Bytes(put_page(cosine, sine, yields, page))
 }

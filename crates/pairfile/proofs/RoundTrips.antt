@@ -15,8 +15,8 @@ use Rattle.refusals.specs.Refusals.{accepted, someBelow}
 use Rattle.refusals.proofs.Conditions.{AllReach, all-reach, reach-all}
 use Rattle.pairfile.specs.File.{sampleCount, fileBytes, fileVerdict}
 use Rattle.pairfile.specs.OwnFile.{pairFile, writeVerdict}
-use Rattle.pairfile.specs.ReadAnswers as read
-use Rattle.pairfile.specs.WriteAnswers as write
+use Rattle.refusals.specs.Answers.{filled}
+use Rattle.pairfile.specs.Answers.{verdictOf, sizesOf}
 use Rattle.pairfile.specs.Promises.{ReadDone, ReadPromise}
 use Rattle.pairfile.specs.Laws.{Reads, InputReadBack, InputHasOneFile, WrittenAndRead, ReadAndWritten}
 use Rattle.pairfile.proofs.Verdicts.{count-good, Passed3, accepted-3, file-accepted}
@@ -80,15 +80,15 @@ written-and-read a b N buffer buffer′ wrote p ok c d c′ d′ answer q for-a 
     promise : ReadPromise (pairFile a b N) c d c′ d′ answer
     promise = rw (p .done ok .file .front) at q
 
-    is-accepted : read.verdictOf answer ≡ accepted
+    is-accepted : verdictOf answer ≡ accepted
     is-accepted =
         promise .verdict ∙ file-read a b N (length buffer) s (length c ∷ length d ∷ [])
         (all-reach (length a) (length c ∷ length d ∷ []) (for-a, (for-b, tt)))
 
-    done : ReadDone (pairFile a b N) c d c′ d′ (read.sampleCountOf answer) (read.blockLengthOf answer)
+    done : ReadDone (pairFile a b N) c d c′ d′ (sizesOf answer .samples) (sizesOf answer .length)
     done = promise .done is-accepted
 
-    count : read.sampleCountOf answer ≡ length a
+    count : sizesOf answer .samples ≡ length a
     count = done .samples-is ∙ back .count
 
 -- the first m words of a recording that hold the samples z
@@ -142,10 +142,10 @@ read-and-written file a b a′ b′ answer bytes p ok buffer buffer′ wrote q r
     (is-accepted, q .done is-accepted .file .front ∙ sym (input-has-one-file _ _ N (length buffer) stated file lent bytes verdict same))
   where
     m : ℕ
-    m = read.sampleCountOf answer
+    m = sizesOf answer .samples
 
     N : ℕ
-    N = read.blockLengthOf answer
+    N = sizesOf answer .length
 
     lent : List ℕ
     lent = length a ∷ length b ∷ []
@@ -171,5 +171,5 @@ read-and-written file a b a′ b′ answer bytes p ok buffer buffer′ wrote q r
         (read-passed file a b a′ b′ m N done (reach .0) (reach .1 .0) (length buffer)
         (omega (arith, passed .past .bytes, done .samples-is)))
 
-    is-accepted : write.verdictOf wrote ≡ accepted
+    is-accepted : filled wrote ≡ accepted
     is-accepted = q .verdict ∙ stated

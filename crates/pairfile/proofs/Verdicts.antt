@@ -16,13 +16,14 @@ use Rattle.words.specs.Words.{Samples, Written}
 use Rattle.lengths.specs.Block.{isLength, largestSample}
 use Rattle.refusals.specs.declared.range.Pass.{Pass}
 use Rattle.refusals.specs.declared.range.Pass.the-variants.{None, At}
+use Rattle.refusals.specs.declared.refusal.Refusal.the-variants.{BadLength, ResultTooShort, OutOfRange, BelowHeader}
+use Rattle.refusals.specs.declared.refusal.Refusal.the-variants.{BadCount, BadFileLength}
 use Rattle.refusals.specs.Refusals.{someBelow, firstOutOr, firstOutIn, refused, accepted}
 use Rattle.refusals.specs.Passes.{OnePass}
 use Rattle.refusals.proofs.Passes.{all-in}
 use Rattle.refusals.proofs.Promises.{turned-down, carried-out, past-test}
 use Rattle.refusals.proofs.Conditions.{all-reach, some-below, none-of, found-none, found-at, in-verdict}
-use Rattle.pairfile.specs.declared.reader.FileAnswer.the-variants.{BelowHeader, BadCount, BadFileLength, BadLength}
-use Rattle.pairfile.specs.declared.reader.FileAnswer.the-variants.{RecordingTooShort, OutOfRange, Read}
+use Rattle.pairfile.specs.declared.reader.ReadAnswer.the-variants.{Refused, Read}
 use Rattle.pairfile.specs.File.{sampleCount, blockLength, samplesAt, startOfA, startOfB, samplesOfA, samplesOfB}
 use Rattle.pairfile.specs.File.{headerBytes, mostSamples, badCount, fileBytes, fileVerdict}
 use Rattle.pairfile.specs.Promises.{ReadPromise}
@@ -67,11 +68,11 @@ module _ (file lent : List ℕ) where
   pub accepted-3 : fileVerdict file lent ≡ accepted → Passed3 file lent
   unfolding fileVerdict
   accepted-3 ok =
-      let (header, ok₈) = past-test (ltb (length file) headerBytes) ok (omega arith) in
-      let (count, ok₉) = past-test (badCount (sampleCount file)) ok₈ (omega arith) in
-      let (bytes, ok₁) = past-test (not (eqb (length file) (fileBytes (sampleCount file)))) ok₉ (omega arith) in
-      let (blocks, ok₃) = past-test (not (isLength (blockLength file))) ok₁ (omega arith) in
-      let (reach, _) = past-test (someBelow (sampleCount file) lent) ok₃ (omega arith) in
+      let (header, ok₈) = past-test 7 (ltb (length file) headerBytes) ok in
+      let (count, ok₉) = past-test 8 (badCount (sampleCount file)) ok₈ in
+      let (bytes, ok₁) = past-test 9 (not (eqb (length file) (fileBytes (sampleCount file)))) ok₉ in
+      let (blocks, ok₃) = past-test 1 (not (isLength (blockLength file))) ok₁ in
+      let (reach, _) = past-test 3 (someBelow (sampleCount file) lent) ok₃ in
       record {
         past = record {
           past = record { header = ltb-false _ _ header; count = count };
@@ -105,22 +106,22 @@ module _ (file : List ℕ) (a b : List ℤ) where
   abbrev lent : List ℕ
   lent = length a ∷ length b ∷ []
 
-  pub below-header : length file < headerBytes → ReadPromise file a b a b BelowHeader
-  below-header h = turned-down (refl, refl) (omega arith) (refused-7 file lent h)
+  pub below-header : length file < headerBytes → ReadPromise file a b a b (Refused BelowHeader)
+  below-header h = turned-down BelowHeader (refl, refl) (refused-7 file lent h)
 
   module _ (m : ℕ) (count : m ≡ sampleCount file) (header : headerBytes ≤ length file) (bad : Bool) (is-bad : bad ≡ badCount m) where
     same-test : badCount (sampleCount file) ≡ bad
     same-test = rw (is-bad, count)
 
-    pub count-bad : bad ≡ true → ReadPromise file a b a b BadCount
-    count-bad h = turned-down (refl, refl) (omega arith) (refused-8 file lent header (same-test ∙ h))
+    pub count-bad : bad ≡ true → ReadPromise file a b a b (Refused BadCount)
+    count-bad h = turned-down BadCount (refl, refl) (refused-8 file lent header (same-test ∙ h))
 
     module _ (few : bad ≡ false) where
       passed-8 : Passed8 file
       passed-8 = record { header = header; count = same-test ∙ few }
 
-      pub bad-bytes : (length file ≡ fileBytes m → ⊥) → ReadPromise file a b a b BadFileLength
-      bad-bytes differ = turned-down (refl, refl) (omega arith) (refused-9 file lent passed-8 (λ e. differ (omega arith)))
+      pub bad-bytes : (length file ≡ fileBytes m → ⊥) → ReadPromise file a b a b (Refused BadFileLength)
+      bad-bytes differ = turned-down BadFileLength (refl, refl) (refused-9 file lent passed-8 (λ e. differ (omega arith)))
 
       module _ (N : ℕ) (ok : Bool) (bytes : length file ≡ fileBytes m) (is : ok ≡ isLength N) (blocks : N ≡ blockLength file) where
         abbrev recordings : List Samples
@@ -131,31 +132,31 @@ module _ (file : List ℕ) (a b : List ℤ) where
         unfolding fileVerdict
         past-9 = rw (is, blocks, count, le-ltb _ _ header, passed-8 .count, eq-eqb _ _ (rw count at bytes))
 
-        pub bad-length : not ok ≡ true → ReadPromise file a b a b BadLength
-        bad-length h = turned-down (refl, refl) (omega arith) (past-9 ∙ rw h)
+        pub bad-length : not ok ≡ true → ReadPromise file a b a b (Refused BadLength)
+        bad-length h = turned-down BadLength (refl, refl) (past-9 ∙ rw h)
 
         module _ (good : not ok ≡ false) where
-          pub a-short : length a < m → ReadPromise file a b a b RecordingTooShort
-          a-short h = turned-down (refl, refl) (omega arith) (past-9 ∙ rw (good, some-below m lent (inl h)))
+          pub a-short : length a < m → ReadPromise file a b a b (Refused ResultTooShort)
+          a-short h = turned-down ResultTooShort (refl, refl) (past-9 ∙ rw (good, some-below m lent (inl h)))
 
-          pub b-short : length b < m → ReadPromise file a b a b RecordingTooShort
-          b-short h = turned-down (refl, refl) (omega arith) (past-9 ∙ rw (good, some-below m lent (inr (inl h))))
+          pub b-short : length b < m → ReadPromise file a b a b (Refused ResultTooShort)
+          b-short h = turned-down ResultTooShort (refl, refl) (past-9 ∙ rw (good, some-below m lent (inr (inl h))))
 
           module _ (for-a : m ≤ length a) (for-b : m ≤ length b) (of-a : Pass)
               (found-a : OnePass largestSample (samplesAt file startOfA) 0 m of-a) where
             past-3 : fileVerdict file lent ≡ firstOutIn recordings 0 m accepted
             past-3 = past-9 ∙ rw (good, all-reach m lent (for-a, (for-b, tt)))
 
-            pub a-out : {place looks : ℕ} → of-a ≡ At place looks → ReadPromise file a b a b (OutOfRange place)
-            a-out e = turned-down (refl, refl) (omega arith) (past-3 ∙ found-at 6 _ found-a e)
+            pub a-out : {place looks : ℕ} → of-a ≡ At place looks → ReadPromise file a b a b (Refused (OutOfRange place))
+            a-out {place} e = turned-down (OutOfRange place) (refl, refl) (past-3 ∙ found-at 6 _ found-a e)
 
             module _ (of-b : Pass) (looks-a : ℕ) (none-a : of-a ≡ None looks-a)
                 (found-b : OnePass largestSample (samplesAt file (startOfB m)) 0 m of-b) where
               past-a : fileVerdict file lent ≡ firstOutOr (samplesAt file (startOfB m)) 0 m accepted
               past-a = past-3 ∙ found-none 6 _ found-a none-a
 
-              pub b-out : {place looks : ℕ} → of-b ≡ At place looks → ReadPromise file a b a b (OutOfRange place)
-              b-out e = turned-down (refl, refl) (omega arith) (past-a ∙ found-at 6 accepted found-b e)
+              pub b-out : {place looks : ℕ} → of-b ≡ At place looks → ReadPromise file a b a b (Refused (OutOfRange place))
+              b-out {place} e = turned-down (OutOfRange place) (refl, refl) (past-a ∙ found-at 6 accepted found-b e)
 
               pub all-in-range : {looks : ℕ} → of-b ≡ None looks → Readable file a b m N
               all-in-range e =

@@ -15,13 +15,13 @@ use Rattle.lengths.specs.Block.{isLength, largestSample}
 use Rattle.lengths.proofs.ElevenLengths.{length-le}
 use Rattle.refusals.specs.declared.range.Pass.{Pass}
 use Rattle.refusals.specs.declared.range.Pass.the-variants.{None, At}
+use Rattle.refusals.specs.declared.refusal.Refusal.the-variants.{BadLength, ResultTooShort, OutOfRange, BadCount, RecordingsDiffer}
+use Rattle.refusals.specs.declared.refusal.Filled.the-variants.{Refused, Bytes}
 use Rattle.refusals.specs.Refusals.{firstOutOr, firstOutIn, Verdict, refused, accepted}
 use Rattle.refusals.specs.Passes.{AllWithin, OnePass}
 use Rattle.refusals.proofs.Passes.{all-in}
 use Rattle.refusals.proofs.Promises.{turned-down, carried-out, past-test}
 use Rattle.refusals.proofs.Conditions.{found-none, found-at, in-verdict, past-in}
-use Rattle.pairfile.specs.declared.writer.WriteAnswer.the-variants.{BadCount, RecordingsDiffer, BadLength}
-use Rattle.pairfile.specs.declared.writer.WriteAnswer.the-variants.{OutOfRange, BufferTooShort, Written}
 use Rattle.pairfile.specs.File.{badCount, fileBytes}
 use Rattle.pairfile.specs.OwnFile.{pairFile, writeVerdict}
 use Rattle.pairfile.specs.Promises.{Sound, WritePromise}
@@ -49,11 +49,11 @@ module _ (a b : List ℤ) (N room : ℕ) where
   pub input-passed : writeVerdict a b N room ≡ accepted → Passed a b N room
   unfolding writeVerdict
   input-passed e =
-      let (few, past-8) = past-test (badCount (length a)) e (omega arith) in
-      let (alike, past-11) = past-test (not (eqb (length b) (length a))) past-8 (omega arith) in
-      let (good, past-1) = past-test (not (isLength N)) past-11 (omega arith) in
+      let (few, past-8) = past-test 8 (badCount (length a)) e in
+      let (alike, past-11) = past-test 11 (not (eqb (length b) (length a))) past-8 in
+      let (good, past-1) = past-test 1 (not (isLength N)) past-11 in
       let ((range-a, (range-b, _)), past-6) = past-in 0 (length a) _ (word a ∷ word b ∷ []) past-1 in
-      let (long, _) = past-test (ltb room (fileBytes (length a))) past-6 (omega arith) in
+      let (long, _) = past-test 3 (ltb room (fileBytes (length a))) past-6 in
       let same = eqb-true (length b) (length a) (not-false _ alike) in
       record { same = same; sound = in-range a b N few (not-false _ good) range-a range-b; fits = ltb-false _ _ long }
 
@@ -69,23 +69,23 @@ module _ (a b : List ℤ) (N room : ℕ) where
 pub record Writable (a b : List ℤ) (N : ℕ) (buffer : List ℕ) : Type 0 where
   pub ready : (length a ≤ 4096) × (length b ≡ length a) × (N ≤ 1024) × (fileBytes (length a) ≤ length buffer)
   pub writes : {buffer′ : List ℕ} {bytes : ℕ} → Put buffer 0 (pairFile a b N) bytes buffer′
-      → WritePromise a b N buffer buffer′ (Written bytes)
+      → WritePromise a b N buffer buffer′ (Bytes bytes)
 
 -- ---- the tests, each where those before it are passed
 module _ (a b : List ℤ) (N : ℕ) (buffer : List ℕ) (bad : Bool) (is-bad : bad ≡ badCount (length a)) where
-  pub count-bad : bad ≡ true → WritePromise a b N buffer buffer BadCount
+  pub count-bad : bad ≡ true → WritePromise a b N buffer buffer (Refused BadCount)
   unfolding writeVerdict
-  count-bad h = turned-down refl (omega arith) (rw (← is-bad, h))
+  count-bad h = turned-down BadCount refl (rw (← is-bad, h))
 
   module _ (few : bad ≡ false) where
-    pub differ : (length b ≡ length a → ⊥) → WritePromise a b N buffer buffer RecordingsDiffer
+    pub differ : (length b ≡ length a → ⊥) → WritePromise a b N buffer buffer (Refused RecordingsDiffer)
     unfolding writeVerdict
-    differ h = turned-down refl (omega arith) (rw (← is-bad, few, ne-eqb _ _ h))
+    differ h = turned-down RecordingsDiffer refl (rw (← is-bad, few, ne-eqb _ _ h))
 
     module _ (same : length b ≡ length a) (ok : Bool) (is : ok ≡ isLength N) where
-      pub bad-length : not ok ≡ true → WritePromise a b N buffer buffer BadLength
+      pub bad-length : not ok ≡ true → WritePromise a b N buffer buffer (Refused BadLength)
       unfolding writeVerdict
-      bad-length h = turned-down refl (omega arith) (rw (← is-bad, few, eq-eqb _ _ same, ← is, h))
+      bad-length h = turned-down BadLength refl (rw (← is-bad, few, eq-eqb _ _ same, ← is, h))
 
       module _ (good : not ok ≡ false) (of-a : Pass) (found-a : OnePass largestSample (word a) 0 (length a) of-a) where
         abbrev last : Verdict
@@ -95,23 +95,23 @@ module _ (a b : List ℤ) (N : ℕ) (buffer : List ℕ) (bad : Bool) (is-bad : b
         unfolding writeVerdict
         past-1 = rw (← is-bad, few, eq-eqb _ _ same, ← is, good)
 
-        pub a-out : {place looks : ℕ} → of-a ≡ At place looks → WritePromise a b N buffer buffer (OutOfRange place)
-        a-out e = turned-down refl (omega arith) (past-1 ∙ found-at 6 _ found-a e)
+        pub a-out : {place looks : ℕ} → of-a ≡ At place looks → WritePromise a b N buffer buffer (Refused (OutOfRange place))
+        a-out {place} e = turned-down (OutOfRange place) refl (past-1 ∙ found-at 6 _ found-a e)
 
         module _ (of-b : Pass) (looks-a : ℕ) (none-a : of-a ≡ None looks-a)
             (found-b : OnePass largestSample (word b) 0 (length a) of-b) where
           past-a : writeVerdict a b N (length buffer) ≡ firstOutOr (word b) 0 (length a) last
           past-a = past-1 ∙ found-none 6 _ found-a none-a
 
-          pub b-out : {place looks : ℕ} → of-b ≡ At place looks → WritePromise a b N buffer buffer (OutOfRange place)
-          b-out e = turned-down refl (omega arith) (past-a ∙ found-at 6 last found-b e)
+          pub b-out : {place looks : ℕ} → of-b ≡ At place looks → WritePromise a b N buffer buffer (Refused (OutOfRange place))
+          b-out {place} e = turned-down (OutOfRange place) refl (past-a ∙ found-at 6 last found-b e)
 
           module _ (looks-b : ℕ) (none-b : of-b ≡ None looks-b) where
             past-6 : writeVerdict a b N (length buffer) ≡ last
             past-6 = past-a ∙ found-none 6 last found-b none-b
 
-            pub too-short : length buffer < fileBytes (length a) → WritePromise a b N buffer buffer BufferTooShort
-            too-short h = turned-down refl (omega arith) (past-6 ∙ rw (lt-ltb _ _ h))
+            pub too-short : length buffer < fileBytes (length a) → WritePromise a b N buffer buffer (Refused ResultTooShort)
+            too-short h = turned-down ResultTooShort refl (past-6 ∙ rw (lt-ltb _ _ h))
 
             pub all-passed : fileBytes (length a) ≤ length buffer → Writable a b N buffer
             all-passed h =

@@ -8,12 +8,12 @@ use lib.ListN.{length, take}
 use Rattle.words.specs.Words.{Samples, word, Written}
 use Rattle.refusals.specs.Refusals.{accepted, someBelow}
 use Rattle.little_endian.specs.Numbers.{AreBytes}
-use Rattle.pairfile.specs.declared.reader.FileAnswer.{FileAnswer}
-use Rattle.pairfile.specs.declared.writer.WriteAnswer.{WriteAnswer}
+use Rattle.refusals.specs.declared.refusal.Filled.{Filled}
+use Rattle.refusals.specs.Answers.{filled, bytesOf}
+use Rattle.pairfile.specs.declared.reader.ReadAnswer.{ReadAnswer}
 use Rattle.pairfile.specs.File.{sampleCount, blockLength, samplesOfA, samplesOfB, mostSamples, fileBytes, fileVerdict}
 use Rattle.pairfile.specs.OwnFile.{pairFile, writeVerdict}
-use Rattle.pairfile.specs.ReadAnswers as read
-use Rattle.pairfile.specs.WriteAnswers as write
+use Rattle.pairfile.specs.Answers.{verdictOf, sizesOf}
 use Rattle.pairfile.specs.Promises.{ReadPromise, WritePromise}
 
 -- ---- files that read alike
@@ -49,10 +49,10 @@ InputHasOneFile =
     → file ≡ pairFile a b N
 
 -- what the reader answers, and leaves in the recordings c and d, when it has read a, b and N
-pub record InputRead (a b : List ℤ) (N : ℕ) (c d c′ d′ : List ℤ) (answer : FileAnswer) : Type 0 where
-  pub verdict : read.verdictOf answer ≡ accepted
-  pub count : read.sampleCountOf answer ≡ length a
-  pub blocks : read.blockLengthOf answer ≡ N
+pub record InputRead (a b : List ℤ) (N : ℕ) (c d c′ d′ : List ℤ) (answer : ReadAnswer) : Type 0 where
+  pub verdict : verdictOf answer ≡ accepted
+  pub count : sizesOf answer .samples ≡ length a
+  pub blocks : sizesOf answer .length ≡ N
   pub wordsOfA : Written 0 (length a) (word a) c c′
   pub wordsOfB : Written 0 (length b) (word b) d d′
 
@@ -60,11 +60,11 @@ pub record InputRead (a b : List ℤ) (N : ℕ) (c d c′ d′ : List ℤ) (answ
 -- words or more: it has read the input
 abbrev pub WrittenAndRead : Type 0
 WrittenAndRead =
-    (a b : List ℤ) (N : ℕ) (buffer buffer′ : List ℕ) (wrote : WriteAnswer)
+    (a b : List ℤ) (N : ℕ) (buffer buffer′ : List ℕ) (wrote : Filled)
     → WritePromise a b N buffer buffer′ wrote
-    → write.verdictOf wrote ≡ accepted
-    → (c d c′ d′ : List ℤ) (answer : FileAnswer)
-    → ReadPromise (take (write.bytesOf wrote) buffer′) c d c′ d′ answer
+    → filled wrote ≡ accepted
+    → (c d c′ d′ : List ℤ) (answer : ReadAnswer)
+    → ReadPromise (take (bytesOf wrote) buffer′) c d c′ d′ answer
     → length a ≤ length c → length a ≤ length d
     → InputRead a b N c d c′ d′ answer
 
@@ -72,14 +72,14 @@ WrittenAndRead =
 -- the N that was returned, and a buffer as long as the file or longer: it has written this file
 abbrev pub ReadAndWritten : Type 0
 ReadAndWritten =
-    (file : List ℕ) (a b a′ b′ : List ℤ) (answer : FileAnswer) → AreBytes file
+    (file : List ℕ) (a b a′ b′ : List ℤ) (answer : ReadAnswer) → AreBytes file
     → ReadPromise file a b a′ b′ answer
-    → read.verdictOf answer ≡ accepted
-    → (buffer buffer′ : List ℕ) (wrote : WriteAnswer)
-    → WritePromise (take (read.sampleCountOf answer) a′) (take (read.sampleCountOf answer) b′) (read.blockLengthOf answer)
+    → verdictOf answer ≡ accepted
+    → (buffer buffer′ : List ℕ) (wrote : Filled)
+    → WritePromise (take (sizesOf answer .samples) a′) (take (sizesOf answer .samples) b′) (sizesOf answer .length)
     buffer buffer′ wrote
     → length file ≤ length buffer
-    → (write.verdictOf wrote ≡ accepted) × (take (write.bytesOf wrote) buffer′ ≡ file)
+    → (filled wrote ≡ accepted) × (take (bytesOf wrote) buffer′ ≡ file)
 
 -- ---- long files
 

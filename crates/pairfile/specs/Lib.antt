@@ -1,6 +1,5 @@
 pub mod File
 pub mod OwnFile
-pub mod ReadAnswers
-pub mod WriteAnswers
+pub mod Answers
 pub mod Promises
 pub mod Laws

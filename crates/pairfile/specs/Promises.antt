@@ -10,12 +10,12 @@ use Rattle.words.specs.Words.{Samples, word, Written}
 use Rattle.words.specs.Put.{Put}
 use Rattle.lengths.specs.Block.{isLength, largestSample}
 use Rattle.refusals.specs.Refusals.{Promise}
-use Rattle.pairfile.specs.declared.reader.FileAnswer.{FileAnswer}
-use Rattle.pairfile.specs.declared.writer.WriteAnswer.{WriteAnswer}
+use Rattle.refusals.specs.declared.refusal.Filled.{Filled}
+use Rattle.refusals.specs.Answers.{filled, bytesOf}
+use Rattle.pairfile.specs.declared.reader.ReadAnswer.{ReadAnswer}
 use Rattle.pairfile.specs.File.{sampleCount, blockLength, samplesOfA, samplesOfB, mostSamples, fileBytes, fileVerdict}
 use Rattle.pairfile.specs.OwnFile.{pairFile, writeVerdict}
-use Rattle.pairfile.specs.ReadAnswers as read
-use Rattle.pairfile.specs.WriteAnswers as write
+use Rattle.pairfile.specs.Answers.{verdictOf, sizesOf}
 
 -- what acceptance says of m, N and the samples of a and b, whether they are read or written
 pub record Sound (m N : ℕ) (a b : Samples) : Type 0 where
@@ -33,11 +33,11 @@ pub record ReadDone (file : List ℕ) (a b a′ b′ : List ℤ) (m N : ℕ) : T
   pub wordsOfB : Written 0 m (samplesOfB file) b b′
   pub sound : Sound m N (samplesOfA file) (samplesOfB file)
 
-abbrev pub ReadPromise : List ℕ → (a b a′ b′ : List ℤ) → FileAnswer → Type 0
+abbrev pub ReadPromise : List ℕ → (a b a′ b′ : List ℤ) → ReadAnswer → Type 0
 ReadPromise file a b a′ b′ answer =
-    Promise (read.verdictOf answer) (fileVerdict file (length a ∷ length b ∷ []))
+    Promise (verdictOf answer) (fileVerdict file (length a ∷ length b ∷ []))
     ((a′ ≡ a) × (b′ ≡ b))
-    (ReadDone file a b a′ b′ (read.sampleCountOf answer) (read.blockLengthOf answer))
+    (ReadDone file a b a′ b′ (sizesOf answer .samples) (sizesOf answer .length))
 
 -- "From two recordings and a block length, write the file of document 01 into a lent buffer. .. Bytes after the file stay."
 pub record WriteDone (a b : List ℤ) (N : ℕ) (buffer buffer′ : List ℕ) (bytes : ℕ) : Type 0 where
@@ -46,8 +46,8 @@ pub record WriteDone (a b : List ℤ) (N : ℕ) (buffer buffer′ : List ℕ) (b
   pub same : length b ≡ length a
   pub sound : Sound (length a) N (word a) (word b)
 
-abbrev pub WritePromise : (a b : List ℤ) → ℕ → (buffer buffer′ : List ℕ) → WriteAnswer → Type 0
+abbrev pub WritePromise : (a b : List ℤ) → ℕ → (buffer buffer′ : List ℕ) → Filled → Type 0
 WritePromise a b N buffer buffer′ answer =
-    Promise (write.verdictOf answer) (writeVerdict a b N (length buffer))
+    Promise (filled answer) (writeVerdict a b N (length buffer))
     (buffer′ ≡ buffer)
-    (WriteDone a b N buffer buffer′ (write.bytesOf answer))
+    (WriteDone a b N buffer buffer′ (bytesOf answer))

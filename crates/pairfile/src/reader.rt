@@ -5,15 +5,13 @@ use little_endian::signed_at;
 use little_endian::unsigned_at;
 use refusals::range::Pass;
 use refusals::range::in_range;
-ghost use mathlib.Core.Path.{_≡_};
+use refusals::refusal::Refusal;
 ghost use Prim.Native.Nat.{_+_, _*_, _≤_};
 ghost use lib.ListN.{length};
 ghost use Rattle.words.specs.Words.{Written};
 ghost use Rattle.lengths.specs.Block.{largestSample};
-ghost use Rattle.refusals.specs.Refusals.{number};
 ghost use Rattle.refusals.specs.Passes.{OnePass};
 ghost use Rattle.pairfile.specs.File.{samplesAt};
-ghost use Rattle.pairfile.specs.ReadAnswers.{verdictOf, sampleCountOf, blockLengthOf, placeOf};
 ghost use Rattle.pairfile.specs.Promises.{ReadPromise};
 
 // The sizes of a file: m samples of each recording, in blocks of N.
@@ -22,14 +20,9 @@ pub struct Sizes {
     pub length: usize,
 }
 
-// The answer of the reader: a case for each refusal of document 01, or the sizes of the file that was read.
-pub enum FileAnswer {
-    BelowHeader,
-    BadCount,
-    BadFileLength,
-    BadLength,
-    RecordingTooShort,
-    OutOfRange(usize),
+// The answer of the reader: a refusal, or the sizes of the file that was read.
+pub enum ReadAnswer {
+    Refused(Refusal),
     Read(Sizes),
 }
 
@@ -65,89 +58,40 @@ fn fill(file: &[u8], start: usize, m: usize, recording: &mut [i32])
 }
 
 // The samples of a pair file, put at the front of two lent recordings.
-pub fn read(file: &[u8], a: &mut [i32], b: &mut [i32]) -> FileAnswer
+pub fn read(file: &[u8], a: &mut [i32], b: &mut [i32]) -> ReadAnswer
     ensures { λ r. ⌜ ReadPromise (now (file .entry)) (now (a .entry)) (now (b .entry)) (now (a .exit)) (now (b .exit)) r ⌝ }
 {
     if file.len() < 8 {
-        return FileAnswer::BelowHeader;
+        return ReadAnswer::Refused(Refusal::BelowHeader);
     }
     let m = unsigned_at(file, 0) as usize;
     if bad_count(m) {
-        return FileAnswer::BadCount;
+        return ReadAnswer::Refused(Refusal::BadCount);
     }
     if file.len() != 8 + 8 * m {
-        return FileAnswer::BadFileLength;
+        return ReadAnswer::Refused(Refusal::BadFileLength);
     }
     let n = unsigned_at(file, 4) as usize;
     if !is_length(n) {
-        return FileAnswer::BadLength;
+        return ReadAnswer::Refused(Refusal::BadLength);
     }
     if a.len() < m {
-        return FileAnswer::RecordingTooShort;
+        return ReadAnswer::Refused(Refusal::ResultTooShort);
     }
     if b.len() < m {
-        return FileAnswer::RecordingTooShort;
+        return ReadAnswer::Refused(Refusal::ResultTooShort);
     }
     let of_b = 8 + 4 * m;
     if let Pass::At { place, looks: _ } = first_out(file, 8, m) {
-        return FileAnswer::OutOfRange(place);
+        return ReadAnswer::Refused(Refusal::OutOfRange(place));
     }
     if let Pass::At { place, looks: _ } = first_out(file, of_b, m) {
-        return FileAnswer::OutOfRange(place);
+        return ReadAnswer::Refused(Refusal::OutOfRange(place));
     }
     fill(file, 8, m, a);
     fill(file, of_b, m, b);
-    FileAnswer::Read(Sizes {
+    ReadAnswer::Read(Sizes {
         samples: m,
         length: n,
     })
-}
-
-// Document 01's number of an answer; 0 where the file was read.
-pub fn number_of(answer: FileAnswer) -> u32
-    ensures { λ r. ⌜ r ≡ number (verdictOf answer) ⌝ }
-{
-    match answer {
-        FileAnswer::BelowHeader => 7,
-        FileAnswer::BadCount => 8,
-        FileAnswer::BadFileLength => 9,
-        FileAnswer::BadLength => 1,
-        FileAnswer::RecordingTooShort => 3,
-        FileAnswer::OutOfRange(_) => 6,
-        FileAnswer::Read(_) => 0,
-    }
-}
-
-// The sizes of a file that was read; else 0 and 0.
-pub fn sizes_of(answer: FileAnswer) -> Sizes
-    ensures { λ r. ⌜ (r .samples ≡ sampleCountOf answer) × (r .length ≡ blockLengthOf answer) ⌝ }
-{
-    let none = Sizes {
-        samples: 0,
-        length: 0,
-    };
-    match answer {
-        FileAnswer::Read(sizes) => sizes,
-        FileAnswer::BelowHeader => none,
-        FileAnswer::BadCount => none,
-        FileAnswer::BadFileLength => none,
-        FileAnswer::BadLength => none,
-        FileAnswer::RecordingTooShort => none,
-        FileAnswer::OutOfRange(_) => none,
-    }
-}
-
-// The place of the first sample out of range, of refusal 6; else 0.
-pub fn place_of(answer: FileAnswer) -> usize
-    ensures { λ r. ⌜ r ≡ placeOf answer ⌝ }
-{
-    match answer {
-        FileAnswer::OutOfRange(place) => place,
-        FileAnswer::BelowHeader => 0,
-        FileAnswer::BadCount => 0,
-        FileAnswer::BadFileLength => 0,
-        FileAnswer::BadLength => 0,
-        FileAnswer::RecordingTooShort => 0,
-        FileAnswer::Read(_) => 0,
-    }
 }

@@ -5,26 +5,16 @@ use little_endian::put_signed;
 use little_endian::put_unsigned;
 use refusals::range::Pass;
 use refusals::range::first_out;
+use refusals::refusal::Filled;
+use refusals::refusal::Refusal;
 ghost use mathlib.Core.List.{flatMap};
 ghost use mathlib.Core.Path.{_≡_};
 ghost use Prim.Native.Nat.{_+_, _*_, _≤_};
 ghost use lib.ListN.{length};
 ghost use Rattle.words.specs.Put.{Put};
-ghost use Rattle.refusals.specs.Refusals.{number};
 ghost use Rattle.little_endian.specs.Numbers.{signedBytes};
 ghost use Rattle.pairfile.specs.OwnFile.{pairFile};
-ghost use Rattle.pairfile.specs.WriteAnswers.{verdictOf, bytesOf, placeOf};
 ghost use Rattle.pairfile.specs.Promises.{WritePromise};
-
-// The answer of the writer: a case for each refusal of document 02, or the bytes of the file that was written.
-pub enum WriteAnswer {
-    BadCount,
-    RecordingsDiffer,
-    BadLength,
-    OutOfRange(usize),
-    BufferTooShort,
-    Written(usize),
-}
 
 // The samples of a recording, put from byte `at` on; the answer is the place behind them.
 fn put_samples(recording: &[i32], file: &mut [u8], at: usize) -> usize
@@ -53,69 +43,27 @@ fn put_file(a: &[i32], b: &[i32], n: usize, file: &mut [u8]) -> usize
 }
 
 // The pair file of the recordings a and b, in blocks of `length`, put at the front of a lent buffer.
-pub fn write(a: &[i32], b: &[i32], length: usize, file: &mut [u8]) -> WriteAnswer
+pub fn write(a: &[i32], b: &[i32], length: usize, file: &mut [u8]) -> Filled
     ensures { λ r. ⌜ WritePromise (now (a .entry)) (now (b .entry)) length (now (file .entry)) (now (file .exit)) r ⌝ }
 {
     let m = a.len();
     if bad_count(m) {
-        return WriteAnswer::BadCount;
+        return Filled::Refused(Refusal::BadCount);
     }
     if b.len() != m {
-        return WriteAnswer::RecordingsDiffer;
+        return Filled::Refused(Refusal::RecordingsDiffer);
     }
     if !is_length(length) {
-        return WriteAnswer::BadLength;
+        return Filled::Refused(Refusal::BadLength);
     }
     if let Pass::At { place, looks: _ } = first_out(a, 0, m) {
-        return WriteAnswer::OutOfRange(place);
+        return Filled::Refused(Refusal::OutOfRange(place));
     }
     if let Pass::At { place, looks: _ } = first_out(b, 0, m) {
-        return WriteAnswer::OutOfRange(place);
+        return Filled::Refused(Refusal::OutOfRange(place));
     }
     if file.len() < 8 + 8 * m {
-        return WriteAnswer::BufferTooShort;
+        return Filled::Refused(Refusal::ResultTooShort);
     }
-    WriteAnswer::Written(put_file(a, b, length, file))
-}
-
-// Document 02's number of an answer; 0 where the file was written.
-pub fn number_of(answer: WriteAnswer) -> u32
-    ensures { λ r. ⌜ r ≡ number (verdictOf answer) ⌝ }
-{
-    match answer {
-        WriteAnswer::BadCount => 8,
-        WriteAnswer::RecordingsDiffer => 11,
-        WriteAnswer::BadLength => 1,
-        WriteAnswer::OutOfRange(_) => 6,
-        WriteAnswer::BufferTooShort => 3,
-        WriteAnswer::Written(_) => 0,
-    }
-}
-
-// The bytes of a file that was written; else 0.
-pub fn bytes_of(answer: WriteAnswer) -> usize
-    ensures { λ r. ⌜ r ≡ bytesOf answer ⌝ }
-{
-    match answer {
-        WriteAnswer::Written(bytes) => bytes,
-        WriteAnswer::BadCount => 0,
-        WriteAnswer::RecordingsDiffer => 0,
-        WriteAnswer::BadLength => 0,
-        WriteAnswer::OutOfRange(_) => 0,
-        WriteAnswer::BufferTooShort => 0,
-    }
-}
-
-// The place of the first sample out of range, of refusal 6; else 0.
-pub fn place_of(answer: WriteAnswer) -> usize
-    ensures { λ r. ⌜ r ≡ placeOf answer ⌝ }
-{
-    match answer {
-        WriteAnswer::OutOfRange(place) => place,
-        WriteAnswer::BadCount => 0,
-        WriteAnswer::RecordingsDiffer => 0,
-        WriteAnswer::BadLength => 0,
-        WriteAnswer::BufferTooShort => 0,
-        WriteAnswer::Written(_) => 0,
-    }
+    Filled::Bytes(put_file(a, b, length, file))
 }

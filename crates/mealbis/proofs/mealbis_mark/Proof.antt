@@ -6,18 +6,13 @@ use Rattle.mealbis.proofs.mealbis_mark.Tie as tie
 
 returns : tie.Need-returns
 returns c =
-    let spent = c .before .before .before in
-    let marked = spent .before .before .before .before in
+    let marked = c .before .before .before .before .before in
     let fits = marked .before .before .before .before .fits in
     record {
       answer = marked .mark-block .result;
-      promise = rw (toZ-ofZ (fits .flat-limit), toZ-ofZ (fits .clip-level)) at (marked .mark-block .ensures);
-      number-is = c .number-of .ensures;
-      products-is = spent .spent-of .ensures .0;
-      sums-is = spent .spent-of .ensures .1;
-      rest-is = spent .spent-of .ensures .2;
-      place-is = c .before .before .place-of .ensures;
-      mark-is = c .before .mark-of .ensures;
+      promised = rw (toZ-ofZ (fits .flat-limit), toZ-ofZ (fits .clip-level)) at (marked .mark-block .ensures);
+      number-is = c .tell-mark .ensures .0;
+      words-are = c .tell-mark .ensures .1;
     }
 
 pub mealbis-mark-spec : {M : Type 1} → statement M
@@ -25,10 +20,7 @@ mealbis-mark-spec =
     tie.close
     (tie.spec
     (λ c κs. search needs)  -- mark-block-requires
-    (λ c κs. search needs)  -- spent-of-requires
-    (λ c κs. search needs)  -- place-of-requires
-    (λ c κs. search needs)  -- mark-of-requires
-    (λ c κs. search needs)  -- number-of-requires
+    (λ c κs. search needs)  -- tell-mark-requires
     (λ c. search needs)  -- same-length
     (λ c. search needs)  -- same-length-2
     (λ c. search needs)  -- same-length-3

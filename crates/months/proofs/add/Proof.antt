@@ -12,4 +12,4 @@ add-spec =
     (λ c. search needs)  -- same-length
     (λ c. search needs)  -- same-length-2
     (λ c. search needs)  -- same-length-3
-    (λ c. let a = c .before .before .before in adding _ _ _ _ _ _ _ _ (a .add-to .ensures)))  -- returns
+    (λ c. let a = c .before .before .before in adding _ _ _ _ _ _ (a .add-to .ensures)))  -- returns

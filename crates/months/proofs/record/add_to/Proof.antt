@@ -33,29 +33,29 @@ add-to-spec =
     tie.close
     (tie.spec
     (λ c κs. search needs)  -- is-other-length-requires
-    (λ c. let a = c .before .before .before .args in other-length (a .month .now) (a .recording .now) _ _ _ _ _ _ (other c))  -- returns
+    (λ c. let a = c .before .before .before .args in other-length (a .month .now) (a .recording .now) _ _ _ _ (other c))  -- returns
     (λ c. search needs)  -- element-copy-out-if2
     (λ c. let e = c .before .before in
-    let a = e .before .before .before .args in is-full (a .month .now) (a .recording .now) _ _ _ _ _ _ (own e) (no-room c))  -- returns-2
+    let a = e .before .before .before .args in is-full (a .month .now) (a .recording .now) _ _ _ _ (own e) (no-room c))  -- returns-2
     (λ c κs. search needs)  -- spectrum-requires
     (λ c. search needs)  -- enum-told
     (λ c. search needs)  -- enum-told-2
     (λ c κs. let t = c .before .before .before in
     let s = t .before .before .before .before .before in
-    let (short, cosines, sines) = add-ready (start s .args .month .now) (start s .args .recording .now) _ _ _ _ _ _
+    let (short, cosines, sines) = add-ready (start s .args .month .now) (start s .args .recording .now) _ _ _ _
     (own (tested s .before .before)) (room (tested s)) (s .spectrum .ensures) (t .enum-told2 .given .1) in
     (c .before .before .add-block-arg .given .0 .1, short, cosines, sines, room (tested s)))  -- add-block-requires
     (λ c. search needs)  -- same-length
     (λ c. search needs)  -- same-length-2
     (λ c. search needs)  -- same-length-3
     (λ c. let s = c .before .before .before .before .before in
-    spectrum-refused (start s .args .month .now) (start s .args .recording .now) _ _ _ _ _ _
+    spectrum-refused (start s .args .month .now) (start s .args .recording .now) _ _ _ _
     (own (tested s .before .before)) (room (tested s)) (s .spectrum .ensures) (c .enum-told .given .1))  -- returns-3
     (λ c. search needs)  -- same-length-4
     (λ c. search needs)  -- same-length-5
     (λ c. search needs)  -- same-length-6
     (λ c. let t = c .before .before .before .before in
     let s = t .before .before .before .before .before in
-    block-held (start s .args .month .now) (start s .args .recording .now) _ _ _ _ _ _
+    block-held (start s .args .month .now) (start s .args .recording .now) _ _ _ _
     (own (tested s .before .before)) (room (tested s)) (s .spectrum .ensures) (t .enum-told2 .given .1)
     (c .add-block .ensures)))  -- returns-4

@@ -1,0 +1,15 @@
+-- `mealbis::tell::tell_counts` meets its contract: each arm tells what the definitions have for its answer. Assumes nothing.
+use mathlib.Core.Path.{refl}
+use borrow.Author.Needs.{needs}
+use Rattle.mealbis.proofs.tell.tell_counts.Statement.{statement}
+use Rattle.mealbis.proofs.tell.tell_counts.Tie as tie
+
+pub tell-counts-spec : {M : Type 1} → statement M
+tell-counts-spec =
+    tie.close
+    (tie.spec
+    (λ c. search needs)  -- enum-known-answer
+    (λ c κs. search needs)  -- number-of-requires
+    (λ c. search needs)  -- enum-known-answer-2
+    (λ c. rw (c .before .before .before .answer .given .1) (c .number-of .ensures, refl))  -- returns
+    (λ c. rw (c .before .before .answer2 .given .1) (refl, refl)))  -- returns-2
