@@ -22,7 +22,7 @@ import make_table  # noqa: E402  (found through the path set above)
 import reference as ref  # noqa: E402
 import reference_self_test as self_test  # noqa: E402
 
-COMPILE = "gcc -O2 -Wall -Wextra -Werror -std=c99 -shared -fPIC".split()
+COMPILE = "gcc -O2 -Wall -Wextra -Werror -std=c99 -shared -fPIC -I".split() + [str(BENCH.parent / "include")]
 FILLER = 0x5A5A5A5A     # stands in every word before a call
 BEYOND = 4              # words after the end of each buffer that must stay
 
