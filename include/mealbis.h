@@ -257,12 +257,12 @@ typedef struct mealbis_inverse_answer {
 
 /* Of mealbis_counts. */
 typedef struct mealbis_counts_answer {
-    uint64_t dct_products;      /* of mealbis_cosine, */
-    uint64_t dct_sums;          /* the same */
-    uint64_t spectrum_products; /* of mealbis_spectrum, mealbis_mark and mealbis_month_add, */
-    uint64_t spectrum_sums;     /* the same */
-    uint64_t pair_products;     /* of mealbis_pair, */
-    uint64_t pair_sums;         /* the same */
+    uint64_t dct_products;      /* of mealbis_cosine */
+    uint64_t dct_sums;          /* of mealbis_cosine */
+    uint64_t spectrum_products; /* of mealbis_spectrum, mealbis_mark and mealbis_month_add */
+    uint64_t spectrum_sums;     /* of these three */
+    uint64_t pair_products;     /* of mealbis_pair */
+    uint64_t pair_sums;         /* of mealbis_pair */
 } mealbis_counts_answer;
 
 /* Of mealbis_read. */
