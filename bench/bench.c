@@ -27,11 +27,15 @@
 #define RECORDING (LONGEST + START + 3)
 #define ROUNDS 401
 #define ROUND_NS 300000.0
+#ifndef BEFORE_SCRATCH_WORDS /* what an earlier version's header has, where there is one */
+#define BEFORE_SCRATCH_WORDS(length) 0
+#endif
+#define LARGER(m, n) ((m) > (n) ? (m) : (n))
 
 static int32_t a[RECORDING], b[RECORDING];
 static int32_t out_first[RECORDING], out_last[RECORDING]; /* a, with the first or the last sample of the block out of range */
 static int32_t first[LONGEST], second[LONGEST], stored[LONGEST];
-static int64_t scratch[8 * LONGEST + 64];
+static int64_t scratch[LARGER(MEALBIS_SCRATCH_WORDS(LONGEST), BEFORE_SCRATCH_WORDS(LONGEST))];
 static volatile uint64_t sink;
 
 static void need(int good, const char *what)
@@ -42,7 +46,7 @@ static void need(int good, const char *what)
     }
 }
 
-/* ---- the library: the whole call, with its checks; the first 8 N + 64 words of scratch are cleared. An earlier version is linked beside ours
+/* ---- the library: the whole call, with its checks; the words of scratch that it needs are cleared. An earlier version is linked beside ours
    where bench/run is given one; it renames the symbols */
 
 struct library {
@@ -56,54 +60,67 @@ static const struct library ours = {mealbis_spectrum, mealbis_cosine, mealbis_pa
 static const struct library *library = &ours; /* the one that is timed */
 
 #ifdef HAVE_BEFORE
-extern __typeof__(mealbis_inverse_dct) before_mealbis_inverse_dct;
-#ifdef BEFORE_WITHOUT_REST /* its calls have no word for the largest rest, which stands behind these parameters in ours */
-#define OF_CALL size_t start, size_t n, uint64_t allowance, int32_t *y, size_t y_words
-#define OF_ANSWER int64_t *work, size_t work_words, uint64_t *products, uint64_t *sums
-#define OF_SPECTRUM const int32_t *x, size_t x_words, OF_CALL, int32_t *z, size_t z_words, OF_ANSWER
-#define OF_COSINE const int32_t *x, size_t x_words, OF_CALL, OF_ANSWER
-#define OF_PAIR const int32_t *x, size_t x_words, const int32_t *v, size_t v_words, OF_CALL, int32_t *z, size_t z_words, OF_ANSWER
-uint32_t before_mealbis_spectrum(OF_SPECTRUM, size_t *place);
-uint32_t before_mealbis_cosine(OF_COSINE, size_t *place);
-uint32_t before_mealbis_pair(OF_PAIR, size_t *place);
+#ifdef BEFORE_WITH_WORDS /* its calls tell through single words, not through a record */
+#ifdef BEFORE_WITHOUT_REST /* and have none for the largest rest */
+#define WORDS uint64_t *products, uint64_t *sums, mealbis_size *place
+#define TO_RECORD &answer->products, &answer->sums, &answer->place
+#else
+#define WORDS uint64_t *products, uint64_t *sums, uint64_t *largest_rest, mealbis_size *place
+#define TO_RECORD &answer->products, &answer->sums, &answer->largest_rest, &answer->place
+#endif
+#define OF_BLOCK mealbis_size start, mealbis_size n, uint64_t allowance, int32_t *y, mealbis_size y_words
+#define OF_SCRATCH int64_t *work, mealbis_size work_words
+#define OF_SPECTRUM const int32_t *x, mealbis_size x_words, OF_BLOCK, int32_t *z, mealbis_size z_words, OF_SCRATCH
+#define OF_COSINE const int32_t *x, mealbis_size x_words, OF_BLOCK, OF_SCRATCH
+#define OF_PAIR const int32_t *x, mealbis_size x_words, const int32_t *v, mealbis_size v_words, OF_BLOCK, int32_t *z, mealbis_size z_words, OF_SCRATCH
+#define OF_INVERSE const int32_t *y, mealbis_size y_words, mealbis_size n, int32_t *x, mealbis_size x_words
+uint32_t before_mealbis_spectrum(OF_SPECTRUM, WORDS);
+uint32_t before_mealbis_cosine(OF_COSINE, WORDS);
+uint32_t before_mealbis_pair(OF_PAIR, WORDS);
+uint32_t before_mealbis_inverse_dct(OF_INVERSE, mealbis_size *place);
 
-static uint32_t before_spectrum(OF_SPECTRUM, uint64_t *largest_rest, size_t *place)
+static uint32_t before_spectrum(OF_SPECTRUM, mealbis_answer *answer)
 {
-    *largest_rest = 0;
-    return before_mealbis_spectrum(x, x_words, start, n, allowance, y, y_words, z, z_words, work, work_words, products, sums, place);
+    answer->largest_rest = 0;
+    return before_mealbis_spectrum(x, x_words, start, n, allowance, y, y_words, z, z_words, work, work_words, TO_RECORD);
 }
 
-static uint32_t before_cosine(OF_COSINE, uint64_t *largest_rest, size_t *place)
+static uint32_t before_cosine(OF_COSINE, mealbis_answer *answer)
 {
-    *largest_rest = 0;
-    return before_mealbis_cosine(x, x_words, start, n, allowance, y, y_words, work, work_words, products, sums, place);
+    answer->largest_rest = 0;
+    return before_mealbis_cosine(x, x_words, start, n, allowance, y, y_words, work, work_words, TO_RECORD);
 }
 
-static uint32_t before_pair(OF_PAIR, uint64_t *largest_rest, size_t *place)
+static uint32_t before_pair(OF_PAIR, mealbis_answer *answer)
 {
-    *largest_rest = 0;
-    return before_mealbis_pair(x, x_words, v, v_words, start, n, allowance, y, y_words, z, z_words, work, work_words,
-                               products, sums, place);
+    answer->largest_rest = 0;
+    return before_mealbis_pair(x, x_words, v, v_words, start, n, allowance, y, y_words, z, z_words, work, work_words, TO_RECORD);
+}
+
+static uint32_t before_inverse_dct(OF_INVERSE, mealbis_inverse_answer *answer)
+{
+    return before_mealbis_inverse_dct(y, y_words, n, x, x_words, &answer->place);
 }
 #else
 extern __typeof__(mealbis_spectrum) before_mealbis_spectrum;
 extern __typeof__(mealbis_cosine) before_mealbis_cosine;
 extern __typeof__(mealbis_pair) before_mealbis_pair;
+extern __typeof__(mealbis_inverse_dct) before_mealbis_inverse_dct;
 #define before_spectrum before_mealbis_spectrum
 #define before_cosine before_mealbis_cosine
 #define before_pair before_mealbis_pair
+#define before_inverse_dct before_mealbis_inverse_dct
 #endif
-static const struct library before = {before_spectrum, before_cosine, before_pair, before_mealbis_inverse_dct};
+static const struct library before = {before_spectrum, before_cosine, before_pair, before_inverse_dct};
 #endif
 
 static uint32_t spectrum_of(const int32_t *recording, size_t n)
 {
-    uint64_t products, sums, largest_rest;
-    size_t place;
-    uint32_t answer = library->spectrum(recording, RECORDING, START, n, 1 << 20, first, LONGEST, second, LONGEST,
-                                        scratch, 8 * LONGEST + 64, &products, &sums, &largest_rest, &place);
-    sink += products + largest_rest + place;
-    return answer;
+    mealbis_answer answer;
+    uint32_t number = library->spectrum(recording, RECORDING, START, n, 1 << 20, first, LONGEST, second, LONGEST,
+                                        scratch, MEALBIS_WORDS(scratch), &answer);
+    sink += answer.products + answer.largest_rest + answer.place;
+    return number;
 }
 
 static void spectrum(size_t n)
@@ -116,10 +133,9 @@ static mealbis_month month;
 
 static void add_to_month(size_t n)
 {
-    uint64_t products, sums, largest_rest;
-    size_t place;
-    while (mealbis_month_add(&month, a, RECORDING, START, n, UINT64_MAX, first, LONGEST, second, LONGEST, scratch, 8 * LONGEST + 64,
-                             &products, &sums, &largest_rest, &place) != 0)
+    mealbis_answer answer;
+    while (mealbis_month_add(&month, a, RECORDING, START, n, UINT64_MAX, first, LONGEST, second, LONGEST,
+                             scratch, MEALBIS_WORDS(scratch), &answer) != 0)
         need(mealbis_month_begin(&month, n) == 0, "month");
     sink += (uint64_t)month.words[2];
 }
@@ -143,26 +159,23 @@ static void refused_last(size_t n)
 
 static void cosine(size_t n)
 {
-    uint64_t products, sums, largest_rest;
-    size_t place;
-    need(library->cosine(a, RECORDING, START, n, 1 << 20, first, LONGEST,
-                         scratch, 8 * LONGEST + 64, &products, &sums, &largest_rest, &place) == 0, "refused");
-    sink += products + largest_rest;
+    mealbis_answer answer;
+    need(library->cosine(a, RECORDING, START, n, 1 << 20, first, LONGEST, scratch, MEALBIS_WORDS(scratch), &answer) == 0, "refused");
+    sink += answer.products + answer.largest_rest;
 }
 
 static void pair(size_t n)
 {
-    uint64_t products, sums, largest_rest;
-    size_t place;
+    mealbis_answer answer;
     need(library->pair(a, RECORDING, b, RECORDING, START, n, 1 << 20, first, LONGEST, second, LONGEST,
-                       scratch, 8 * LONGEST + 64, &products, &sums, &largest_rest, &place) == 0, "refused");
-    sink += products + largest_rest;
+                       scratch, MEALBIS_WORDS(scratch), &answer) == 0, "refused");
+    sink += answer.products + answer.largest_rest;
 }
 
 static void inverse(size_t n)
 {
-    size_t place;
-    need(library->inverse_dct(stored, LONGEST, n, first, LONGEST, &place) == 0, "refused");
+    mealbis_inverse_answer answer;
+    need(library->inverse_dct(stored, LONGEST, n, first, LONGEST, &answer) == 0, "refused");
     sink += (uint64_t)first[0];
 }
 
@@ -172,7 +185,7 @@ static int plain_spectrum_of(const int32_t *recording, size_t n)
 {
     uint64_t counts[2] = {0, 0}, largest_rest = 0, place = 0;
     int answer = plain_spectrum(recording, RECORDING, START, n, 1 << 20, first, LONGEST, second, LONGEST,
-                                scratch, 8 * LONGEST + 64, counts, &largest_rest, &place);
+                                scratch, MEALBIS_WORDS(scratch), counts, &largest_rest, &place);
     sink += counts[0] + largest_rest + place;
     return answer;
 }
@@ -196,7 +209,7 @@ static void plain_c(size_t n)
 {
     uint64_t counts[2], largest_rest, place;
     need(plain_cosine(a, RECORDING, START, n, 1 << 20, first, LONGEST,
-                      scratch, 8 * LONGEST + 64, counts, &largest_rest, &place) == 0, "refused");
+                      scratch, MEALBIS_WORDS(scratch), counts, &largest_rest, &place) == 0, "refused");
     sink += counts[0] + largest_rest;
 }
 
@@ -204,7 +217,7 @@ static void plain_p(size_t n)
 {
     uint64_t counts[2], largest_rest, place;
     need(plain_pair(a, RECORDING, b, RECORDING, START, n, 1 << 20, first, LONGEST, second, LONGEST,
-                    scratch, 8 * LONGEST + 64, counts, &largest_rest, &place) == 0, "refused");
+                    scratch, MEALBIS_WORDS(scratch), counts, &largest_rest, &place) == 0, "refused");
     sink += counts[0] + largest_rest;
 }
 

@@ -22,7 +22,7 @@ import make_table  # noqa: E402  (found through the path set above)
 import reference as ref  # noqa: E402
 import reference_self_test as self_test  # noqa: E402
 
-COMPILE = "gcc -O2 -Wall -Wextra -Werror -std=c99 -shared -fPIC".split()
+COMPILE = "gcc -O2 -Wall -Wextra -Werror -std=c99 -shared -fPIC -I".split() + [str(BENCH.parent / "include")]
 FILLER = 0x5A5A5A5A     # stands in every word before a call
 BEYOND = 4              # words after the end of each buffer that must stay
 
@@ -82,7 +82,8 @@ def expected_words(answer, N, result_lens, scratch_len):
     if answer.refusal == 0:
         for buffer, values in zip(results, answer.results):
             buffer[:len(values)] = values
-        scratch[:8 * N + 64] = [0] * (8 * N + 64)
+        cleared = ref.scratch_words(N)
+        scratch[:cleared] = [0] * cleared
         counts = [*answer.counts, answer.largest_rest]
     place = FILLER if answer.place is None else answer.place
     return answer.refusal, place, counts, results, scratch
@@ -115,7 +116,7 @@ def check_accepted(library):
                           for x in (block, rng.choice(blocks))[:RECORDINGS[kind]]]
             result_lens = [result_words(kind, N) + rng.randrange(3) for _ in range(RESULTS[kind])]
             compare(library, kind, recordings, before, N, products(kind, N) + rng.randrange(2),
-                    result_lens, 8 * N + 64 + rng.randrange(3))
+                    result_lens, ref.scratch_words(N) + rng.randrange(3))
 
 
 def check_refusals_together(library):
@@ -132,15 +133,15 @@ def check_refusals_together(library):
 def check_far_numbers(library):
     """lengths, starts and allowances at the far end of their words"""
     for kind in REFERENCE:
-        recordings, lens = [[1] * 8] * RECORDINGS[kind], [8] * RESULTS[kind]
+        recordings, lens, words = [[1] * 8] * RECORDINGS[kind], [8] * RESULTS[kind], ref.scratch_words(8)
         for number in FAR:
-            compare(library, kind, recordings, 0, number, 100, lens, 128)
-            compare(library, kind, recordings, number, 8, 100, lens, 128)
-            compare(library, kind, recordings, number, 1, 100, lens, 128)
-            compare(library, kind, recordings, 0, 8, number, lens, 128)
+            compare(library, kind, recordings, 0, number, 100, lens, words)
+            compare(library, kind, recordings, number, 8, 100, lens, words)
+            compare(library, kind, recordings, number, 1, 100, lens, words)
+            compare(library, kind, recordings, 0, 8, number, lens, words)
         for N in (0, 3, 5, 6, 7, 12, 1023, 1025, 1536, 2047, 2048):
             compare(library, kind, [[1] * 2048] * RECORDINGS[kind], 0, N, 10 ** 6,
-                    [2048] * RESULTS[kind], 8 * 2048 + 64)
+                    [2048] * RESULTS[kind], ref.scratch_words(2048))
 
 
 def near(rng, number):
@@ -164,7 +165,7 @@ def check_random(library, how_many=3000):
         compare(library, kind, recordings, start, rng.choice((N,) * 20 + (N + 1,)),
                 near(rng, products(kind, N)),
                 [near(rng, result_words(kind, N)) for _ in range(RESULTS[kind])],
-                near(rng, 8 * N + 64))
+                near(rng, ref.scratch_words(N)))
 
 
 # --- The way back from stored coefficients -------------------------------------

@@ -6,6 +6,7 @@
 
 #include <string.h>
 
+#include "mealbis.h" /* MEALBIS_SCRATCH_WORDS alone */
 #include "table.h"
 
 #define LONGEST 1024
@@ -177,7 +178,7 @@ static uint64_t log2_of(size_t length)
 
 static size_t scratch_words(size_t length)
 {
-    return 8 * length + 64;
+    return MEALBIS_SCRATCH_WORDS(length);
 }
 
 /* The products of each call by the closed forms (27), (28) and (29).  Below

@@ -5,7 +5,7 @@
      1  length is not one of 1, 2, 4, .. 1024
      2  start + length exceeds the length of a recording; fewer than length coefficients are stored
      3  a result buffer is too short
-     4  scratch is shorter than 8 * length + 64 words
+     4  scratch is shorter than MEALBIS_SCRATCH_WORDS(length) words
      5  the allowance is below the products of the call
      6  a sample of the block is out of range; *place is its place in the recording
     10  a stored coefficient is beyond length * 1000000 + length; *place is its k
@@ -13,7 +13,7 @@
    An accepted call writes its results, sets counts[0] to the products and
    counts[1] to the sums it has made and *largest_rest to the largest size of a
    rest among its roundings, and leaves 0 in the first
-   8 * length + 64 words of scratch.  A refused call writes nothing, except
+   MEALBIS_SCRATCH_WORDS(length) words of scratch.  A refused call writes nothing, except
    *place at refusals 6 and 10.  No buffer may overlap another. */
 
 #ifndef PLAIN_H

@@ -37,10 +37,10 @@
  * ---- Answers
  *
  * Every function that can refuse returns 0 when it accepts, else the number of the first condition
- * that holds, in the order given at the function:
+ * that holds, in the order given at the function (mealbis_reason gives it in words):
  *
  *   1  length is not one of the eleven lengths
- *   2  start + length is more than the words of a recording; a sum beyond SIZE_MAX is more, too;
+ *   2  start + length is more than the words of a recording; a sum beyond UINT64_MAX is more, too;
  *      in mealbis_inverse_dct, fewer than length coefficients are stored; in mealbis_page, fewer than
  *      length / 2 + 1 cosine or sine coefficients
  *   3  a result buffer is too short; in mealbis_read, a recording is shorter than the file's samples;
@@ -49,11 +49,11 @@
  *   4  scratch is shorter than 8 * length + 64 words
  *   5  the allowance is below the products that the call spends
  *   6  a sample is out of range, of the block or, in mealbis_read and mealbis_write, of the two whole
- *      recordings; *place is the first such place
+ *      recordings; place is the first such place
  *   7  the file is shorter than 8 bytes
  *   8  the file's sample count is 0 or above 4,096; in mealbis_write, the words of a are
  *   9  the file's length is not 8 + 8 * samples bytes
- *  10  a stored coefficient is beyond length * 1,000,000 + length on either side; *place is the
+ *  10  a stored coefficient is beyond length * 1,000,000 + length on either side; place is the
  *      first such k
  *  11  the two recordings of mealbis_write differ in length
  *  12  the flat limit of mealbis_mark is negative, or its clip level is outside 1 to 1,000,000
@@ -62,12 +62,12 @@
  *  16  no sum of the month belongs to this k
  *
  * After a refusal every buffer is as it was, and so is the month of mealbis_month_add; but
- * mealbis_month_begin makes a month in every answer. The single words (products, sums, largest_rest,
- * place, mark, samples, length, bytes, the six counts, the two sums of a month) are written in EVERY
- * answer, so that none keeps an old value:
+ * mealbis_month_begin makes a month in every answer. What else a function tells, it writes to one
+ * record, its last parameter. The record is the answer and no buffer: every word of it is written in
+ * EVERY answer, so that none keeps an old value:
  *   - counts, the largest rest, sizes, the mark and a month's sums hold what the function says when
  *     it accepts, and 0 after a refusal;
- *   - *place holds the place after refusals 6 and 10, and 0 in every other answer. After 6 it counts
+ *   - place holds the place after refusals 6 and 10, and 0 in every other answer. After 6 it counts
  *     from 0 at the first sample of the recording, not of the block; after 10 it is the coefficient's
  *     k.
  *
@@ -82,7 +82,7 @@
  * A transform forms numbers with the cosine table in 2^-30 of the coefficients' unit, and rounds each
  * to whole units, a tie going to the larger. What it throws away is the rest: the number before
  * rounding less 2^30 times the rounded one, -2^29 to 2^29 - 1; 2^29 is half a unit of the last digit.
- * *largest_rest is the largest size, without sign, that a rest has among all roundings of the call:
+ * largest_rest is the largest size, without sign, that a rest has among all roundings of the call:
  * at most MEALBIS_LARGEST_REST, and 0 where nothing was rounded, which is so in mealbis_cosine at
  * N = 1, in mealbis_spectrum, mealbis_mark, mealbis_month_add and mealbis_pair below N = 8. It tells
  * how near single roundings came; how far a coefficient may be from its exact sum is said at the
@@ -95,14 +95,14 @@
  *     mealbis_read takes the whole file and mealbis_write both recordings whole: there the counts
  *     say how long they are.
  *   - What a call writes (results, scratch, a month, the recordings of mealbis_read, the file of
- *     mealbis_write, the page of mealbis_page, the single words) must not overlap anything else that
- *     the call is given. What it only reads may overlap: a and b of mealbis_pair, or of
- *     mealbis_write, may be one recording, cosine and sine of mealbis_page one array. Recordings,
- *     stored coefficients, months and files that are only read may lie in read-only memory.
- *   - While a call runs, nobody else may write its buffers, nor read those that it writes: no other
- *     thread, no interrupt handler, no DMA transfer.
- *   - Pointers are aligned as their type asks: 4 bytes for int32_t and uint32_t, 8 for int64_t,
- *     uint64_t and size_t, 1 for a file and for a page.
+ *     mealbis_write, the page of mealbis_page, the record) must not overlap anything else that the
+ *     call is given. What it only reads may overlap: a and b of mealbis_pair, or of mealbis_write,
+ *     may be one recording, cosine and sine of mealbis_page one array. Recordings, stored
+ *     coefficients, months and files that are only read may lie in read-only memory.
+ *   - While a call runs, nobody else may write its buffers, nor read those that it writes, the
+ *     record too: no other thread, no interrupt handler, no DMA transfer.
+ *   - Pointers are aligned as their type asks: 4 bytes for int32_t, 8 for int64_t, a month and a
+ *     record, 1 for a file and for a page.
  *   - What a call writes may hold anything before it. After an accepted call the first
  *     8 * length + 64 words of scratch are 0.
  *   - An empty buffer (count 0) is refused, by 2, 3, 4, 7, 8 or 11 where no earlier condition holds,
@@ -110,8 +110,7 @@
  *     way: so it is in the library as it is built today, and examples/c/self_check.c tries it for
  *     each buffer. But it is not promised: the proof is about slices of memory and does not know a
  *     null pointer. Pass the address of any object with count 0 to rely on nothing but the proof.
- *   - NULL with another count, or for a single word or a month, is the caller's error and is not
- *     tested.
+ *   - NULL with another count, or for a record or a month, is the caller's error and is not tested.
  *
  * ---- What a call needs
  *
@@ -135,7 +134,6 @@
 #ifndef MEALBIS_H
 #define MEALBIS_H
 
-#include <stddef.h>
 #include <stdint.h>
 
 #ifdef __cplusplus
@@ -143,8 +141,18 @@ extern "C" {
 #endif
 
 /* The version, 10000 major + 100 minor + patch: of this header, and of the archive that is linked. */
-#define MEALBIS_VERSION 20200u
+#define MEALBIS_VERSION 30000u
 uint32_t mealbis_version(void);
+
+/* Every count, start, length and place: 64 bits on every machine. On x86-64 Linux it is size_t. */
+typedef uint64_t mealbis_size;
+
+/* A compiler that can, GCC or Clang, warns where the number of an answer is thrown away. */
+#if defined(__GNUC__)
+#define MEALBIS_CHECKED __attribute__((warn_unused_result))
+#else
+#define MEALBIS_CHECKED
+#endif
 
 /* The answers. */
 #define MEALBIS_ACCEPTED 0u
@@ -163,6 +171,31 @@ uint32_t mealbis_version(void);
 #define MEALBIS_OTHER_LENGTH 13u /* than the month's */
 #define MEALBIS_MONTH_FULL 14u
 #define MEALBIS_NOT_YIELDED 16u /* of a k */
+
+/* The number of an answer in words. */
+static inline const char *mealbis_reason(uint32_t number)
+{
+    switch (number) {
+    case MEALBIS_ACCEPTED: return "accepted";
+    case MEALBIS_BAD_LENGTH: return "the length is none of the eleven";
+    case MEALBIS_BEYOND_RECORDING: return "the recording or the coefficients end too soon";
+    case MEALBIS_RESULT_TOO_SHORT: return "a buffer for results is too short";
+    case MEALBIS_SCRATCH_TOO_SHORT: return "scratch is too short";
+    case MEALBIS_ALLOWANCE_TOO_SMALL: return "the allowance is below the products that are spent";
+    case MEALBIS_OUT_OF_RANGE: return "a sample is out of range";
+    case MEALBIS_FILE_BELOW_HEADER: return "the file is shorter than 8 bytes";
+    case MEALBIS_BAD_SAMPLE_COUNT: return "the sample count is 0 or above 4,096";
+    case MEALBIS_BAD_FILE_LENGTH: return "the file is not 8 + 8 * samples bytes long";
+    case MEALBIS_COEFFICIENT_BEYOND_LIMIT: return "a stored coefficient is beyond its limit";
+    case MEALBIS_RECORDINGS_DIFFER: return "the two recordings differ in length";
+    case MEALBIS_BAD_FIGURES:
+        return "the flat limit is negative, or the clip level is outside 1 to 1,000,000";
+    case MEALBIS_OTHER_LENGTH: return "the block's length is not the month's";
+    case MEALBIS_MONTH_FULL: return "the month holds 100,000 blocks";
+    case MEALBIS_NOT_YIELDED: return "no sum of the month belongs to this k";
+    default: return "no call of this version gives this number";
+    }
+}
 
 /* The marks of a block. */
 #define MEALBIS_NO_MARK 0u /* after a refusal */
@@ -187,25 +220,83 @@ uint32_t mealbis_version(void);
 /* The words of an array, for the counts beside each pointer. Of an array, not of a pointer. */
 #define MEALBIS_WORDS(array) (sizeof(array) / sizeof((array)[0]))
 
+/* The records: what a call tells beside its number, in words of 64 bits without a gap. */
+
+/* Of mealbis_spectrum, mealbis_month_add, mealbis_cosine and mealbis_pair. */
+typedef struct mealbis_answer {
+    uint64_t products;     /* the multiplications that were spent */
+    uint64_t sums;         /* the additions */
+    uint64_t largest_rest; /* the largest size of a rest */
+    mealbis_size place;    /* of the first sample out of range */
+} mealbis_answer;
+
+/* Of mealbis_mark. */
+typedef struct mealbis_mark_answer {
+    uint64_t products;     /* these four as in mealbis_answer */
+    uint64_t sums;
+    uint64_t largest_rest;
+    mealbis_size place;
+    uint64_t mark;         /* MEALBIS_FLAT, MEALBIS_CLIPPED or MEALBIS_PLAIN */
+} mealbis_mark_answer;
+
+/* Of mealbis_month_sums: the sums for one k. */
+typedef struct mealbis_sums {
+    int64_t cosine; /* of the cosine coefficients */
+    int64_t sine;   /* of the sine coefficients */
+} mealbis_sums;
+
+/* Of mealbis_page. */
+typedef struct mealbis_page_answer {
+    mealbis_size bytes; /* of the page */
+} mealbis_page_answer;
+
+/* Of mealbis_inverse_dct. */
+typedef struct mealbis_inverse_answer {
+    mealbis_size place; /* the k of the first coefficient beyond its limit */
+} mealbis_inverse_answer;
+
+/* Of mealbis_counts. */
+typedef struct mealbis_counts_answer {
+    uint64_t dct_products;      /* of mealbis_cosine */
+    uint64_t dct_sums;          /* of mealbis_cosine */
+    uint64_t spectrum_products; /* of mealbis_spectrum, mealbis_mark and mealbis_month_add */
+    uint64_t spectrum_sums;     /* of these three */
+    uint64_t pair_products;     /* of mealbis_pair */
+    uint64_t pair_sums;         /* of mealbis_pair */
+} mealbis_counts_answer;
+
+/* Of mealbis_read. */
+typedef struct mealbis_read_answer {
+    mealbis_size samples; /* of each recording */
+    mealbis_size length;  /* of a block */
+    mealbis_size place;   /* of the first sample out of range */
+} mealbis_read_answer;
+
+/* Of mealbis_write. */
+typedef struct mealbis_write_answer {
+    mealbis_size bytes; /* of the file */
+    mealbis_size place; /* of the first sample out of range */
+} mealbis_write_answer;
+
 /*
  * Spectrum: cosine-DFT and sine-DFT of a block x(0) .. x(N-1), for k = 0 .. N/2 (k = 0 at N = 1):
  *   cosine[k] is the sum of x(n) * cos(2 pi n k / N), sine[k] that of x(n) * sin(2 pi n k / N),
  *   each within N/8 of document 01's exact sum.
- * Tests 1, 2, 3, 4, 5, 6. On acceptance *products and *sums are what was spent, and *largest_rest is
- * the largest size of a rest.
+ * Tests 1, 2, 3, 4, 5, 6. On acceptance products and sums are what was spent, and largest_rest is the
+ * largest size of a rest.
  *
  *   recording, recording_words   the samples; only those of the block are examined
  *   cosine, cosine_words         at least N/2 + 1 words
  *   sine, sine_words             at least N/2 + 1 words
  *   scratch, scratch_words       at least 8 N + 64 words
  */
-uint32_t mealbis_spectrum(
-    const int32_t *recording, size_t recording_words,
-    size_t start, size_t length, uint64_t allowance,
-    int32_t *cosine, size_t cosine_words,
-    int32_t *sine, size_t sine_words,
-    int64_t *scratch, size_t scratch_words,
-    uint64_t *products, uint64_t *sums, uint64_t *largest_rest, size_t *place);
+MEALBIS_CHECKED uint32_t mealbis_spectrum(
+    const int32_t *recording, mealbis_size recording_words,
+    mealbis_size start, mealbis_size length, uint64_t allowance,
+    int32_t *cosine, mealbis_size cosine_words,
+    int32_t *sine, mealbis_size sine_words,
+    int64_t *scratch, mealbis_size scratch_words,
+    mealbis_answer *answer);
 
 /*
  * Mark: the spectrum of a block, and the block's mark by two figures of the owner's:
@@ -217,24 +308,23 @@ uint32_t mealbis_spectrum(
  * coefficients that the call yields and with the samples as they are, without rounding.
  *
  * Tests 1, 2, 3, 4, 5, 6, 12. On acceptance everything is as after mealbis_spectrum with the same
- * words (coefficients, scratch, *products, *sums, *largest_rest), and *mark is the mark. Every
- * refusal of mealbis_spectrum is one of mealbis_mark, and 12 is one more. After a refusal *mark is
+ * words (coefficients, scratch, products, sums, largest_rest), and mark is the mark. Every refusal of
+ * mealbis_spectrum is one of mealbis_mark, and 12 is one more. After a refusal mark is
  * MEALBIS_NO_MARK.
  *
  *   flat_limit    0 or more, in the unit of the coefficients: hundredths of a microstrain, summed
  *                 over the block. A wave of amplitude A gives up to N/2 * A, and N * A at k = N/2.
  *                 INT32_MAX makes every block flat.
- *   clip_level    1 to 1,000,000, in the unit of the samples
- *   mark          the mark; all else as in mealbis_spectrum
+ *   clip_level    1 to 1,000,000, in the unit of the samples; all else as in mealbis_spectrum
  */
-uint32_t mealbis_mark(
-    const int32_t *recording, size_t recording_words,
-    size_t start, size_t length, uint64_t allowance,
+MEALBIS_CHECKED uint32_t mealbis_mark(
+    const int32_t *recording, mealbis_size recording_words,
+    mealbis_size start, mealbis_size length, uint64_t allowance,
     int32_t flat_limit, int32_t clip_level,
-    int32_t *cosine, size_t cosine_words,
-    int32_t *sine, size_t sine_words,
-    int64_t *scratch, size_t scratch_words,
-    uint64_t *products, uint64_t *sums, uint64_t *largest_rest, size_t *place, uint32_t *mark);
+    int32_t *cosine, mealbis_size cosine_words,
+    int32_t *sine, mealbis_size sine_words,
+    int64_t *scratch, mealbis_size scratch_words,
+    mealbis_mark_answer *answer);
 
 /*
  * A month: sums of the spectra of many blocks of one length N, in 8,224 bytes that you keep. Write
@@ -259,38 +349,38 @@ typedef struct mealbis_month {
  * Begins a month of no blocks for one length, whatever stands in its words. Tests 1. After the
  * refusal it is a month too, of the length 0, and mealbis_month_add answers 13 to every block.
  */
-uint32_t mealbis_month_begin(mealbis_month *month, size_t length);
+MEALBIS_CHECKED uint32_t mealbis_month_begin(mealbis_month *month, mealbis_size length);
 
 /*
  * Adds a block to a month: does what mealbis_spectrum does with the same words, adds each cosine[k]
  * and sine[k], k = 0 .. N/2, to its sum, and 1 to the block number.
  * Tests 13, 14, 2, 3, 4, 5, 6. On acceptance everything else is as after mealbis_spectrum
- * (coefficients, scratch, *products, *sums, *largest_rest). A refused block leaves the month as it
- * was.
+ * (coefficients, scratch, products, sums, largest_rest). A refused block leaves the month as it was.
  *
- *   month    all else as in mealbis_spectrum. *sums are the additions of the transform, as there: those
+ *   month    all else as in mealbis_spectrum. sums are the additions of the transform, as there: those
  *            to the month's sums are not counted
  */
-uint32_t mealbis_month_add(
+MEALBIS_CHECKED uint32_t mealbis_month_add(
     mealbis_month *month,
-    const int32_t *recording, size_t recording_words,
-    size_t start, size_t length, uint64_t allowance,
-    int32_t *cosine, size_t cosine_words,
-    int32_t *sine, size_t sine_words,
-    int64_t *scratch, size_t scratch_words,
-    uint64_t *products, uint64_t *sums, uint64_t *largest_rest, size_t *place);
+    const int32_t *recording, mealbis_size recording_words,
+    mealbis_size start, mealbis_size length, uint64_t allowance,
+    int32_t *cosine, mealbis_size cosine_words,
+    int32_t *sine, mealbis_size sine_words,
+    int64_t *scratch, mealbis_size scratch_words,
+    mealbis_answer *answer);
 
 /* The length for which a month is begun; 0 where beginning was refused. */
-size_t mealbis_month_length(const mealbis_month *month);
+mealbis_size mealbis_month_length(const mealbis_month *month);
 
 /* The block number of a month: how many blocks were added. */
 int64_t mealbis_month_blocks(const mealbis_month *month);
 
 /*
- * The two sums of a month for one k: *cosine that of the cosine coefficients, *sine that of the sine
+ * The two sums of a month for one k: cosine that of the cosine coefficients, sine that of the sine
  * coefficients. Tests 16: k is above N/2, or the month's beginning was refused.
  */
-uint32_t mealbis_month_sums(const mealbis_month *month, size_t k, int64_t *cosine, int64_t *sine);
+MEALBIS_CHECKED uint32_t mealbis_month_sums(
+    const mealbis_month *month, mealbis_size k, mealbis_sums *sums);
 
 /*
  * A page for the site binder: a spectrum that mealbis_spectrum made, or any stored coefficients, as
@@ -301,7 +391,7 @@ uint32_t mealbis_month_sums(const mealbis_month *month, size_t k, int64_t *cosin
  *        k       cosine         sine
  *        0       591440            0
  *        1      -241255        19515
- * It is put at the front of `page`. *bytes is how many bytes it has, and the bytes after it stay; no
+ * It is put at the front of `page`. bytes is how many bytes it has, and the bytes after it stay; no
  * zero byte ends it. Tests 1, 2, 3.
  *
  * Every int32_t fits its column, so that no line is ever longer. Two pages are equal only if they are
@@ -311,28 +401,28 @@ uint32_t mealbis_month_sums(const mealbis_month *month, size_t k, int64_t *cosin
  *   sine, sine_words        the same
  *   page, page_bytes        at least MEALBIS_PAGE_BYTES(N) bytes
  */
-uint32_t mealbis_page(
-    const int32_t *cosine, size_t cosine_words,
-    const int32_t *sine, size_t sine_words,
-    size_t length,
-    uint8_t *page, size_t page_bytes,
-    size_t *bytes);
+MEALBIS_CHECKED uint32_t mealbis_page(
+    const int32_t *cosine, mealbis_size cosine_words,
+    const int32_t *sine, mealbis_size sine_words,
+    mealbis_size length,
+    uint8_t *page, mealbis_size page_bytes,
+    mealbis_page_answer *answer);
 
 /*
  * Cosine: the DCT-II of a block, for k = 0 .. N-1, with no factor 2 and no special weight at k = 0:
  *   coefficients[k] is the sum of x(n) * cos(pi (2n + 1) k / (2 N)), within (N + 1)/4 of document
  *   01's exact sum.
- * Tests 1, 2, 3, 4, 5, 6. On acceptance *products and *sums are what was spent, and *largest_rest is
- * the largest size of a rest.
+ * Tests 1, 2, 3, 4, 5, 6. On acceptance products and sums are what was spent, and largest_rest is the
+ * largest size of a rest.
  *
  *   coefficients, coefficients_words   at least N words; all else as in mealbis_spectrum
  */
-uint32_t mealbis_cosine(
-    const int32_t *recording, size_t recording_words,
-    size_t start, size_t length, uint64_t allowance,
-    int32_t *coefficients, size_t coefficients_words,
-    int64_t *scratch, size_t scratch_words,
-    uint64_t *products, uint64_t *sums, uint64_t *largest_rest, size_t *place);
+MEALBIS_CHECKED uint32_t mealbis_cosine(
+    const int32_t *recording, mealbis_size recording_words,
+    mealbis_size start, mealbis_size length, uint64_t allowance,
+    int32_t *coefficients, mealbis_size coefficients_words,
+    int64_t *scratch, mealbis_size scratch_words,
+    mealbis_answer *answer);
 
 /*
  * The inverse DCT: strain back from the stored coefficients c(0) .. c(N-1) of mealbis_cosine:
@@ -350,90 +440,79 @@ uint32_t mealbis_cosine(
  *                                      examined, each at most MEALBIS_LARGEST_COEFFICIENT(N) in size
  *   values, values_words               at least N words
  */
-uint32_t mealbis_inverse_dct(
-    const int32_t *coefficients, size_t coefficients_words,
-    size_t length,
-    int32_t *values, size_t values_words,
-    size_t *place);
+MEALBIS_CHECKED uint32_t mealbis_inverse_dct(
+    const int32_t *coefficients, mealbis_size coefficients_words,
+    mealbis_size length,
+    int32_t *values, mealbis_size values_words,
+    mealbis_inverse_answer *answer);
 
 /*
  * Pair: the complex DFT of two recordings, a + i b, for k = 0 .. N-1:
  *   re[k] + i im[k] is the sum of (a(n) + i b(n)) * exp(-2 pi i n k / N), each part within N/4 of
  *   document 01's exact sum.
  * One start serves both recordings, which may differ in length. Tests 1, 2, 3, 4, 5, 6; 6 examines
- * a's block and then b's, and *place does not say in which of them the sample is: where a's sample
- * there is in range, it is b's. On acceptance *products and *sums are what was spent, and
- * *largest_rest is the largest size of a rest, of a's roundings and b's.
+ * a's block and then b's, and place does not say in which of them the sample is: where a's sample
+ * there is in range, it is b's. On acceptance products and sums are what was spent, and largest_rest
+ * is the largest size of a rest, of a's roundings and b's.
  *
  *   a, a_words; b, b_words     the samples; only those of the blocks are examined
  *   re, re_words               at least N words
  *   im, im_words               at least N words
  *   scratch, scratch_words     at least 8 N + 64 words
  */
-uint32_t mealbis_pair(
-    const int32_t *a, size_t a_words,
-    const int32_t *b, size_t b_words,
-    size_t start, size_t length, uint64_t allowance,
-    int32_t *re, size_t re_words,
-    int32_t *im, size_t im_words,
-    int64_t *scratch, size_t scratch_words,
-    uint64_t *products, uint64_t *sums, uint64_t *largest_rest, size_t *place);
+MEALBIS_CHECKED uint32_t mealbis_pair(
+    const int32_t *a, mealbis_size a_words,
+    const int32_t *b, mealbis_size b_words,
+    mealbis_size start, mealbis_size length, uint64_t allowance,
+    int32_t *re, mealbis_size re_words,
+    int32_t *im, mealbis_size im_words,
+    int64_t *scratch, mealbis_size scratch_words,
+    mealbis_answer *answer);
 
 /*
  * The count query: what the calls spend on a block of this length; the products are the least
  * allowance that they accept. Tests 1; after the refusal all six are 0.
- *
- * Mind the order, which is not that of the calls above. Cosine's counts are higher than Spectrum's:
- * taken for these, they are accepted as an allowance, and nothing tells.
- *
- *   dct_products, dct_sums              of mealbis_cosine
- *   spectrum_products, spectrum_sums    of mealbis_spectrum, mealbis_mark and mealbis_month_add
- *   pair_products, pair_sums            of mealbis_pair
  */
-uint32_t mealbis_counts(
-    size_t length,
-    uint64_t *dct_products, uint64_t *dct_sums,
-    uint64_t *spectrum_products, uint64_t *spectrum_sums,
-    uint64_t *pair_products, uint64_t *pair_sums);
+MEALBIS_CHECKED uint32_t mealbis_counts(mealbis_size length, mealbis_counts_answer *answer);
 
 /*
  * Reads the bytes of a pair file: sample count m and block length N, 32 bits unsigned each, then m
  * samples of a and m of b, 32 bits signed, all little-endian. Writes m words of a and m of b,
- * *samples = m and *length = N. Tests 7, 8, 9, 1, 3, 6; 6 examines all samples of a, then those of
- * b. A file has m / N blocks, the first at start 0; a tail shorter than N makes none.
+ * samples = m and length = N. Tests 7, 8, 9, 1, 3, 6; 6 examines all samples of a, then those of b.
+ * A file has m / N blocks, the first at start 0; a tail shorter than N makes none.
  *
  *   file, file_bytes    the whole file
  *   a, a_words          at least m words; 4,096 are enough for every file
  *   b, b_words          the same
  */
-uint32_t mealbis_read(
-    const uint8_t *file, size_t file_bytes,
-    int32_t *a, size_t a_words,
-    int32_t *b, size_t b_words,
-    size_t *samples, size_t *length, size_t *place);
+MEALBIS_CHECKED uint32_t mealbis_read(
+    const uint8_t *file, mealbis_size file_bytes,
+    int32_t *a, mealbis_size a_words,
+    int32_t *b, mealbis_size b_words,
+    mealbis_read_answer *answer);
 
 /*
  * Writes a pair file: the bytes that mealbis_read reads, for two recordings of m samples each and a
  * block length N. With m = a_words it writes 8 + 8 m bytes, MEALBIS_FILE_BYTES(m), to the front of
  * `file`: m and N, 32 bits unsigned each, then the m samples of a and the m samples of b, 32 bits
- * signed, all little-endian. *bytes is how many they are, and the bytes after them stay.
- * Tests 8 (by a_words), 11, 1, 6, 3; 6 examines all samples of a, then those of b, and *place does
- * not say in which of them the sample is: where a's sample there is in range, it is b's.
+ * signed, all little-endian. bytes is how many they are, and the bytes after them stay.
+ * Tests 8 (by a_words), 11, 1, 6, 3; 6 examines all samples of a, then those of b, and place does not
+ * say in which of them the sample is: where a's sample there is in range, it is b's.
  *
- * Each accepted input has one file, and mealbis_read returns the input from it: *samples = m,
- * *length = N, and every sample of a and of b. Any N of the eleven lengths will do, also one above
- * m; such a file has no block.
+ * Each accepted input has one file, and mealbis_read returns the input from it: samples = m,
+ * length = N, and every sample of a and of b. Any N of the eleven lengths will do, also one above m;
+ * such a file has no block.
  *
  *   a, a_words          the m samples: 1 to 4,096 words
  *   b, b_words          just as many words
  *   file, file_bytes    at least 8 + 8 m bytes; 32,776 are enough for every file
  */
-uint32_t mealbis_write(
-    const int32_t *a, size_t a_words,
-    const int32_t *b, size_t b_words,
-    size_t length,
-    uint8_t *file, size_t file_bytes,
-    size_t *bytes, size_t *place);
+MEALBIS_CHECKED uint32_t mealbis_write(
+    const int32_t *a, mealbis_size a_words,
+    const int32_t *b, mealbis_size b_words,
+    mealbis_size length,
+    uint8_t *file, mealbis_size file_bytes,
+    mealbis_write_answer *answer);
 
 #ifdef __cplusplus
 }

@@ -51,7 +51,7 @@ class Lent:
 
     def given(self):
         """The arguments by which it is lent."""
-        return [self.pointer(), ctypes.c_size_t(self.count)]
+        return [self.pointer(), ctypes.c_uint64(self.count)]
 
     def expect(self, written):
         """These bytes should stand in front after the call, and all else stay."""
@@ -115,12 +115,16 @@ def lent_words(rng, name, word_size, count):
     return Lent(name, count, rng.randbytes(word_size * count), (rng.randbytes(GUARD), rng.randbytes(GUARD)))
 
 
-def single_words(rng, values, code="Q"):
-    """A word to be written for each name, in which the value should stand."""
-    words = [lent_words(rng, name, array.array(code).itemsize, 1) for name in values]
-    for word, value in zip(words, values.values()):
-        word.expect(in_memory(code, [value]))
-    return words
+class Record(Lent):
+    """A record, lent by its pointer alone: a word of 64 bits for each field, with anything in it, in which the value should stand."""
+
+    def __init__(self, rng, fields, code="Q"):
+        guards, held = [rng.randbytes(GUARD) for _ in range(2)], rng.randbytes(8 * len(fields))
+        super().__init__("the record (%s)" % ", ".join(fields), len(fields), held, guards)
+        self.expect(in_memory(code, fields.values()))
+
+    def given(self):
+        return [self.pointer()]
 
 
 # --- calls -------------------------------------------------------------------------
@@ -144,17 +148,17 @@ class Calls:
         if wrong and self.failed <= MOST_SHOWN:
             print("%s: FAILED\n    %s" % (name, "\n    ".join(wrong)))
 
-    def compare(self, name, function, given, words, number):
-        """One call on lent memory and numbers, plain ones having the size of a pointer, and then the single words."""
+    def compare(self, name, function, given, number):
+        """One call on lent memory, the record too, and on numbers, plain ones having 64 bits."""
         arguments = []
         for one in given:
             if isinstance(one, Lent):
                 arguments += one.given()
             else:
-                arguments.append(ctypes.c_size_t(one) if isinstance(one, int) else one)
-        answer = function(*arguments, *(word.pointer() for word in words))
+                arguments.append(ctypes.c_uint64(one) if isinstance(one, int) else one)
+        answer = function(*arguments)
         told = None if answer == number else "the answer is %d and not %d" % (answer, number)
-        self.add(name, [told, *(one.difference() for one in (*given, *words) if isinstance(one, Lent))])
+        self.add(name, [told, *(one.difference() for one in given if isinstance(one, Lent))])
 
 
 def run(kind, checks, description):

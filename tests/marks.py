@@ -4,8 +4,8 @@
     python3 tests/marks.py [--library PATH] [--seed NUMBER]
 
 Builds libmealbis.a and a shared library of it, target/shared/libmealbis.so; or takes another shared library. Of every call it compares the
-answer, *products, *sums, *largest_rest, *place, *mark, both buffers of coefficients, scratch and the recording, with guards before and
-behind each. Each input also goes through mealbis_spectrum, which must answer and leave behind the same, but for the mark and refusal 12.
+answer, the record (products, sums, largest_rest, place, mark), both buffers of coefficients, scratch and the recording, with guards before
+and behind each. Each input also goes through mealbis_spectrum, which must answer and leave behind the same, but for the mark and refusal 12.
 
 The last line is 'N passed, 0 failed'. Exit status 1 where something differs.
 """
@@ -15,7 +15,7 @@ import itertools
 import sys
 from typing import NamedTuple
 
-from library import BAD_LENGTHS, OUT, PAGE, Calls, Mapped, in_memory, lent_samples, run, single_words
+from library import BAD_LENGTHS, OUT, PAGE, Calls, Mapped, in_memory, lent_samples, run
 from reference import (CLIPPED, COSINE_TIE, FLAT, LARGEST_SAMPLE, LENGTHS, LOOKED_AT, ONE_REST_COSINE, ONE_REST_SINE, PLAIN, SINE_TIE,
                        mark_call, meets, scratch_words, spectrum, spectrum_call, tallied_counts)
 from spectrum_calls import REACHING, UNBOUNDED, SpectrumCall, broken, conditions, largest_blocks, lend, placed, random_block, wave
@@ -70,20 +70,17 @@ class MarkCalls(Calls):
         recording = lent_samples("the recording", call.recording)
         self.compare_mark(name, call, recording, answer)
         plain = spectrum_call(*call.for_spectrum()) if answer.refusal == 12 else answer
-        buffers, words = lend(self.rng, call, plain)
-        given = recording, call.start, call.length, call.allowance, *buffers
-        self.compare("Spectrum of " + name, self.spectrum_function, given, words, plain.refusal)
+        given = recording, call.start, call.length, call.allowance, *lend(self.rng, call, plain)
+        self.compare("Spectrum of " + name, self.spectrum_function, given, plain.refusal)
         if answer.refusal == 0:
             met = [meets(rule, call.for_spectrum().block(), *answer.results, call.flat_limit, call.clip_level) for rule in (FLAT, CLIPPED)]
             self.met.update([(call.length, answer.mark), (call.length, *met)])
         return answer
 
     def compare_mark(self, name, call, recording, answer):
-        buffers, words = lend(self.rng, call, answer)
-        words += single_words(self.rng, {"*mark": answer.mark or 0}, "I")
         figures = ctypes.c_int32(call.flat_limit), ctypes.c_int32(call.clip_level)
-        given = recording, call.start, call.length, call.allowance, *figures, *buffers
-        self.compare(name, self.mark_function, given, words, answer.refusal)
+        given = recording, call.start, call.length, call.allowance, *figures, *lend(self.rng, call, answer, mark=answer.mark or 0)
+        self.compare(name, self.mark_function, given, answer.refusal)
 
 
 def largest_sizes(x):
@@ -284,10 +281,10 @@ def check_edges(calls):
     """Buffers, scratch, allowance and start at their edges and one beyond, with good figures and bad ones."""
     for N, flat_limit in itertools.product(LENGTHS, (LARGEST, -1)):
         listed, products = N // 2 + 1, tallied_counts(N).spectrum_products
-        call = Call([0] * N + [1, 2], 2, N, products, flat_limit, 1, listed, listed, 8 * N + 64)
+        call = Call([0] * N + [1, 2], 2, N, products, flat_limit, 1, listed, listed, scratch_words(N))
         calls.mark("just enough", call, 0 if flat_limit == LARGEST else 12)
         changes = [(3, "cosine_len", listed - 1), (3, "cosine_len", 0), (3, "sine_len", listed - 1), (3, "sine_len", 0),
-                   (4, "scratch_len", 8 * N + 63), (4, "scratch_len", 0), (2, "recording", [])]
+                   (4, "scratch_len", scratch_words(N) - 1), (4, "scratch_len", 0), (2, "recording", [])]
         changes += [(2, "start", start) for start in (3, 2 ** 32, 2 ** 64 - N, 2 ** 64 - 1)]
         changes += [(5, "allowance", products - 1)] if products else []
         for number, name, value in changes:
@@ -297,7 +294,7 @@ def check_edges(calls):
 def check_lengths(calls):
     """Every length up to 130 and some far ones: the eleven are accepted."""
     for length in (*BAD_LENGTHS, *range(131), *LENGTHS[8:], *(length << 32 for length in LENGTHS), *(length + 2 ** 32 for length in LENGTHS)):
-        call = Call(random_block(calls.rng, 2048), 0, length, UNBOUNDED, 0, LARGEST_SAMPLE, 1025, 1025, 16448)
+        call = Call(random_block(calls.rng, 2048), 0, length, UNBOUNDED, 0, LARGEST_SAMPLE, 1025, 1025, scratch_words(2048))
         calls.mark("a length", call, 0 if length in LENGTHS else 1)
 
 
@@ -307,7 +304,7 @@ def check_far(calls):
     recording = Mapped("the far recording", 4, far + PAGE, 4 * far // PAGE)
     for last, mark, place in ((-3, PLAIN, None), (-30, CLIPPED, None), (OUT[0], None, 7)):
         x = [5, -3, 5, -3, 5, -3, 5, last]
-        near = Call([*REACHING, *x, *REACHING], 2, 8, UNBOUNDED, 7, 30, 5, 5, 128)
+        near = Call([*REACHING, *x, *REACHING], 2, 8, UNBOUNDED, 7, 30, 5, 5, scratch_words(8))
         recording.hold(in_memory("i", near.recording))
         answer = mark_call(*near)
         calls.add("near block %s" % x, [None if (answer.mark, answer.place) == (mark, place and 2 + place) else "%s" % (answer,)])

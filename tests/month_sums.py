@@ -13,7 +13,7 @@ import reference
 
 SAMPLES = 2_100
 ROOM = SAMPLES  # words of both result buffers
-SCRATCH = 8 * 1_024 + 64
+SCRATCH = reference.scratch_words(1_024)
 ALLOWANCE = 20_000
 
 

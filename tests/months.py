@@ -5,8 +5,8 @@
     python3 tests/months.py --example FILE..        what the example `months` prints for these pair files, by the reference alone
 
 Builds libmealbis.a and a shared library of it, target/shared/libmealbis.so; or takes another shared library. After every call of
-mealbis_month_begin and mealbis_month_add it compares every word of the month, and of adding also the answer, *products, *sums,
-*largest_rest, *place, both buffers of coefficients, scratch and the recording, with guards before and behind each. What
+mealbis_month_begin and mealbis_month_add it compares every word of the month, and of adding also the answer, the record (products, sums,
+largest_rest, place), both buffers of coefficients, scratch and the recording, with guards before and behind each. What
 mealbis_month_length, mealbis_month_blocks and mealbis_month_sums read is compared, too, and that they leave the month as it is.
 
 The last line is 'N passed, 0 failed'. Exit status 1 where something differs.
@@ -19,7 +19,7 @@ import struct
 import sys
 from pathlib import Path
 
-from library import BAD_LENGTHS, GUARD, OUT, PAGE, ROOT, Calls, Lent, Mapped, in_memory, lent_samples, run, single_words
+from library import BAD_LENGTHS, GUARD, OUT, PAGE, ROOT, Calls, Lent, Mapped, Record, in_memory, lent_samples, run
 from reference import (COSINE_TIE, DIFFERS_FROM_DIRECT, FIRST_COSINE, FIRST_SINE, LARGEST_SAMPLE, LARGEST_SUM, LENGTHS, MONTH_WORDS, MOST_BLOCKS,
                        MOST_FILE_SAMPLES, SINE_TIE, exact_cosine, exact_month, exact_sine, month_add, month_begin, month_blocks, month_length,
                        month_sums, read_pair_file, scratch_words, spectrum, spectrum_call, tallied_counts, within_eighths)
@@ -79,7 +79,7 @@ class MonthCalls(Calls):
     def __init__(self, library, rng):
         super().__init__(library, rng)
         self.begin_function, self.add_function, self.sums_function = (self.function("mealbis_month_" + name) for name in ("begin", "add", "sums"))
-        self.length_function = self.function("mealbis_month_length", ctypes.c_size_t)
+        self.length_function = self.function("mealbis_month_length", ctypes.c_uint64)
         self.blocks_function = self.function("mealbis_month_blocks", ctypes.c_int64)
         self.spectrum_function = self.function("mealbis_spectrum")
         self.answered = collections.Counter()
@@ -93,7 +93,7 @@ class MonthCalls(Calls):
     def begin_again(self, name, month, length):
         refusal, words = month_begin(length)
         month.become(words)
-        self.compare("%s, begun for %d" % (name, length), self.begin_function, (month, length), (), refusal)
+        self.compare("%s, begun for %d" % (name, length), self.begin_function, (month, length), refusal)
 
     def block(self, name, month, call, number=0):
         """A block added: it must answer as the reference, and the reference by this number. The reference's answer then."""
@@ -106,18 +106,18 @@ class MonthCalls(Calls):
         return answer
 
     def compare_block(self, name, month, call, recording, answer, then):
-        buffers, words = lend(self.rng, call, answer)
+        lent = lend(self.rng, call, answer)
         month.become(then)
-        self.compare(name, self.add_function, (month, recording, call.start, call.length, call.allowance, *buffers), words, answer.refusal)
+        self.compare(name, self.add_function, (month, recording, call.start, call.length, call.allowance, *lent), answer.refusal)
 
     def read(self, name, month, places):
         """The length, the block number, and the sums for each k of the places."""
-        self.compare(name + ", the length", self.length_function, (month,), (), month_length(month.words))
-        self.compare(name + ", the block number", self.blocks_function, (month,), (), month_blocks(month.words))
+        self.compare(name + ", the length", self.length_function, (month,), month_length(month.words))
+        self.compare(name + ", the block number", self.blocks_function, (month,), month_blocks(month.words))
         for k in places:
             refusal, cosine, sine = month_sums(month.words, k)
-            words = single_words(self.rng, {"*cosine": cosine, "*sine": sine}, "q")
-            self.compare("%s, the sums for k = %d" % (name, k), self.sums_function, (month, k), words, refusal)
+            record = Record(self.rng, {"cosine": cosine, "sine": sine}, "q")
+            self.compare("%s, the sums for k = %d" % (name, k), self.sums_function, (month, k, record), refusal)
 
     def near(self, name, month, blocks, places):
         """Each sum that stands in the month for a k of the places is within n * N/8 of the exact sum of these blocks."""
@@ -203,10 +203,10 @@ def check_as_spectrum(calls):
         for _ in range(6 if N < 256 else 3):
             call = placed(rng, random_block(rng, N))
             answer = calls.block("as Spectrum", month, call)
-            buffers, words = lend(rng, call, answer)
-            given = lent_samples("the recording", call.recording), call.start, N, call.allowance, *buffers
-            calls.compare("Spectrum", calls.spectrum_function, given, words, 0)
-            for row, buffer in zip(sums, buffers):
+            lent = lend(rng, call, answer)
+            given = lent_samples("the recording", call.recording), call.start, N, call.allowance, *lent
+            calls.compare("Spectrum", calls.spectrum_function, given, 0)
+            for row, buffer in zip(sums, lent):
                 for k, coefficient in enumerate(array.array("i", buffer.front(4 * len(row)))):
                     row[k] += coefficient
             good = month.now() == month_words(N, month_blocks(month.words), *sums)
@@ -237,16 +237,16 @@ def run_of_blocks(calls, name, month, x, count):
     N = len(x)
     call = SpectrumCall(x, 0, N, UNBOUNDED, N // 2 + 1, N // 2 + 1, scratch_words(N))
     answer = spectrum_call(*call)
-    buffers, words = lend(calls.rng, call, answer)
-    given = month, lent_samples("the recording", x), 0, N, UNBOUNDED, *buffers
+    lent = lend(calls.rng, call, answer)
+    given = month, lent_samples("the recording", x), 0, N, UNBOUNDED, *lent
     rows = zip((FIRST_COSINE, FIRST_SINE), answer.results)
     changed = [(place, coefficient) for first, row in rows for place, coefficient in enumerate(row, first) if coefficient]
     for _ in range(count):
-        for lent in (*buffers, *words):
-            lent.refill()
+        for one in lent:
+            one.refill()
         for place, change in ((1, 1), *changed):
             month.put(place, month.words[place] + change)
-        calls.compare(name, calls.add_function, given, words, 0)
+        calls.compare(name, calls.add_function, given, 0)
 
 
 def check_full(calls):
@@ -294,7 +294,7 @@ def check_last_blocks(calls):
 
 def plain_call(rng, length):
     """A call with enough of everything for blocks of up to 2,048 samples."""
-    return SpectrumCall(random_block(rng, 2048), 0, length, UNBOUNDED, 1025, 1025, 16448)
+    return SpectrumCall(random_block(rng, 2048), 0, length, UNBOUNDED, 1025, 1025, scratch_words(2048))
 
 
 def check_beginnings(calls):
@@ -405,9 +405,9 @@ def check_edges(calls):
     for N in LENGTHS:
         listed, products = N // 2 + 1, tallied_counts(N).spectrum_products
         month = calls.begin("edges", N)
-        call = SpectrumCall([0] * N + [1, 2], 2, N, products, listed, listed, 8 * N + 64)
+        call = SpectrumCall([0] * N + [1, 2], 2, N, products, listed, listed, scratch_words(N))
         changes = [(3, "cosine_len", listed - 1), (3, "cosine_len", 0), (3, "sine_len", listed - 1), (3, "sine_len", 0),
-                   (4, "scratch_len", 8 * N + 63), (4, "scratch_len", 0), (2, "recording", [])]
+                   (4, "scratch_len", scratch_words(N) - 1), (4, "scratch_len", 0), (2, "recording", [])]
         changes += [(2, "start", start) for start in (3, 2 ** 32, 2 ** 64 - N, 2 ** 64 - 1)]
         changes += [(5, "allowance", products - 1)] if products else []
         for number, name, value in changes:
@@ -429,7 +429,7 @@ def check_far(calls):
     recording = Mapped("the far recording", 4, far + PAGE, 4 * far // PAGE)
     month = calls.begin("far", 8)
     for last, number, place in ((-3, 0, None), (-30, 0, None), (OUT[0], 6, 7)):
-        near = SpectrumCall([9, 9, 5, -3, 5, -3, 5, -3, 5, last, 9, 9], 2, 8, UNBOUNDED, 5, 5, 128)
+        near = SpectrumCall([9, 9, 5, -3, 5, -3, 5, -3, 5, last, 9, 9], 2, 8, UNBOUNDED, 5, 5, scratch_words(8))
         recording.hold(in_memory("i", near.recording))
         answer, then = month_add(month.words, *near)
         calls.add("near block", [None if (answer.refusal, answer.place) == (number, place and 2 + place) else "%s" % (answer,)])

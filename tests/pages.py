@@ -17,7 +17,7 @@ import itertools
 import sys
 from pathlib import Path
 
-from library import BAD_LENGTHS, PAGE, ROOT, Calls, Mapped, in_memory, lent_bytes, lent_samples, run, single_words
+from library import BAD_LENGTHS, PAGE, ROOT, Calls, Mapped, Record, in_memory, lent_bytes, lent_samples, run
 from reference import LARGEST_SAMPLE, LENGTHS, MOST_FILE_SAMPLES, page_bytes, page_call, read_pair_file, spectrum, spectrum_call
 from spectrum_calls import largest_blocks, lend, placed, random_block
 
@@ -52,8 +52,8 @@ class PageCalls(Calls):
         self.answered[length, answer.refusal] += 1
         page = lent_bytes(self.rng, "the page", self.rng.randbytes(size))
         page.expect(answer.data)
-        words = single_words(self.rng, {"*bytes": len(answer.data)})
-        self.compare(name, self.page_function, (lent_cosine, lent_sine, length, page), words, answer.refusal)
+        record = Record(self.rng, {"bytes": len(answer.data)})
+        self.compare(name, self.page_function, (lent_cosine, lent_sine, length, page, record), answer.refusal)
         return page.front(len(answer.data))
 
     def whole(self, name, cosine, sine):
@@ -176,9 +176,9 @@ def check_spectra(calls):
         for x in blocks:
             call = placed(rng, x)
             answer = spectrum_call(*call)
-            (cosine, sine, scratch), words = lend(rng, call, answer)
-            given = lent_samples("the recording", call.recording), call.start, N, call.allowance, cosine, sine, scratch
-            calls.compare("Spectrum, N %d" % N, calls.spectrum_function, given, words, 0)
+            cosine, sine, *lent = lend(rng, call, answer)
+            given = lent_samples("the recording", call.recording), call.start, N, call.allowance, cosine, sine, *lent
+            calls.compare("Spectrum, N %d" % N, calls.spectrum_function, given, 0)
             left = [list(array.array("i", buffer.front(4 * buffer.count))) for buffer in (cosine, sine)]
             calls.compare_page("a spectrum", cosine, sine, left, N, page_bytes(N) + rng.choice((0, 0, 1, 50)))
 
@@ -194,11 +194,11 @@ def check_one_row(calls):
         row = numbers(rng, listed(N) + 1)
         lent = lent_samples("both", row)
         answer = page_call(row[:-1], row[1:], N, page_bytes(N))
-        page, words = lent_bytes(rng, "the page", rng.randbytes(page_bytes(N))), single_words(rng, {"*bytes": page_bytes(N)})
+        page, record = lent_bytes(rng, "the page", rng.randbytes(page_bytes(N))), Record(rng, {"bytes": page_bytes(N)})
         page.expect(answer.data)
-        count = ctypes.c_size_t(listed(N))
-        given = lent.pointer(), count, ctypes.byref(lent.memory, lent.first + 4), count, N, page
-        calls.compare("two parts of one array, N %d" % N, calls.page_function, given, words, 0)
+        count = ctypes.c_uint64(listed(N))
+        given = lent.pointer(), count, ctypes.byref(lent.memory, lent.first + 4), count, N, page, record
+        calls.compare("two parts of one array, N %d" % N, calls.page_function, given, 0)
         calls.add("two parts of one array, N %d" % N, [lent.difference()])
 
 
@@ -218,8 +218,8 @@ def check_far(calls):
     for cosine, sine, number in ((*near, 0), (*far, 0), (lent_samples("no cosine", []), near[1], 2)):
         page.hold(rng.randbytes(PAGE))
         page.expect(b"" if number else page_call(*rows, N, size).data)
-        words = single_words(rng, {"*bytes": 0 if number else size})
-        calls.compare("a page of %d bytes" % page.count, calls.page_function, (cosine, sine, N, page), words, number)
+        record = Record(rng, {"bytes": 0 if number else size})
+        calls.compare("a page of %d bytes" % page.count, calls.page_function, (cosine, sine, N, page, record), number)
 
 
 # --- refusals ----------------------------------------------------------------------

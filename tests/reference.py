@@ -503,6 +503,7 @@ def first_out_of_any(recordings, start, end):
 
 
 def scratch_words(N):
+    """The words of scratch that a block of N samples needs: nowhere else in tests/ and bench/ is it said in Python."""
     return 8 * N + 64
 
 

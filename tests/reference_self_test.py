@@ -112,7 +112,7 @@ def check_p1_to_p10():
 def check_last_bullet():
     '''the last bullet of "Blocks to try"'''
     def cosine(recording, start, N, allowance):
-        return ref.cosine_call(recording, start, N, allowance, N, 8 * N + 64)
+        return ref.cosine_call(recording, start, N, allowance, N, ref.scratch_words(N))
     zeros = [0] * 8
     assert cosine(zeros, 0, 8, 12).refusal == 0
     assert cosine(zeros, 0, 8, 11) == ref.Answer(5)
@@ -378,13 +378,13 @@ START, N = 5, 8                             # of the call that is broken below
 
 CALLS = {
     ref.spectrum_call: dict(recording=GOOD, start=START, length=N, allowance=2,
-                            cosine_len=5, sine_len=5, scratch_len=128),
+                            cosine_len=5, sine_len=5, scratch_len=ref.scratch_words(N)),
     ref.mark_call: dict(recording=GOOD, start=START, length=N, allowance=2, flat_limit=0, clip_level=1,
-                        cosine_len=5, sine_len=5, scratch_len=128),
+                        cosine_len=5, sine_len=5, scratch_len=ref.scratch_words(N)),
     ref.cosine_call: dict(recording=GOOD, start=START, length=N, allowance=12,
-                          result_len=8, scratch_len=128),
+                          result_len=8, scratch_len=ref.scratch_words(N)),
     ref.pair_call: dict(a=GOOD, b=GOOD, start=START, length=N, allowance=4,
-                        real_len=8, imaginary_len=8, scratch_len=128),
+                        real_len=8, imaginary_len=8, scratch_len=ref.scratch_words(N)),
 }
 RECORDINGS = ("recording", "a", "b")
 RESULT_LENS = ("cosine_len", "sine_len", "result_len", "real_len", "imaginary_len")
@@ -425,7 +425,7 @@ def check_refusal_edges():
         for key, wrong in [("length", 1), ("start", 2), ("scratch_len", 4), ("allowance", 5)]:
             values = {"length": (0, 3, 5, 6, 7, 9, 12, 1023, 1025, 2048, 2 ** 32, 2 ** 63 + 8),
                       "start": (13, 20, 21, 2 ** 32, 2 ** 64 - 8, 2 ** 64 - 1),
-                      "scratch_len": (0, 127), "allowance": (0, good["allowance"] - 1)}[key]
+                      "scratch_len": (0, good["scratch_len"] - 1), "allowance": (0, good["allowance"] - 1)}[key]
             for value in values:
                 assert call(**{**good, key: value}) == ref.Answer(wrong), (call, key, value)
         assert call(**{**good, "start": 12}).refusal == 0
@@ -460,15 +460,16 @@ def check_places_of_refusal_6():
 
 
 def check_shortest_calls():
-    """N = 1 needs one word of each result, 72 words of scratch and no products"""
-    assert ref.spectrum_call([7], 0, 1, 0, 1, 1, 72) == ref.Answer(0, None, ([7], [0]), (0, 0), None, 0)
-    assert ref.mark_call([7], 0, 1, 0, 0, 8, 1, 1, 72) == ref.Answer(0, None, ([7], [0]), (0, 0), ref.FLAT, 0)
-    assert ref.cosine_call([7], 0, 1, 0, 1, 72) == ref.Answer(0, None, ([7],), (0, 0), None, 0)
-    assert ref.pair_call([7], [9], 0, 1, 0, 1, 1, 72) == ref.Answer(0, None, ([7], [9]), (0, 0), None, 0)
-    assert ref.spectrum_call([7], 0, 1, 0, 0, 1, 72) == ref.Answer(3)
-    assert ref.spectrum_call([7], 0, 1, 0, 1, 0, 72) == ref.Answer(3)
-    assert ref.cosine_call([7], 0, 1, 0, 1, 71) == ref.Answer(4)
-    assert ref.cosine_call([], 0, 1, 0, 1, 72) == ref.Answer(2)
+    """N = 1 needs one word of each result, its words of scratch and no products"""
+    scratch = ref.scratch_words(1)
+    assert ref.spectrum_call([7], 0, 1, 0, 1, 1, scratch) == ref.Answer(0, None, ([7], [0]), (0, 0), None, 0)
+    assert ref.mark_call([7], 0, 1, 0, 0, 8, 1, 1, scratch) == ref.Answer(0, None, ([7], [0]), (0, 0), ref.FLAT, 0)
+    assert ref.cosine_call([7], 0, 1, 0, 1, scratch) == ref.Answer(0, None, ([7],), (0, 0), None, 0)
+    assert ref.pair_call([7], [9], 0, 1, 0, 1, 1, scratch) == ref.Answer(0, None, ([7], [9]), (0, 0), None, 0)
+    assert ref.spectrum_call([7], 0, 1, 0, 0, 1, scratch) == ref.Answer(3)
+    assert ref.spectrum_call([7], 0, 1, 0, 1, 0, scratch) == ref.Answer(3)
+    assert ref.cosine_call([7], 0, 1, 0, 1, scratch - 1) == ref.Answer(4)
+    assert ref.cosine_call([], 0, 1, 0, 1, scratch) == ref.Answer(2)
 
 
 # --- The mark of a block -------------------------------------------------------
@@ -498,7 +499,7 @@ SIZES = (
 def marked(x, flat_limit, clip_level, before=(), behind=()):
     """The mark of a block in the midst of other samples."""
     N = len(x)
-    answer = ref.mark_call([*before, *x, *behind], len(before), N, 10 ** 6, flat_limit, clip_level, N, N, 8 * N + 64)
+    answer = ref.mark_call([*before, *x, *behind], len(before), N, 10 ** 6, flat_limit, clip_level, N, N, ref.scratch_words(N))
     assert answer.refusal == 0
     return answer.mark
 
@@ -530,7 +531,7 @@ def check_mark_with_spectrum():
     """blocks of every length, figures at the edges: Spectrum's answer and the mark by the largest sizes; the largest limit makes all flat"""
     rng = random.Random(33)
     for N in ref.LENGTHS:
-        lens = [N // 2 + 1, N // 2 + 1, 8 * N + 64]
+        lens = [N // 2 + 1, N // 2 + 1, ref.scratch_words(N)]
         for x in [random_block(rng, N) for _ in range(8 if N < 256 else 1)] + list(extreme_blocks(N))[:6 if N < 256 else 3]:
             spectrum = ref.spectrum_call(x, 0, N, 10 ** 6, *lens)
             coefficient = max(map(abs, [0] + spectrum.results[0][1:] + spectrum.results[1][1:]))
@@ -555,8 +556,8 @@ def check_figures():
 def added(month, x, before=(), behind=()):
     """The month with a block, which stands in the midst of other samples, and must be accepted."""
     N = len(x)
-    answer, month = ref.month_add(month, [*before, *x, *behind], len(before), N, 10 ** 6, N // 2 + 1, N // 2 + 1, 8 * N + 64)
-    assert answer == ref.spectrum_call(x, 0, N, 10 ** 6, N, N, 8 * N + 64) and answer.refusal == 0
+    answer, month = ref.month_add(month, [*before, *x, *behind], len(before), N, 10 ** 6, N // 2 + 1, N // 2 + 1, ref.scratch_words(N))
+    assert answer == ref.spectrum_call(x, 0, N, 10 ** 6, N, N, ref.scratch_words(N)) and answer.refusal == 0
     return month
 
 
@@ -596,7 +597,7 @@ def check_month_beginnings():
         refusal, month = ref.month_begin(length)
         assert refusal == (0 if good else 1) and month == [length if good else 0] + [0] * 1027
         for other in (*ref.LENGTHS, 0, 3, 2048, length):
-            answer, then = ref.month_add(month, [1] * 2048, 0, other, 10 ** 6, 1025, 1025, 16448)
+            answer, then = ref.month_add(month, [1] * 2048, 0, other, 10 ** 6, 1025, 1025, ref.scratch_words(2048))
             assert answer.refusal == (0 if good and other == length else 13)
             assert then[1] == (1 if good and other == length else 0)
         assert ref.month_sums(month, 0) == ((0, 0, 0) if good else (16, 0, 0))
@@ -633,11 +634,11 @@ def check_months():
                   "extreme": list(extreme_blocks(N))[:count]}[kind]
         month = ref.month_begin(N)[1]
         other = ref.LENGTHS[ref.LENGTHS.index(N) - 1]
-        good = dict(start=0, length=N, allowance=10 ** 6, cosine_len=513, sine_len=513, scratch_len=8256)
+        good = dict(start=0, length=N, allowance=10 ** 6, cosine_len=513, sine_len=513, scratch_len=ref.scratch_words(1024))
         for x in blocks:
             month = added(month, x)
             for refusal, wrong in ((13, dict(recording=[0] * 1024, length=other)), (2, dict(start=1)), (3, dict(sine_len=0)),
-                                   (4, dict(scratch_len=71)), (6, dict(recording=x[:-1] + [TOO_MUCH]))):
+                                   (4, dict(scratch_len=ref.scratch_words(1) - 1)), (6, dict(recording=x[:-1] + [TOO_MUCH]))):
                 answer, then = ref.month_add(month, **{**good, "recording": x, **wrong})
                 assert answer.refusal == refusal and then == month
         spectra = [ref.spectrum(x) for x in blocks]
@@ -665,7 +666,7 @@ def check_words_of_no_month():
         month = [length] + [9] * 1027
         assert ref.month_length(month) == 0 and ref.month_sums(month, 0) == (16, 0, 0)
         for other in (*ref.LENGTHS, 0, length % 2 ** 64):
-            assert ref.month_add(month, [1] * 2048, 0, other, 10 ** 6, 1025, 1025, 16448) == (ref.Answer(13), month)
+            assert ref.month_add(month, [1] * 2048, 0, other, 10 ** 6, 1025, 1025, ref.scratch_words(2048)) == (ref.Answer(13), month)
     whole = 2 ** 62
     for held, then in ((whole, whole + 3), (-whole, 3 - whole), (whole + 1, whole + 1), (-whole - 1, -whole - 1), (2 ** 63 - 1, 2 ** 63 - 1),
                        (-2 ** 63, -2 ** 63), (whole - 1, whole + 2), (0, 3)):

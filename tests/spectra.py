@@ -37,7 +37,8 @@ def line(name, answer, results, scratch_len, length):
     for words, values in zip(results, answer.results):
         words[: len(values)] = values
     if answer.refusal == 0:
-        scratch[: 8 * length + 64] = [0] * (8 * length + 64)
+        cleared = reference.scratch_words(length)
+        scratch[:cleared] = [0] * cleared
     for words in results:
         row += shown(words)
     row.append(digest(scratch))
@@ -75,7 +76,7 @@ def run_calls(a, b, case):
 
 def run_roomy(a, b, start, length, allowance=20000):
     room = min(length, 1024)
-    run_calls(a, b, Case(start, length, allowance, len(a), len(b), room + 2, room + 3, 8 * room + 66))
+    run_calls(a, b, Case(start, length, allowance, len(a), len(b), room + 2, room + 3, reference.scratch_words(room) + 2))
 
 
 def recording(words, kind, seed):
@@ -106,9 +107,10 @@ def run_refusals(conditions):
         return bad if condition in conditions else good
 
     a, b = [2_000_000] * 2 + [5] * 8, [-2_000_000] * 2 + [6] * 8
+    enough = reference.scratch_words(8)
     a[4], b[3] = pick(8, 5, 1_000_005), pick(9, 6, -1_000_001)
     run_calls(a, b, Case(
-        2, pick(1, 8, 6), pick(7, 100, 1), pick(2, 10, 7), pick(3, 10, 7), pick(4, 8, 3), pick(5, 8, 3), pick(6, 128, 103)))
+        2, pick(1, 8, 6), pick(7, 100, 1), pick(2, 10, 7), pick(3, 10, 7), pick(4, 8, 3), pick(5, 8, 3), pick(6, enough, enough - 25)))
 
 
 def run_blocks_to_try():

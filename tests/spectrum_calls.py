@@ -4,7 +4,7 @@ import itertools
 import math
 from typing import NamedTuple
 
-from library import OUT, in_memory, lent_words, single_words
+from library import OUT, Record, in_memory, lent_words
 from reference import LARGEST_SAMPLE, LENGTHS, scratch_words, tallied_counts
 
 UNBOUNDED = 2 ** 64 - 1             # allowance
@@ -54,8 +54,8 @@ def placed(rng, x):
                         N // 2 + 1 + cosine, N // 2 + 1 + sine, scratch_words(N) + scratch)
 
 
-def lend(rng, call, answer):
-    """Buffers of coefficients, scratch and single words for a call, in which this answer should stand."""
+def lend(rng, call, answer, **more):
+    """Buffers of coefficients and scratch, and behind them the record, for a call, in which this answer should stand; more are further fields."""
     sizes = {"cosine": (4, call.cosine_len), "sine": (4, call.sine_len), "scratch": (8, call.scratch_len)}
     buffers = [lent_words(rng, name, *size) for name, size in sizes.items()]
     if answer.refusal == 0:
@@ -63,8 +63,8 @@ def lend(rng, call, answer):
         for buffer, written in zip(buffers, (*(in_memory("i", words) for words in answer.results), cleared)):
             buffer.expect(written)
     products, sums = answer.counts or (0, 0)
-    values = {"*products": products, "*sums": sums, "*largest_rest": answer.largest_rest or 0, "*place": answer.place or 0}
-    return buffers, single_words(rng, values)
+    fields = {"products": products, "sums": sums, "largest_rest": answer.largest_rest or 0, "place": answer.place or 0, **more}
+    return [*buffers, Record(rng, fields)]
 
 
 # --- refusals ------------------------------------------------------------------------
@@ -74,7 +74,7 @@ def conditions(call):
     N = call.length
     products = tallied_counts(N).spectrum_products if N in LENGTHS else 1
     return {1: N not in LENGTHS, 2: call.start + N > len(call.recording), 3: min(call.cosine_len, call.sine_len) < N // 2 + 1,
-            4: call.scratch_len < 8 * N + 64, 5: call.allowance < products, 6: any(abs(sample) > 1_000_000 for sample in call.block())}
+            4: call.scratch_len < scratch_words(N), 5: call.allowance < products, 6: any(abs(sample) > 1_000_000 for sample in call.block())}
 
 
 def broken(rng, numbers, N):
@@ -88,4 +88,4 @@ def broken(rng, numbers, N):
     short = rng.choice(((listed - 1, listed), (listed, listed - 1), (0, 0))) if 3 in numbers else (listed, listed + 1)
     products = tallied_counts(N).spectrum_products if N in LENGTHS else 1
     allowance = rng.choice((0, products - 1)) if 5 in numbers else rng.choice((products, UNBOUNDED))
-    return SpectrumCall(recording, start, N, allowance, *short, 8 * N + 64 - (rng.choice((1, 64)) if 4 in numbers else 0))
+    return SpectrumCall(recording, start, N, allowance, *short, scratch_words(N) - (rng.choice((1, 64)) if 4 in numbers else 0))

@@ -4,7 +4,7 @@
     python3 tests/written_files.py [--library PATH] [--seed NUMBER]
 
 Builds libmealbis.a and a shared library of it, target/shared/libmealbis.so; or takes another shared library. Of every call it compares the
-answer, *bytes, *place, the whole buffer of the file and the recordings, with guards before and behind each. What is written goes through
+answer, the record (bytes, place), the whole buffer of the file and the recordings, with guards before and behind each. What is written goes through
 mealbis_read, which must return the input; and files of the reference go through mealbis_read and back through mealbis_write.
 
 The last line is 'N passed, 0 failed'. Exit status 1 where something differs.
@@ -13,7 +13,7 @@ import array
 import itertools
 import sys
 
-from library import BAD_LENGTHS, OUT, Calls, Mapped, in_memory, lent_bytes, lent_samples, lent_words, run, single_words
+from library import BAD_LENGTHS, OUT, Calls, Mapped, Record, in_memory, lent_bytes, lent_samples, lent_words, run
 from reference import LARGEST_SAMPLE, LENGTHS, MOST_FILE_SAMPLES, file_size, write_pair_file
 
 ORDER = (8, 11, 1, 6, 3)            # in which mealbis_write tests
@@ -37,8 +37,8 @@ class FileCalls(Calls):
         lent_b = lent_a if b is a else lent_samples("b", b)
         file = lent_bytes(self.rng, "the file", self.rng.randbytes(size))
         file.expect(answer.data)
-        words = single_words(self.rng, {"*bytes": len(answer.data), "*place": answer.place or 0})
-        self.compare(name, self.write_function, (lent_a, lent_b, length, file), words, answer.refusal)
+        record = Record(self.rng, {"bytes": len(answer.data), "place": answer.place or 0})
+        self.compare(name, self.write_function, (lent_a, lent_b, length, file, record), answer.refusal)
         return file.front(len(answer.data))
 
     def read(self, name, data, a, b, length, spare):
@@ -48,9 +48,9 @@ class FileCalls(Calls):
         recordings = [lent_words(self.rng, which, 4, m + spare) for which in "ab"]
         for recording, wanted in zip(recordings, (a, b)):
             recording.expect(in_memory("i", wanted))
-        words = single_words(self.rng, {"*samples": m, "*length": length, "*place": 0})
-        self.compare(name, self.read_function, (file, *recordings), words, 0)
-        (length,) = array.array("Q", words[1].front(8))
+        record = Record(self.rng, {"samples": m, "length": length, "place": 0})
+        self.compare(name, self.read_function, (file, *recordings, record), 0)
+        _, length, _ = array.array("Q", record.front(24))
         return [list(array.array("i", recording.front(4 * m))) for recording in recordings], length
 
     def round_trip(self, name, a, b, length, more):
@@ -191,11 +191,11 @@ def check_far_sizes(calls):
     for a, b, number in ((words, words, 8), (words, lent_samples("b", few), 8), (lent_samples("a", few), words, 11)):
         lent = lent_bytes(calls.rng, "the file", calls.rng.randbytes(100))
         name = "recordings of %d and %d" % (a.count, b.count)
-        calls.compare(name, calls.write_function, (a, b, 4, lent), single_words(calls.rng, {"*bytes": 0, "*place": 0}), number)
+        calls.compare(name, calls.write_function, (a, b, 4, lent, Record(calls.rng, {"bytes": 0, "place": 0})), number)
     answer = write_pair_file(few, few, 4, file.count)
     file.expect(answer.data)
-    words = single_words(calls.rng, {"*bytes": 40, "*place": 0})
-    calls.compare("a file of %d bytes" % file.count, calls.write_function, (lent_samples("a", few), lent_samples("b", few), 4, file), words, 0)
+    given = lent_samples("a", few), lent_samples("b", few), 4, file, Record(calls.rng, {"bytes": 40, "place": 0})
+    calls.compare("a file of %d bytes" % file.count, calls.write_function, given, 0)
 
 
 CHECKS = (check_known, check_sizes, check_every_sample, check_read_and_written, check_refusals, check_places, check_lengths,

@@ -14,48 +14,44 @@
 
 static mealbis_month months[2]; /* of a and b */
 
-/* Adds all blocks of a recording to a month. The answer of the first call that is refused, else 0. */
-static uint32_t add_blocks(mealbis_month *month, const int32_t *recording, size_t samples, size_t length)
+/* Adds all blocks of a recording to a month. The number of the first call that is refused, else 0. */
+static uint32_t add_blocks(mealbis_month *month, const int32_t *recording, mealbis_size samples, mealbis_size length)
 {
     static int32_t cosine[MEALBIS_SPECTRUM_WORDS(MEALBIS_LONGEST_BLOCK)], sine[MEALBIS_SPECTRUM_WORDS(MEALBIS_LONGEST_BLOCK)];
     static int64_t scratch[MEALBIS_SCRATCH_WORDS(MEALBIS_LONGEST_BLOCK)];
-    uint64_t products, sums, largest_rest;
-    size_t place;
-    for (size_t block = 0; block < samples / length; block++) {
-        uint32_t answer = mealbis_month_add(month, recording, samples, block * length, length, UINT64_MAX,
-                                            cosine, MEALBIS_WORDS(cosine), sine, MEALBIS_WORDS(sine), scratch, MEALBIS_WORDS(scratch),
-                                            &products, &sums, &largest_rest, &place);
-        if (answer != MEALBIS_ACCEPTED)
-            return answer;
+    mealbis_answer spent;
+    for (mealbis_size block = 0; block < samples / length; block++) {
+        uint32_t number = mealbis_month_add(month, recording, samples, block * length, length, UINT64_MAX,
+                                            cosine, MEALBIS_WORDS(cosine), sine, MEALBIS_WORDS(sine), scratch, MEALBIS_WORDS(scratch), &spent);
+        if (number != MEALBIS_ACCEPTED)
+            return number;
     }
     return MEALBIS_ACCEPTED;
 }
 
-/* Adds the file's blocks to both months, which are begun before the first file's. The answer of the first call that is refused, else 0. */
-static uint32_t add_file(size_t bytes, int first, size_t *place)
+/* Adds the file's blocks to both months, which are begun before the first file's. The number of the first call that is refused, else 0. */
+static uint32_t add_file(size_t bytes, int first, mealbis_size *place)
 {
-    size_t samples, length;
-    uint32_t answer = mealbis_read(file, bytes, recordings[0], MEALBIS_WORDS(recordings[0]), recordings[1], MEALBIS_WORDS(recordings[1]),
-                                   &samples, &length, place);
-    for (int which = 0; which < 2 && answer == MEALBIS_ACCEPTED; which++) {
+    mealbis_read_answer got;
+    uint32_t number = mealbis_read(file, bytes, recordings[0], MEALBIS_WORDS(recordings[0]), recordings[1], MEALBIS_WORDS(recordings[1]), &got);
+    *place = got.place;
+    for (int which = 0; which < 2 && number == MEALBIS_ACCEPTED; which++) {
         if (first)
-            mealbis_month_begin(&months[which], length); /* one of the eleven: the file is read */
-        answer = add_blocks(&months[which], recordings[which], samples, length);
+            number = mealbis_month_begin(&months[which], got.length);
+        if (number == MEALBIS_ACCEPTED)
+            number = add_blocks(&months[which], recordings[which], got.samples, got.length);
     }
-    return answer;
+    return number;
 }
 
+/* A line for each k that has sums. */
 static void print_months(void)
 {
-    size_t length = mealbis_month_length(&months[0]);
-    printf("length %zu blocks %" PRId64 "\n", length, mealbis_month_blocks(&months[0]));
+    mealbis_sums a, b;
+    printf("length %" PRIu64 " blocks %" PRId64 "\n", mealbis_month_length(&months[0]), mealbis_month_blocks(&months[0]));
     printf("k cosine_a sine_a cosine_b sine_b\n");
-    for (size_t k = 0; k < MEALBIS_SPECTRUM_WORDS(length); k++) {
-        int64_t cosine[2], sine[2];
-        for (int which = 0; which < 2; which++)
-            mealbis_month_sums(&months[which], k, &cosine[which], &sine[which]);
-        printf("%zu %" PRId64 " %" PRId64 " %" PRId64 " %" PRId64 "\n", k, cosine[0], sine[0], cosine[1], sine[1]);
-    }
+    for (mealbis_size k = 0; !mealbis_month_sums(&months[0], k, &a) && !mealbis_month_sums(&months[1], k, &b); k++)
+        printf("%" PRIu64 " %" PRId64 " %" PRId64 " %" PRId64 " %" PRId64 "\n", k, a.cosine, a.sine, b.cosine, b.sine);
 }
 
 int main(int argc, char **argv)
@@ -65,12 +61,13 @@ int main(int argc, char **argv)
         return 2;
     }
     for (int i = 1; i < argc; i++) {
-        size_t bytes, place;
+        size_t bytes;
+        mealbis_size place;
         if (!get_file("months", argv[i], &bytes))
             return 2;
-        uint32_t answer = add_file(bytes, i == 1, &place);
-        if (answer != MEALBIS_ACCEPTED)
-            return refuse(answer, argv[i], place);
+        uint32_t number = add_file(bytes, i == 1, &place);
+        if (number != MEALBIS_ACCEPTED)
+            return refuse(number, argv[i], place);
     }
     print_months();
     return end_output();

@@ -27,27 +27,12 @@ static int get_file(const char *program, const char *path, size_t *bytes)
     return good;
 }
 
-static const char *reason(uint32_t answer)
-{
-    switch (answer) {
-    case MEALBIS_BAD_LENGTH: return "the file's block length is none of the eleven";
-    case MEALBIS_OUT_OF_RANGE: return "a sample of the file is out of range";
-    case MEALBIS_FILE_BELOW_HEADER: return "the file is shorter than 8 bytes";
-    case MEALBIS_BAD_SAMPLE_COUNT: return "the file's sample count is 0 or above 4,096";
-    case MEALBIS_BAD_FILE_LENGTH: return "the file is not 8 + 8 * samples bytes long";
-    case MEALBIS_BAD_FIGURES: return "the flat limit is negative, or the clip level is outside 1 to 1,000,000";
-    case MEALBIS_OTHER_LENGTH: return "the file's block length is not that of the first file";
-    case MEALBIS_MONTH_FULL: return "the month holds 100,000 blocks";
-    default: return "see include/mealbis.h";
-    }
-}
-
 /* Says why the library has refused, and for which file. The status to end with. */
-static int refuse(uint32_t answer, const char *path, size_t place)
+static int refuse(uint32_t number, const char *path, mealbis_size place)
 {
-    fprintf(stderr, "refused %" PRIu32 ": %s: %s", answer, path, reason(answer));
-    if (answer == MEALBIS_OUT_OF_RANGE)
-        fprintf(stderr, ", place %zu", place);
+    fprintf(stderr, "refused %" PRIu32 ": %s: %s", number, path, mealbis_reason(number));
+    if (number == MEALBIS_OUT_OF_RANGE)
+        fprintf(stderr, ", place %" PRIu64, place);
     fprintf(stderr, "\n");
     return 1;
 }

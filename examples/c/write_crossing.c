@@ -28,18 +28,18 @@ static int put(const char *path, const uint8_t *from, size_t bytes)
 
 int main(int argc, char **argv)
 {
-    size_t bytes, place;
+    mealbis_write_answer made;
     if (argc > 2) {
         fprintf(stderr, "usage: write_crossing [FILE]\n");
         return 2;
     }
-    uint32_t answer = mealbis_write(near_abutment, MEALBIS_WORDS(near_abutment), far_abutment, MEALBIS_WORDS(far_abutment), BLOCK,
-                                    file, sizeof file, &bytes, &place);
-    if (answer != MEALBIS_ACCEPTED) {
-        fprintf(stderr, "refused %" PRIu32 ", place %zu\n", answer, place);
+    uint32_t number = mealbis_write(near_abutment, MEALBIS_WORDS(near_abutment), far_abutment, MEALBIS_WORDS(far_abutment), BLOCK,
+                                    file, sizeof file, &made);
+    if (number != MEALBIS_ACCEPTED) {
+        fprintf(stderr, "refused %" PRIu32 ": %s, place %" PRIu64 "\n", number, mealbis_reason(number), made.place);
         return 1;
     }
-    if (!put(argc == 2 ? argv[1] : NULL, file, bytes)) {
+    if (!put(argc == 2 ? argv[1] : NULL, file, (size_t)made.bytes)) {
         perror("write_crossing");
         return 2;
     }

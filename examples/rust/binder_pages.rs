@@ -9,7 +9,7 @@
 mod mealbis;
 mod pair_file;
 
-use mealbis::{page, read, spectrum, Refused};
+use mealbis::{page, read, scratch_words, spectrum, Refused};
 use pair_file::{get_file, refuse};
 use std::io::Write;
 use std::process::exit;
@@ -19,7 +19,7 @@ fn pages(file: &[u8], abutment: &str) -> Result<Vec<Vec<u8>>, Refused> {
     let (mut a, mut b) = (vec![0; 4096], vec![0; 4096]);
     let (samples, length) = read(file, &mut a, &mut b)?;
     let recording = &if abutment == "a" { a } else { b }[..samples];
-    let (mut cosine, mut sine, mut scratch) = (vec![0; length / 2 + 1], vec![0; length / 2 + 1], vec![0; 8 * length + 64]);
+    let (mut cosine, mut sine, mut scratch) = (vec![0; length / 2 + 1], vec![0; length / 2 + 1], vec![0; scratch_words(length)]);
     let printed = |block| {
         let mut bytes = vec![0; 31 * (length / 2 + 2)];
         spectrum(recording, block * length, length, u64::MAX, &mut cosine, &mut sine, &mut scratch)?;

@@ -2,72 +2,160 @@
 // They are safe: a `&mut` slice overlaps nothing, so whatever is passed keeps the header's section "Buffers".
 #![allow(dead_code)]
 
+// mealbis_size: 64 bits on every machine
+type Size = u64;
+
 #[link(name = "mealbis", kind = "static")]
 extern "C" {
     fn mealbis_spectrum(
-        recording: *const i32, recording_words: usize, start: usize, length: usize, allowance: u64,
-        cosine: *mut i32, cosine_words: usize, sine: *mut i32, sine_words: usize, scratch: *mut i64, scratch_words: usize,
-        products: &mut u64, sums: &mut u64, largest_rest: &mut u64, place: &mut usize,
+        recording: *const i32, recording_words: Size, start: Size, length: Size, allowance: u64,
+        cosine: *mut i32, cosine_words: Size, sine: *mut i32, sine_words: Size, scratch: *mut i64, scratch_words: Size, answer: &mut Answer,
     ) -> u32;
     fn mealbis_mark(
-        recording: *const i32, recording_words: usize, start: usize, length: usize, allowance: u64, flat_limit: i32, clip_level: i32,
-        cosine: *mut i32, cosine_words: usize, sine: *mut i32, sine_words: usize, scratch: *mut i64, scratch_words: usize,
-        products: &mut u64, sums: &mut u64, largest_rest: &mut u64, place: &mut usize, mark: &mut u32,
+        recording: *const i32, recording_words: Size, start: Size, length: Size, allowance: u64, flat_limit: i32, clip_level: i32,
+        cosine: *mut i32, cosine_words: Size, sine: *mut i32, sine_words: Size, scratch: *mut i64, scratch_words: Size, answer: &mut MarkAnswer,
     ) -> u32;
-    fn mealbis_month_begin(month: &mut Month, length: usize) -> u32;
+    fn mealbis_month_begin(month: &mut Month, length: Size) -> u32;
     fn mealbis_month_add(
-        month: &mut Month, recording: *const i32, recording_words: usize, start: usize, length: usize, allowance: u64,
-        cosine: *mut i32, cosine_words: usize, sine: *mut i32, sine_words: usize, scratch: *mut i64, scratch_words: usize,
-        products: &mut u64, sums: &mut u64, largest_rest: &mut u64, place: &mut usize,
+        month: &mut Month, recording: *const i32, recording_words: Size, start: Size, length: Size, allowance: u64,
+        cosine: *mut i32, cosine_words: Size, sine: *mut i32, sine_words: Size, scratch: *mut i64, scratch_words: Size, answer: &mut Answer,
     ) -> u32;
-    fn mealbis_month_length(month: &Month) -> usize;
+    fn mealbis_month_length(month: &Month) -> Size;
     fn mealbis_month_blocks(month: &Month) -> i64;
-    fn mealbis_month_sums(month: &Month, k: usize, cosine: &mut i64, sine: &mut i64) -> u32;
+    fn mealbis_month_sums(month: &Month, k: Size, sums: &mut Sums) -> u32;
     fn mealbis_page(
-        cosine: *const i32, cosine_words: usize, sine: *const i32, sine_words: usize, length: usize, page: *mut u8, page_bytes: usize,
-        bytes: &mut usize,
+        cosine: *const i32, cosine_words: Size, sine: *const i32, sine_words: Size, length: Size, page: *mut u8, page_bytes: Size,
+        answer: &mut PageAnswer,
     ) -> u32;
     fn mealbis_cosine(
-        recording: *const i32, recording_words: usize, start: usize, length: usize, allowance: u64,
-        coefficients: *mut i32, coefficients_words: usize, scratch: *mut i64, scratch_words: usize,
-        products: &mut u64, sums: &mut u64, largest_rest: &mut u64, place: &mut usize,
+        recording: *const i32, recording_words: Size, start: Size, length: Size, allowance: u64,
+        coefficients: *mut i32, coefficients_words: Size, scratch: *mut i64, scratch_words: Size, answer: &mut Answer,
     ) -> u32;
     fn mealbis_inverse_dct(
-        coefficients: *const i32, coefficients_words: usize, length: usize, values: *mut i32, values_words: usize, place: &mut usize,
+        coefficients: *const i32, coefficients_words: Size, length: Size, values: *mut i32, values_words: Size, answer: &mut InverseAnswer,
     ) -> u32;
     fn mealbis_pair(
-        a: *const i32, a_words: usize, b: *const i32, b_words: usize, start: usize, length: usize, allowance: u64,
-        re: *mut i32, re_words: usize, im: *mut i32, im_words: usize, scratch: *mut i64, scratch_words: usize,
-        products: &mut u64, sums: &mut u64, largest_rest: &mut u64, place: &mut usize,
+        a: *const i32, a_words: Size, b: *const i32, b_words: Size, start: Size, length: Size, allowance: u64,
+        re: *mut i32, re_words: Size, im: *mut i32, im_words: Size, scratch: *mut i64, scratch_words: Size, answer: &mut Answer,
     ) -> u32;
-    fn mealbis_counts(
-        length: usize, dct_products: &mut u64, dct_sums: &mut u64, spectrum_products: &mut u64, spectrum_sums: &mut u64,
-        pair_products: &mut u64, pair_sums: &mut u64,
-    ) -> u32;
+    fn mealbis_counts(length: Size, answer: &mut Counts) -> u32;
     fn mealbis_read(
-        file: *const u8, file_bytes: usize, a: *mut i32, a_words: usize, b: *mut i32, b_words: usize,
-        samples: &mut usize, length: &mut usize, place: &mut usize,
+        file: *const u8, file_bytes: Size, a: *mut i32, a_words: Size, b: *mut i32, b_words: Size, answer: &mut ReadAnswer,
     ) -> u32;
     fn mealbis_write(
-        a: *const i32, a_words: usize, b: *const i32, b_words: usize, length: usize, file: *mut u8, file_bytes: usize,
-        bytes: &mut usize, place: &mut usize,
+        a: *const i32, a_words: Size, b: *const i32, b_words: Size, length: Size, file: *mut u8, file_bytes: Size, answer: &mut WriteAnswer,
     ) -> u32;
 }
 
-// A refusal: its number, and the place of refusals 6 and 10.
-pub struct Refused(pub u32, pub usize);
+// The words of scratch that a block of this length needs.
+pub const fn scratch_words(length: usize) -> usize {
+    8 * length + 64
+}
 
-// What a call spent, and the largest size of a rest among its roundings.
-pub struct Spent {
+// ---- the header's records
+
+#[repr(C)]
+#[derive(Default)]
+pub struct Answer {
     pub products: u64,
     pub sums: u64,
     pub largest_rest: u64,
+    pub place: u64,
+}
+
+#[repr(C)]
+#[derive(Default)]
+pub struct MarkAnswer {
+    pub products: u64,
+    pub sums: u64,
+    pub largest_rest: u64,
+    pub place: u64,
+    pub mark: u64,
+}
+
+#[repr(C)]
+#[derive(Default)]
+pub struct Sums {
+    pub cosine: i64,
+    pub sine: i64,
+}
+
+#[repr(C)]
+#[derive(Default)]
+pub struct Counts {
+    pub dct_products: u64,
+    pub dct_sums: u64,
+    pub spectrum_products: u64,
+    pub spectrum_sums: u64,
+    pub pair_products: u64,
+    pub pair_sums: u64,
+}
+
+#[repr(C)]
+#[derive(Default)]
+struct PageAnswer {
+    bytes: u64,
+}
+
+#[repr(C)]
+#[derive(Default)]
+struct InverseAnswer {
+    place: u64,
+}
+
+#[repr(C)]
+#[derive(Default)]
+struct ReadAnswer {
+    samples: u64,
+    length: u64,
+    place: u64,
+}
+
+#[repr(C)]
+#[derive(Default)]
+struct WriteAnswer {
+    bytes: u64,
+    place: u64,
+}
+
+// A refusal: its number, and the place of refusals 6 and 10.
+pub struct Refused(pub u32, pub u64);
+
+fn answered<T>(number: u32, answer: T, place: u64) -> Result<T, Refused> {
+    if number == 0 {
+        Ok(answer)
+    } else {
+        Err(Refused(number, place))
+    }
+}
+
+// The number of an answer in words, as mealbis_reason has it.
+pub fn reason(number: u32) -> &'static str {
+    match number {
+        0 => "accepted",
+        1 => "the length is none of the eleven",
+        2 => "the recording or the coefficients end too soon",
+        3 => "a buffer for results is too short",
+        4 => "scratch is too short",
+        5 => "the allowance is below the products that are spent",
+        6 => "a sample is out of range",
+        7 => "the file is shorter than 8 bytes",
+        8 => "the sample count is 0 or above 4,096",
+        9 => "the file is not 8 + 8 * samples bytes long",
+        10 => "a stored coefficient is beyond its limit",
+        11 => "the two recordings differ in length",
+        12 => "the flat limit is negative, or the clip level is outside 1 to 1,000,000",
+        13 => "the block's length is not the month's",
+        14 => "the month holds 100,000 blocks",
+        16 => "no sum of the month belongs to this k",
+        _ => "no call of this version gives this number",
+    }
 }
 
 // The marks of a block.
-pub const FLAT: u32 = 1;
-pub const CLIPPED: u32 = 2;
-pub const PLAIN: u32 = 3;
+pub const FLAT: u64 = 1;
+pub const CLIPPED: u64 = 2;
+pub const PLAIN: u64 = 3;
 
 // The owner's figures for a mark.
 #[derive(Clone, Copy)]
@@ -76,34 +164,33 @@ pub struct Figures {
     pub clip_level: i32,
 }
 
-pub fn spectrum(recording: &[i32], start: usize, length: usize, allowance: u64, cosine: &mut [i32], sine: &mut [i32], scratch: &mut [i64]) -> Result<Spent, Refused> {
-    let (mut products, mut sums, mut largest_rest, mut place) = (0, 0, 0, 0);
-    match unsafe {
+// ---- the calls
+
+pub fn spectrum(recording: &[i32], start: usize, length: usize, allowance: u64, cosine: &mut [i32], sine: &mut [i32], scratch: &mut [i64]) -> Result<Answer, Refused> {
+    let mut answer = Answer::default();
+    let number = unsafe {
         mealbis_spectrum(
-            recording.as_ptr(), recording.len(), start, length, allowance, cosine.as_mut_ptr(), cosine.len(), sine.as_mut_ptr(), sine.len(),
-            scratch.as_mut_ptr(), scratch.len(), &mut products, &mut sums, &mut largest_rest, &mut place,
+            recording.as_ptr(), recording.len() as Size, start as Size, length as Size, allowance, cosine.as_mut_ptr(), cosine.len() as Size,
+            sine.as_mut_ptr(), sine.len() as Size, scratch.as_mut_ptr(), scratch.len() as Size, &mut answer,
         )
-    } {
-        0 => Ok(Spent { products, sums, largest_rest }),
-        number => Err(Refused(number, place)),
-    }
+    };
+    let place = answer.place;
+    answered(number, answer, place)
 }
 
 // Spectrum with its mark.
 pub fn mark(
     recording: &[i32], start: usize, length: usize, allowance: u64, figures: Figures, cosine: &mut [i32], sine: &mut [i32], scratch: &mut [i64],
-) -> Result<(Spent, u32), Refused> {
-    let (mut products, mut sums, mut largest_rest, mut place, mut mark) = (0, 0, 0, 0, 0);
-    match unsafe {
+) -> Result<MarkAnswer, Refused> {
+    let mut answer = MarkAnswer::default();
+    let number = unsafe {
         mealbis_mark(
-            recording.as_ptr(), recording.len(), start, length, allowance, figures.flat_limit, figures.clip_level,
-            cosine.as_mut_ptr(), cosine.len(), sine.as_mut_ptr(), sine.len(), scratch.as_mut_ptr(), scratch.len(),
-            &mut products, &mut sums, &mut largest_rest, &mut place, &mut mark,
+            recording.as_ptr(), recording.len() as Size, start as Size, length as Size, allowance, figures.flat_limit, figures.clip_level,
+            cosine.as_mut_ptr(), cosine.len() as Size, sine.as_mut_ptr(), sine.len() as Size, scratch.as_mut_ptr(), scratch.len() as Size, &mut answer,
         )
-    } {
-        0 => Ok((Spent { products, sums, largest_rest }, mark)),
-        number => Err(Refused(number, place)),
-    }
+    };
+    let place = answer.place;
+    answered(number, answer, place)
 }
 
 // The sums of a month. Its words are private, so that beginning and adding alone make a month.
@@ -116,30 +203,27 @@ pub struct Month {
 impl Month {
     pub fn begin(length: usize) -> Result<Month, Refused> {
         let mut month = Month { words: [0; 1028] };
-        match unsafe { mealbis_month_begin(&mut month, length) } {
-            0 => Ok(month),
-            number => Err(Refused(number, 0)),
-        }
+        let number = unsafe { mealbis_month_begin(&mut month, length as Size) };
+        answered(number, month, 0)
     }
 
     // Spectrum, with its coefficients added to the sums.
     pub fn add(
         &mut self, recording: &[i32], start: usize, length: usize, allowance: u64, cosine: &mut [i32], sine: &mut [i32], scratch: &mut [i64],
-    ) -> Result<Spent, Refused> {
-        let (mut products, mut sums, mut largest_rest, mut place) = (0, 0, 0, 0);
-        match unsafe {
+    ) -> Result<Answer, Refused> {
+        let mut answer = Answer::default();
+        let number = unsafe {
             mealbis_month_add(
-                self, recording.as_ptr(), recording.len(), start, length, allowance, cosine.as_mut_ptr(), cosine.len(), sine.as_mut_ptr(), sine.len(),
-                scratch.as_mut_ptr(), scratch.len(), &mut products, &mut sums, &mut largest_rest, &mut place,
+                self, recording.as_ptr(), recording.len() as Size, start as Size, length as Size, allowance, cosine.as_mut_ptr(), cosine.len() as Size,
+                sine.as_mut_ptr(), sine.len() as Size, scratch.as_mut_ptr(), scratch.len() as Size, &mut answer,
             )
-        } {
-            0 => Ok(Spent { products, sums, largest_rest }),
-            number => Err(Refused(number, place)),
-        }
+        };
+        let place = answer.place;
+        answered(number, answer, place)
     }
 
     pub fn length(&self) -> usize {
-        unsafe { mealbis_month_length(self) }
+        unsafe { mealbis_month_length(self) as usize }
     }
 
     // How many blocks were added.
@@ -148,83 +232,82 @@ impl Month {
     }
 
     // The sums of the cosine and of the sine coefficients for k.
-    pub fn sums(&self, k: usize) -> Result<(i64, i64), Refused> {
-        let (mut cosine, mut sine) = (0, 0);
-        match unsafe { mealbis_month_sums(self, k, &mut cosine, &mut sine) } {
-            0 => Ok((cosine, sine)),
-            number => Err(Refused(number, 0)),
-        }
+    pub fn sums(&self, k: usize) -> Result<Sums, Refused> {
+        let mut sums = Sums::default();
+        let number = unsafe { mealbis_month_sums(self, k as Size, &mut sums) };
+        answered(number, sums, 0)
     }
 }
 
 // The bytes of the page.
 pub fn page(cosine: &[i32], sine: &[i32], length: usize, page: &mut [u8]) -> Result<usize, Refused> {
-    let mut bytes = 0;
-    match unsafe { mealbis_page(cosine.as_ptr(), cosine.len(), sine.as_ptr(), sine.len(), length, page.as_mut_ptr(), page.len(), &mut bytes) } {
-        0 => Ok(bytes),
-        number => Err(Refused(number, 0)),
-    }
+    let mut answer = PageAnswer::default();
+    let number = unsafe {
+        mealbis_page(
+            cosine.as_ptr(), cosine.len() as Size, sine.as_ptr(), sine.len() as Size, length as Size, page.as_mut_ptr(), page.len() as Size, &mut answer,
+        )
+    };
+    answered(number, answer.bytes as usize, 0)
 }
 
-pub fn cosine(recording: &[i32], start: usize, length: usize, allowance: u64, coefficients: &mut [i32], scratch: &mut [i64]) -> Result<Spent, Refused> {
-    let (mut products, mut sums, mut largest_rest, mut place) = (0, 0, 0, 0);
-    match unsafe {
+pub fn cosine(recording: &[i32], start: usize, length: usize, allowance: u64, coefficients: &mut [i32], scratch: &mut [i64]) -> Result<Answer, Refused> {
+    let mut answer = Answer::default();
+    let number = unsafe {
         mealbis_cosine(
-            recording.as_ptr(), recording.len(), start, length, allowance, coefficients.as_mut_ptr(), coefficients.len(),
-            scratch.as_mut_ptr(), scratch.len(), &mut products, &mut sums, &mut largest_rest, &mut place,
+            recording.as_ptr(), recording.len() as Size, start as Size, length as Size, allowance, coefficients.as_mut_ptr(), coefficients.len() as Size,
+            scratch.as_mut_ptr(), scratch.len() as Size, &mut answer,
         )
-    } {
-        0 => Ok(Spent { products, sums, largest_rest }),
-        number => Err(Refused(number, place)),
-    }
+    };
+    let place = answer.place;
+    answered(number, answer, place)
 }
 
 pub fn inverse_dct(coefficients: &[i32], length: usize, values: &mut [i32]) -> Result<(), Refused> {
-    let mut place = 0;
-    match unsafe { mealbis_inverse_dct(coefficients.as_ptr(), coefficients.len(), length, values.as_mut_ptr(), values.len(), &mut place) } {
-        0 => Ok(()),
-        number => Err(Refused(number, place)),
-    }
-}
-
-pub fn pair(a: &[i32], b: &[i32], start: usize, length: usize, allowance: u64, real: &mut [i32], imaginary: &mut [i32], scratch: &mut [i64]) -> Result<Spent, Refused> {
-    let (mut products, mut sums, mut largest_rest, mut place) = (0, 0, 0, 0);
-    match unsafe {
-        mealbis_pair(
-            a.as_ptr(), a.len(), b.as_ptr(), b.len(), start, length, allowance, real.as_mut_ptr(), real.len(), imaginary.as_mut_ptr(), imaginary.len(),
-            scratch.as_mut_ptr(), scratch.len(), &mut products, &mut sums, &mut largest_rest, &mut place,
+    let mut answer = InverseAnswer::default();
+    let number = unsafe {
+        mealbis_inverse_dct(
+            coefficients.as_ptr(), coefficients.len() as Size, length as Size, values.as_mut_ptr(), values.len() as Size, &mut answer,
         )
-    } {
-        0 => Ok(Spent { products, sums, largest_rest }),
-        number => Err(Refused(number, place)),
-    }
+    };
+    answered(number, (), answer.place)
 }
 
-// The six counts of a length, in the header's order.
-pub fn counts(length: usize) -> [u64; 6] {
-    let [mut a, mut b, mut c, mut d, mut e, mut f] = [0; 6];
-    unsafe { mealbis_counts(length, &mut a, &mut b, &mut c, &mut d, &mut e, &mut f) };
-    [a, b, c, d, e, f]
+pub fn pair(a: &[i32], b: &[i32], start: usize, length: usize, allowance: u64, real: &mut [i32], imaginary: &mut [i32], scratch: &mut [i64]) -> Result<Answer, Refused> {
+    let mut answer = Answer::default();
+    let number = unsafe {
+        mealbis_pair(
+            a.as_ptr(), a.len() as Size, b.as_ptr(), b.len() as Size, start as Size, length as Size, allowance, real.as_mut_ptr(), real.len() as Size,
+            imaginary.as_mut_ptr(), imaginary.len() as Size, scratch.as_mut_ptr(), scratch.len() as Size, &mut answer,
+        )
+    };
+    let place = answer.place;
+    answered(number, answer, place)
+}
+
+pub fn counts(length: usize) -> Result<Counts, Refused> {
+    let mut counts = Counts::default();
+    let number = unsafe { mealbis_counts(length as Size, &mut counts) };
+    answered(number, counts, 0)
 }
 
 // The sizes m and N.
 pub fn read(file: &[u8], a: &mut [i32], b: &mut [i32]) -> Result<(usize, usize), Refused> {
-    let (mut samples, mut length, mut place) = (0, 0, 0);
-    match unsafe {
+    let mut answer = ReadAnswer::default();
+    let number = unsafe {
         mealbis_read(
-            file.as_ptr(), file.len(), a.as_mut_ptr(), a.len(), b.as_mut_ptr(), b.len(), &mut samples, &mut length, &mut place,
+            file.as_ptr(), file.len() as Size, a.as_mut_ptr(), a.len() as Size, b.as_mut_ptr(), b.len() as Size, &mut answer,
         )
-    } {
-        0 => Ok((samples, length)),
-        number => Err(Refused(number, place)),
-    }
+    };
+    answered(number, (answer.samples as usize, answer.length as usize), answer.place)
 }
 
 // The bytes of the file.
 pub fn write(a: &[i32], b: &[i32], length: usize, file: &mut [u8]) -> Result<usize, Refused> {
-    let (mut bytes, mut place) = (0, 0);
-    match unsafe { mealbis_write(a.as_ptr(), a.len(), b.as_ptr(), b.len(), length, file.as_mut_ptr(), file.len(), &mut bytes, &mut place) } {
-        0 => Ok(bytes),
-        number => Err(Refused(number, place)),
-    }
+    let mut answer = WriteAnswer::default();
+    let number = unsafe {
+        mealbis_write(
+            a.as_ptr(), a.len() as Size, b.as_ptr(), b.len() as Size, length as Size, file.as_mut_ptr(), file.len() as Size, &mut answer,
+        )
+    };
+    answered(number, answer.bytes as usize, answer.place)
 }

@@ -8,14 +8,14 @@
 mod mealbis;
 mod pair_file;
 
-use mealbis::{read, Month, Refused};
+use mealbis::{read, scratch_words, Month, Refused};
 use pair_file::{get_file, refuse};
 use std::io::Write;
 use std::process::exit;
 
 // Adds all blocks of a recording to a month.
 fn add_blocks(month: &mut Month, recording: &[i32], length: usize) -> Result<(), Refused> {
-    let (mut cosine, mut sine, mut scratch) = (vec![0; length / 2 + 1], vec![0; length / 2 + 1], vec![0; 8 * length + 64]);
+    let (mut cosine, mut sine, mut scratch) = (vec![0; length / 2 + 1], vec![0; length / 2 + 1], vec![0; scratch_words(length)]);
     for block in 0..recording.len() / length {
         month.add(recording, block * length, length, u64::MAX, &mut cosine, &mut sine, &mut scratch)?;
     }
@@ -38,10 +38,10 @@ fn add_file(months: &mut Option<[Month; 2]>, file: &[u8]) -> Result<(), Refused>
 fn printed([a, b]: &[Month; 2]) -> String {
     let mut lines = format!("length {} blocks {}\nk cosine_a sine_a cosine_b sine_b\n", a.length(), a.blocks());
     for k in 0.. {
-        let (Ok((cosine_a, sine_a)), Ok((cosine_b, sine_b))) = (a.sums(k), b.sums(k)) else {
+        let (Ok(a), Ok(b)) = (a.sums(k), b.sums(k)) else {
             break;
         };
-        lines += &format!("{k} {cosine_a} {sine_a} {cosine_b} {sine_b}\n");
+        lines += &format!("{k} {} {} {} {}\n", a.cosine, a.sine, b.cosine, b.sine);
     }
     lines
 }

@@ -8,18 +8,18 @@
 mod mealbis;
 mod pair_file;
 
-use mealbis::{mark, read, Figures, Refused, CLIPPED, FLAT, PLAIN};
+use mealbis::{mark, read, scratch_words, Figures, Refused, CLIPPED, FLAT, PLAIN};
 use pair_file::{get_file, refuse};
 use std::io::Write;
 use std::process::exit;
 
-const MARKS: [(&str, u32); 3] = [("flat", FLAT), ("clipped", CLIPPED), ("plain", PLAIN)];
+const MARKS: [(&str, u64); 3] = [("flat", FLAT), ("clipped", CLIPPED), ("plain", PLAIN)];
 
 // The marks of all blocks of a recording.
-fn mark_blocks(recording: &[i32], length: usize, figures: Figures) -> Result<Vec<u32>, Refused> {
-    let (mut cosine, mut sine, mut scratch) = (vec![0; length / 2 + 1], vec![0; length / 2 + 1], vec![0; 8 * length + 64]);
+fn mark_blocks(recording: &[i32], length: usize, figures: Figures) -> Result<Vec<u64>, Refused> {
+    let (mut cosine, mut sine, mut scratch) = (vec![0; length / 2 + 1], vec![0; length / 2 + 1], vec![0; scratch_words(length)]);
     let starts = (0..recording.len() / length).map(|block| block * length);
-    starts.map(|start| mark(recording, start, length, u64::MAX, figures, &mut cosine, &mut sine, &mut scratch).map(|(_, mark)| mark)).collect()
+    starts.map(|start| mark(recording, start, length, u64::MAX, figures, &mut cosine, &mut sine, &mut scratch).map(|answer| answer.mark)).collect()
 }
 
 // A line for each mark and recording, with the blocks that have this mark.

@@ -4,7 +4,7 @@
 // examples/build compiles it; examples/write_crossing.txt is what ./pairspec prints of its file. include/mealbis.h says what the call does.
 mod mealbis;
 
-use mealbis::{write, Refused};
+use mealbis::{reason, write, Refused};
 use std::io::Write;
 use std::process::exit;
 
@@ -31,7 +31,7 @@ fn main() {
     let bytes = match write(&NEAR_ABUTMENT, &FAR_ABUTMENT, BLOCK, &mut file) {
         Ok(bytes) => bytes,
         Err(Refused(number, place)) => {
-            eprintln!("refused {number}, place {place}");
+            eprintln!("refused {number}: {}, place {place}", reason(number));
             exit(1);
         }
     };

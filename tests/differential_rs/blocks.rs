@@ -1,6 +1,7 @@
 // Accepted blocks: patterns that stress the transforms, put anywhere into a longer recording.
 use crate::calls::{Call, Kind, Rules, KINDS, LARGEST, LENGTHS};
 use crate::circle::{Circle, PLACES};
+use crate::library::scratch_words;
 use crate::random::Random;
 use crate::run::Run;
 use crate::ties;
@@ -178,7 +179,7 @@ pub fn accepted_on(kind: Kind, blocks: &[&[i32]], rules: &Rules, random: &mut Ra
         length: n,
         allowance: random.of(&[products, products, products + 1, more, u64::MAX]),
         results: (0..kind.results()).map(|_| kind.listed(n) + spare(random)).collect(),
-        scratch: 8 * n + 64 + spare(random),
+        scratch: scratch_words(n) + spare(random),
     }
 }
 

@@ -1,5 +1,6 @@
 // A call on recordings, and document 01's answer to it.
 use crate::circle::Circle;
+use crate::library::scratch_words;
 use crate::transforms::{self, Outcome, Tally};
 
 pub const LENGTHS: [usize; 11] = [1, 2, 4, 8, 16, 32, 64, 128, 256, 512, 1024];
@@ -96,7 +97,7 @@ impl Rules {
             1 => self.counts(call.length).is_none(),
             2 => call.recordings.iter().any(|recording| call.start as u128 + n > recording.len() as u128),
             3 => call.results.iter().any(|&words| (words as u128) < call.kind.listed(call.length) as u128),
-            4 => (call.scratch as u128) < 8 * n + 64,
+            4 => call.scratch < scratch_words(call.length),
             5 => self.counts(call.length).map_or(call.allowance == 0, |counts| call.allowance < counts.of_kind(call.kind).products),
             6 => call.first_out().is_some(),
             _ => false,

@@ -1,6 +1,7 @@
 // Calls that are turned down, and calls with numbers at the ends.
 use crate::blocks::{any_accepted, sample};
 use crate::calls::{Call, Kind, Rules, KINDS, LARGEST, LENGTHS};
+use crate::library::scratch_words;
 use crate::random::Random;
 use crate::run::Run;
 
@@ -34,7 +35,7 @@ pub fn flawed(kind: Kind, n: usize, set: u64, rules: &Rules, random: &mut Random
         call.results[which] = shorter(kind.listed(n), random);
     }
     if has(4) {
-        call.scratch = shorter(8 * n + 64, random);
+        call.scratch = shorter(scratch_words(n), random);
     }
     if has(5) {
         call.allowance = random.of(&[0, products.saturating_sub(1), products / 2]);
@@ -105,8 +106,14 @@ pub fn extreme(kind: Kind, random: &mut Random) -> Call {
         length,
         allowance: random.of(&[0, 0, 1, 2, 4, 11, 12, 3586, 7172, 1 << 32, u64::MAX - 1, u64::MAX]),
         results: (0..kind.results()).map(|_| extreme_words(kind, length, random)).collect(),
-        scratch: random.of(&[0, 63, 64, 71, 72, 73, 80, 96, 128, 8255, 8256, 8257, length.min(1100) * 8 + 64]),
+        scratch: extreme_scratch(length, random),
     }
+}
+
+fn extreme_scratch(length: usize, random: &mut Random) -> usize {
+    let (none, least, most) = (scratch_words(0), scratch_words(1), scratch_words(1024));
+    let (small, own) = ([2, 4, 8].map(scratch_words), scratch_words(length.min(1100)));
+    random.of(&[0, none - 1, none, least - 1, least, least + 1, small[0], small[1], small[2], most - 1, most, most + 1, own])
 }
 
 pub fn extreme_length(random: &mut Random) -> usize {

@@ -1,5 +1,6 @@
 // Document 01's own numbers. This program's transforms are held to them before anything else, and the library by the same calls.
 use crate::calls::{Call, Counts, Kind, Rules, LARGEST, LENGTHS};
+use crate::library::scratch_words;
 use crate::random::Random;
 use crate::run::Run;
 use crate::transforms::{round, Tally};
@@ -106,7 +107,7 @@ pub fn generous(kind: Kind, recordings: &[&[i32]], start: usize, length: usize, 
         length,
         allowance,
         results: vec![2048; kind.results()],
-        scratch: 8 * 2048 + 64,
+        scratch: scratch_words(2048),
     }
 }
 

@@ -1,4 +1,5 @@
 // The library's C functions, and memory that is lent to them with guards on both sides.
+// A record is lent as its words, in the header's order, and mealbis_size is usize: the archive is for a machine of 64 bits.
 use crate::random::Random;
 
 #[link(name = "mealbis", kind = "static")]
@@ -6,13 +7,13 @@ extern "C" {
     pub fn mealbis_spectrum(
         recording: *const i32, recording_len: usize, start: usize, length: usize, allowance: u64,
         cosine: *mut i32, cosine_len: usize, sine: *mut i32, sine_len: usize, scratch: *mut i64, scratch_len: usize,
-        products: *mut u64, sums: *mut u64, largest_rest: *mut u64, place: *mut usize,
+        answer: *mut u64,
     ) -> u32;
 
     pub fn mealbis_mark(
         recording: *const i32, recording_len: usize, start: usize, length: usize, allowance: u64, flat_limit: i32, clip_level: i32,
         cosine: *mut i32, cosine_len: usize, sine: *mut i32, sine_len: usize, scratch: *mut i64, scratch_len: usize,
-        products: *mut u64, sums: *mut u64, largest_rest: *mut u64, place: *mut usize, mark: *mut u32,
+        answer: *mut u64,
     ) -> u32;
 
     pub fn mealbis_month_begin(month: *mut i64, length: usize) -> u32;
@@ -20,51 +21,52 @@ extern "C" {
     pub fn mealbis_month_add(
         month: *mut i64, recording: *const i32, recording_len: usize, start: usize, length: usize, allowance: u64,
         cosine: *mut i32, cosine_len: usize, sine: *mut i32, sine_len: usize, scratch: *mut i64, scratch_len: usize,
-        products: *mut u64, sums: *mut u64, largest_rest: *mut u64, place: *mut usize,
+        answer: *mut u64,
     ) -> u32;
 
     pub fn mealbis_month_length(month: *const i64) -> usize;
 
     pub fn mealbis_month_blocks(month: *const i64) -> i64;
 
-    pub fn mealbis_month_sums(month: *const i64, k: usize, cosine: *mut i64, sine: *mut i64) -> u32;
+    pub fn mealbis_month_sums(month: *const i64, k: usize, sums: *mut i64) -> u32;
 
     pub fn mealbis_page(
         cosine: *const i32, cosine_len: usize, sine: *const i32, sine_len: usize, length: usize,
-        page: *mut u8, page_len: usize, bytes: *mut usize,
+        page: *mut u8, page_len: usize, answer: *mut u64,
     ) -> u32;
 
     pub fn mealbis_cosine(
         recording: *const i32, recording_len: usize, start: usize, length: usize, allowance: u64,
         coefficients: *mut i32, coefficients_len: usize, scratch: *mut i64, scratch_len: usize,
-        products: *mut u64, sums: *mut u64, largest_rest: *mut u64, place: *mut usize,
+        answer: *mut u64,
     ) -> u32;
 
     pub fn mealbis_inverse_dct(
         coefficients: *const i32, coefficients_len: usize, length: usize,
-        values: *mut i32, values_len: usize, place: *mut usize,
+        values: *mut i32, values_len: usize, answer: *mut u64,
     ) -> u32;
 
     pub fn mealbis_pair(
         a: *const i32, a_len: usize, b: *const i32, b_len: usize, start: usize, length: usize, allowance: u64,
         real: *mut i32, real_len: usize, imaginary: *mut i32, imaginary_len: usize, scratch: *mut i64, scratch_len: usize,
-        products: *mut u64, sums: *mut u64, largest_rest: *mut u64, place: *mut usize,
+        answer: *mut u64,
     ) -> u32;
 
-    pub fn mealbis_counts(
-        length: usize, dct_products: *mut u64, dct_sums: *mut u64, spectrum_products: *mut u64, spectrum_sums: *mut u64,
-        pair_products: *mut u64, pair_sums: *mut u64,
-    ) -> u32;
+    pub fn mealbis_counts(length: usize, answer: *mut u64) -> u32;
 
     pub fn mealbis_read(
-        file: *const u8, file_len: usize, a: *mut i32, a_len: usize, b: *mut i32, b_len: usize,
-        samples: *mut usize, length: *mut usize, place: *mut usize,
+        file: *const u8, file_len: usize, a: *mut i32, a_len: usize, b: *mut i32, b_len: usize, answer: *mut u64,
     ) -> u32;
 
     pub fn mealbis_write(
         a: *const i32, a_len: usize, b: *const i32, b_len: usize, length: usize,
-        file: *mut u8, file_len: usize, bytes: *mut usize, place: *mut usize,
+        file: *mut u8, file_len: usize, answer: *mut u64,
     ) -> u32;
+}
+
+// The words of scratch that a block of this length needs; of a length beyond all memory, as many as there can be.
+pub const fn scratch_words(length: usize) -> usize {
+    length.saturating_mul(8).saturating_add(64)
 }
 
 // ---- lent memory
@@ -92,21 +94,9 @@ impl Word for u64 {
     }
 }
 
-impl Word for usize {
-    fn filling(i: u64) -> usize {
-        mixed(i) as usize
-    }
-}
-
 impl Word for i32 {
     fn filling(i: u64) -> i32 {
         (mixed(i) >> 32) as i32 | 1
-    }
-}
-
-impl Word for u32 {
-    fn filling(i: u64) -> u32 {
-        (mixed(i) >> 32) as u32 | 1
     }
 }
 
@@ -168,6 +158,13 @@ impl<T: Word> Lent<T> {
         let place = i as i64 - self.first as i64;
         Some(format!("word {} of {} ({} words lent) is {} and not {}", place, self.name, self.len, self.memory[i], self.expected[i]))
     }
+}
+
+// A record, in whose words these values should stand after the call.
+pub fn record<T: Word>(name: &'static str, values: &[T], random: &mut Random) -> Lent<T> {
+    let mut lent = Lent::filled(name, values.len(), random);
+    lent.expect(values);
+    lent
 }
 
 // the differences of several pieces of lent memory

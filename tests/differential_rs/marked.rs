@@ -16,19 +16,19 @@ pub struct Marking {
 // in the order that the call tests
 pub const ORDER: [u32; 7] = [1, 2, 3, 4, 5, 6, 12];
 
-const NO_MARK: u32 = 0;
-const FLAT: u32 = 1;
-const CLIPPED: u32 = 2;
-const PLAIN: u32 = 3;
+const NO_MARK: u64 = 0;
+const FLAT: u64 = 1;
+const CLIPPED: u64 = 2;
+const PLAIN: u64 = 3;
 
 // the rules in the order in which they are looked at
-const LOOKED_AT: [u32; 2] = [FLAT, CLIPPED];
+const LOOKED_AT: [u64; 2] = [FLAT, CLIPPED];
 
 // ---- document 02's answer
 
 impl Marking {
     // Spectrum's answer, or refusal 12; and the mark
-    pub fn answer(&self, rules: &Rules) -> (Answer, u32) {
+    pub fn answer(&self, rules: &Rules) -> (Answer, u64) {
         let answer = rules.answer(&self.call);
         let Some(outcome) = &answer.outcome else {
             return (answer, NO_MARK);
@@ -51,7 +51,7 @@ impl Marking {
         self.is_flat(results) as usize + 2 * self.is_clipped() as usize
     }
 
-    fn mark(&self, results: &[Vec<i32>]) -> u32 {
+    fn mark(&self, results: &[Vec<i32>]) -> u64 {
         let meets = |rule| if rule == FLAT { self.is_flat(results) } else { self.is_clipped() };
         LOOKED_AT.into_iter().find(|&rule| meets(rule)).unwrap_or(PLAIN)
     }

@@ -37,8 +37,7 @@ impl Run {
 
     fn made(&mut self, call: &Call, wanted: usize, random: &mut Random) -> (u128, LentCall) {
         let answer = self.rules.answer(call);
-        let mut lent = LentCall::new(call, random);
-        lent.expect(&answer, call.length);
+        let mut lent = LentCall::new(call, &answer, None, random);
         let number = lent.make(call, Beside::Nothing);
 
         let mut wrong = lent.differences();
@@ -84,14 +83,10 @@ impl Run {
 
     pub fn mark(&mut self, marking: &Marking, random: &mut Random) {
         let (answer, mark) = marking.answer(&self.rules);
-        let mut lent = LentCall::new(&marking.call, random);
-        let mut word = Lent::filled("the mark", 1, random);
-        lent.expect(&answer, marking.call.length);
-        word.expect(&[mark]);
-        let number = lent.make(&marking.call, Beside::Mark(marking.flat_limit, marking.clip_level, word.pointer()));
+        let mut lent = LentCall::new(&marking.call, &answer, Some(mark), random);
+        let number = lent.make(&marking.call, Beside::Figures(marking.flat_limit, marking.clip_level));
 
         let mut wrong = lent.differences();
-        wrong.extend(word.difference());
         wrong.extend(wrong_number(number, answer.number));
         if let Some(outcome) = &answer.outcome {
             self.record.rules[marking.rules_met(&outcome.results)] += 1;
@@ -116,8 +111,7 @@ impl Run {
         let holding = month.month.holding(call, &self.rules);
         let held = (month.month.words[0], month.month.blocks());
         let answer = month.month.add(call, &self.rules);
-        let mut lent = LentCall::new(call, random);
-        lent.expect(&answer, call.length);
+        let mut lent = LentCall::new(call, &answer, None, random);
         month.lent.expect(&month.month.words);
         let number = lent.make(call, Beside::Month(month.lent.pointer()));
 
@@ -155,17 +149,12 @@ impl Run {
         let sums = month.month.sums(k);
         let correct = if sums.is_some() { 0 } else { 16 };
         let (cosine, sine) = sums.unwrap_or((0, 0));
-        let mut words = ["the cosine's sum", "the sine's sum"].map(|name| Lent::<i64>::filled(name, 1, random));
-        for (word, sum) in words.iter_mut().zip([cosine, sine]) {
-            word.expect(&[sum]);
-        }
+        let mut record = record("the two sums", &[cosine, sine], random);
         let lent = month.lent.pointer();
-        let [cosine, sine] = words.each_mut().map(Lent::pointer);
-        let number = unsafe { mealbis_month_sums(lent, k, cosine, sine) };
+        let number = unsafe { mealbis_month_sums(lent, k, record.pointer()) };
         let (length, blocks) = unsafe { (mealbis_month_length(lent), mealbis_month_blocks(lent)) };
 
-        let mut found = vec![month.lent.difference()];
-        found.extend(words.iter().map(Lent::difference));
+        let mut found = vec![month.lent.difference(), record.difference()];
         found.push((length != month.month.length()).then(|| format!("the length is {length} and not {}", month.month.length())));
         found.push((blocks != month.month.blocks()).then(|| format!("the block number is {blocks} and not {}", month.month.blocks())));
         self.record.answer(SUMS, correct, &[]);
@@ -178,16 +167,15 @@ impl Run {
         let (correct, written) = call.answer();
         let mut rows = [Lent::holding("cosine", &call.cosine, random), Lent::holding("sine", &call.sine, random)];
         let mut page = Lent::filled("the page", call.bytes, random);
-        let mut bytes = Lent::<usize>::filled("the bytes", 1, random);
+        let mut record = record("the record: bytes", &[written.len() as u64], random);
         page.expect(&written);
-        bytes.expect(&[written.len()]);
         let number = {
             let [(cosine, cosine_len), (sine, sine_len)] = rows.each_mut().map(|row| (row.pointer(), row.len()));
             let sine = if call.same_words { cosine } else { sine };
-            unsafe { mealbis_page(cosine, cosine_len, sine, sine_len, call.length, page.pointer(), page.len(), bytes.pointer()) }
+            unsafe { mealbis_page(cosine, cosine_len, sine, sine_len, call.length, page.pointer(), page.len(), record.pointer()) }
         };
 
-        let mut found = vec![page.difference(), bytes.difference()];
+        let mut found = vec![page.difference(), record.difference()];
         found.extend(rows.iter().map(Lent::difference));
         if correct == 0 {
             self.record.page(call.length, [&call.cosine, &call.sine]);
@@ -204,12 +192,11 @@ impl Run {
         let answer = call.answer(&self.rules.circle);
         let mut coefficients = Lent::holding("the coefficients", &call.coefficients, random);
         let mut values = Lent::filled("the values", call.values, random);
-        let mut place = Lent::<usize>::filled("the place", 1, random);
+        let mut record = record("the record: place", &[answer.place as u64], random);
         values.expect(&answer.sums.iter().map(|&sum| rounded(sum, call.length)).collect::<Vec<_>>());
-        place.expect(&[answer.place]);
-        let number = unsafe { mealbis_inverse_dct(coefficients.pointer(), coefficients.len(), call.length, values.pointer(), values.len(), place.pointer()) };
+        let number = unsafe { mealbis_inverse_dct(coefficients.pointer(), coefficients.len(), call.length, values.pointer(), values.len(), record.pointer()) };
 
-        let mut wrong = differences(&[coefficients.difference(), values.difference(), place.difference()]);
+        let mut wrong = differences(&[coefficients.difference(), values.difference(), record.difference()]);
         wrong.extend(wrong_number(number, answer.number));
         let mut apart = 0;
         if let Some(x) = block {
@@ -240,17 +227,12 @@ impl Run {
     pub fn counts(&mut self, length: usize, random: &mut Random) {
         let expected = self.rules.counts(length);
         let six = expected.map_or([0; 6], |c| [c.dct.products, c.dct.sums, c.spectrum.products, c.spectrum.sums, c.pair.products, c.pair.sums]);
-        let mut lent: Vec<Lent<u64>> = six.iter().map(|_| Lent::filled("a count", 1, random)).collect();
-        for (word, count) in lent.iter_mut().zip(six) {
-            word.expect(&[count]);
-        }
-        let p: Vec<*mut u64> = lent.iter_mut().map(|word| word.pointer()).collect();
-        let number = unsafe { mealbis_counts(length, p[0], p[1], p[2], p[3], p[4], p[5]) };
+        let mut record = record("the six counts", &six, random);
+        let number = unsafe { mealbis_counts(length, record.pointer()) };
 
         let correct = if expected.is_some() { 0 } else { 1 };
         self.record.answer(COUNTS, correct, &[]);
-        let found = lent.iter().map(Lent::difference).collect();
-        self.end(found, number, correct, || format!("counts of length {length}"));
+        self.end(vec![record.difference()], number, correct, || format!("counts of length {length}"));
     }
 
     // the words that stand in both recordings then
@@ -258,22 +240,18 @@ impl Run {
         let answer = file.answer();
         let mut bytes = Lent::holding("the file", &file.bytes, random);
         let mut recordings = [Lent::filled("a", file.a_words, random), Lent::filled("b", file.b_words, random)];
-        let mut sizes = ["m", "N", "the place"].map(|name| Lent::<usize>::filled(name, 1, random));
+        let told = [answer.sizes.0, answer.sizes.1, answer.place].map(|size| size as u64);
+        let mut record = record("the record: m, N, place", &told, random);
         for (recording, samples) in recordings.iter_mut().zip(&answer.samples) {
             recording.expect(samples);
         }
-        for (word, size) in sizes.iter_mut().zip([answer.sizes.0, answer.sizes.1, answer.place]) {
-            word.expect(&[size]);
-        }
         let number = {
             let [a, b] = &mut recordings;
-            let [m, n, place] = &mut sizes;
-            unsafe { mealbis_read(bytes.pointer(), bytes.len(), a.pointer(), a.len(), b.pointer(), b.len(), m.pointer(), n.pointer(), place.pointer()) }
+            unsafe { mealbis_read(bytes.pointer(), bytes.len(), a.pointer(), a.len(), b.pointer(), b.len(), record.pointer()) }
         };
 
-        let mut found = vec![bytes.difference()];
+        let mut found = vec![bytes.difference(), record.difference()];
         found.extend(recordings.iter().map(Lent::difference));
-        found.extend(sizes.iter().map(Lent::difference));
         self.record.answer(READ, answer.number, &file.holding());
         self.end(found, number, answer.number, || file.described());
         recordings.map(|recording| recording.words().to_vec())
@@ -284,21 +262,16 @@ impl Run {
         let answer = call.answer();
         let mut recordings = [Lent::holding("a", &call.a, random), Lent::holding("b", &call.b, random)];
         let mut file = Lent::filled("the file", call.bytes, random);
-        let mut words = ["the bytes", "the place"].map(|name| Lent::<usize>::filled(name, 1, random));
+        let mut record = record("the record: bytes, place", &[answer.file.len() as u64, answer.place as u64], random);
         file.expect(&answer.file);
-        for (word, value) in words.iter_mut().zip([answer.file.len(), answer.place]) {
-            word.expect(&[value]);
-        }
         let number = {
             let [(a, a_len), (b, b_len)] = recordings.each_mut().map(|recording| (recording.pointer(), recording.len()));
             let b = if call.same_words { a } else { b };
-            let [bytes, place] = words.each_mut().map(Lent::pointer);
-            unsafe { mealbis_write(a, a_len, b, b_len, call.length, file.pointer(), file.len(), bytes, place) }
+            unsafe { mealbis_write(a, a_len, b, b_len, call.length, file.pointer(), file.len(), record.pointer()) }
         };
 
-        let mut found = vec![file.difference()];
+        let mut found = vec![file.difference(), record.difference()];
         found.extend(recordings.iter().map(Lent::difference));
-        found.extend(words.iter().map(Lent::difference));
         self.record.answer(WRITE, answer.number, &call.holding());
         self.end(found, number, answer.number, || call.to_string());
         file.words().to_vec()
@@ -331,66 +304,39 @@ struct LentCall {
     recordings: Vec<Lent<i32>>,
     results: Vec<Lent<i32>>,
     scratch: Lent<i64>,
-    counts: LentCounts,
+    record: Lent<u64>,
 }
 
-// What is lent to a call of Spectrum beside its own: the figures of a mark with a word for it, or the words of a month.
+// What is given to a call of Spectrum beside its own: the figures of a mark, or the words of a month.
 enum Beside {
     Nothing,
-    Mark(i32, i32, *mut u32),
+    Figures(i32, i32),
     Month(*mut i64),
 }
 
-struct LentCounts {
-    products: Lent<u64>,
-    sums: Lent<u64>,
-    largest_rest: Lent<u64>,
-    place: Lent<usize>,
-}
-
-impl LentCounts {
-    fn expect_counts(&mut self, [products, sums, largest_rest]: [u64; 3], place: usize) {
-        self.products.expect(&[products]);
-        self.sums.expect(&[sums]);
-        self.largest_rest.expect(&[largest_rest]);
-        self.place.expect(&[place]);
-    }
-
-    fn differences(&self) -> [Option<String>; 4] {
-        [self.products.difference(), self.sums.difference(), self.largest_rest.difference(), self.place.difference()]
-    }
-}
-
 impl LentCall {
-    fn new(call: &Call, random: &mut Random) -> LentCall {
+    // memory in which this answer should stand after the call, and the mark where it has one
+    fn new(call: &Call, answer: &Answer, mark: Option<u64>, random: &mut Random) -> LentCall {
         let names = match call.kind {
             Kind::Spectrum => ["cosine", "sine"],
             Kind::Cosine => ["the coefficients", ""],
             Kind::Pair => ["real", "imaginary"],
         };
-        LentCall {
+        let (products, sums, rest) = answer.outcome.as_ref().map_or((0, 0, 0), |outcome| (outcome.tally.products, outcome.tally.sums, outcome.largest_rest));
+        let told: Vec<u64> = [products, sums, rest, answer.place as u64].into_iter().chain(mark).collect();
+        let mut lent = LentCall {
             recordings: call.recordings.iter().map(|samples| Lent::holding("a recording", samples, random)).collect(),
             results: call.results.iter().zip(names).map(|(&words, name)| Lent::filled(name, words, random)).collect(),
             scratch: Lent::filled("scratch", call.scratch, random),
-            counts: LentCounts {
-                products: Lent::filled("the products", 1, random),
-                sums: Lent::filled("the sums", 1, random),
-                largest_rest: Lent::filled("the largest rest", 1, random),
-                place: Lent::filled("the place", 1, random),
-            },
-        }
-    }
-
-    fn expect(&mut self, answer: &Answer, length: usize) {
-        let Some(outcome) = &answer.outcome else {
-            self.counts.expect_counts([0; 3], answer.place);
-            return;
+            record: record("the record: products, sums, largest rest, place and mark", &told, random),
         };
-        for (lent, words) in self.results.iter_mut().zip(&outcome.results) {
-            lent.expect(words);
+        if let Some(outcome) = &answer.outcome {
+            for (lent, words) in lent.results.iter_mut().zip(&outcome.results) {
+                lent.expect(words);
+            }
+            lent.scratch.expect(&vec![0; scratch_words(call.length)]);
         }
-        self.scratch.expect(&vec![0; 8 * length + 64]);
-        self.counts.expect_counts([outcome.tally.products, outcome.tally.sums, outcome.largest_rest], 0);
+        lent
     }
 
     fn make(&mut self, call: &Call, beside: Beside) -> u32 {
@@ -401,31 +347,27 @@ impl LentCall {
         let (b, b_len) = if call.same_words { lent[0] } else { lent[lent.len() - 1] };
         let ((y, y_len), (z, z_len)) = (out[0], out[out.len() - 1]);
         let (work, work_len) = (self.scratch.pointer(), self.scratch.len());
-        let (products, sums) = (self.counts.products.pointer(), self.counts.sums.pointer());
-        let (rest, place) = (self.counts.largest_rest.pointer(), self.counts.place.pointer());
+        let record = self.record.pointer();
         unsafe {
             match (call.kind, beside) {
-                (Kind::Spectrum, Beside::Nothing) => mealbis_spectrum(
-                    a, a_len, start, length, allowance, y, y_len, z, z_len, work, work_len, products, sums, rest, place,
-                ),
-                (Kind::Spectrum, Beside::Mark(flat, clip, mark)) => mealbis_mark(
-                    a, a_len, start, length, allowance, flat, clip, y, y_len, z, z_len, work, work_len, products, sums, rest, place, mark,
-                ),
-                (Kind::Spectrum, Beside::Month(month)) => mealbis_month_add(
-                    month, a, a_len, start, length, allowance, y, y_len, z, z_len, work, work_len, products, sums, rest, place,
-                ),
-                (Kind::Cosine, _) => mealbis_cosine(a, a_len, start, length, allowance, y, y_len, work, work_len, products, sums, rest, place),
-                (Kind::Pair, _) => mealbis_pair(
-                    a, a_len, b, b_len, start, length, allowance, y, y_len, z, z_len, work, work_len, products, sums, rest, place,
-                ),
+                (Kind::Spectrum, Beside::Nothing) => {
+                    mealbis_spectrum(a, a_len, start, length, allowance, y, y_len, z, z_len, work, work_len, record)
+                }
+                (Kind::Spectrum, Beside::Figures(flat, clip)) => {
+                    mealbis_mark(a, a_len, start, length, allowance, flat, clip, y, y_len, z, z_len, work, work_len, record)
+                }
+                (Kind::Spectrum, Beside::Month(month)) => {
+                    mealbis_month_add(month, a, a_len, start, length, allowance, y, y_len, z, z_len, work, work_len, record)
+                }
+                (Kind::Cosine, _) => mealbis_cosine(a, a_len, start, length, allowance, y, y_len, work, work_len, record),
+                (Kind::Pair, _) => mealbis_pair(a, a_len, b, b_len, start, length, allowance, y, y_len, z, z_len, work, work_len, record),
             }
         }
     }
 
     fn differences(&self) -> Vec<String> {
         let mut found: Vec<Option<String>> = self.recordings.iter().chain(&self.results).map(Lent::difference).collect();
-        found.push(self.scratch.difference());
-        found.extend(self.counts.differences());
+        found.extend([self.scratch.difference(), self.record.difference()]);
         differences(&found)
     }
 
