@@ -1,13 +1,15 @@
 // All that `pairspec` prints, put into a lent page.
+mod lines;
+
+use crate::lines::put_heading;
+use crate::lines::put_lines;
+use crate::lines::put_refusal;
 use pairfile::reader::number_of;
 use pairfile::reader::read;
 use pairfile::reader::sizes_of;
 use spectra::CountsAnswer;
 use spectra::count_query;
 use spectra::pair;
-use text::put_heading;
-use text::put_lines;
-use text::put_refusal;
 ghost use mathlib.Core.Bool.{true};
 ghost use mathlib.Core.Path.{_≡_};
 ghost use Prim.Native.Nat.{_+_, _*_, _/_, _≤_, _<_};
