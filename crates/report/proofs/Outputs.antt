@@ -15,7 +15,7 @@ use Rattle.lengths.specs.Block.{isLength, level}
 use Rattle.lengths.proofs.Lengths.{pow-len}
 use Rattle.lengths.proofs.ElevenLengths.{is-power, length-le}
 use Rattle.ffct.proofs.Blocks.{pair-same}
-use Rattle.refusals.specs.Refusals.{Verdict, refused, refusedAt, accepted, number}
+use Rattle.refusals.specs.Refusals.{Verdict, refused, refusedAt, accepted, number, scratchWords}
 use Rattle.words.specs.Put.{Put}
 use Rattle.pairfile.specs.declared.reader.FileAnswer.{FileAnswer}
 use Rattle.pairfile.specs.declared.reader.FileAnswer.the-variants.{BelowHeader, BadCount, BadFileLength, BadLength}
@@ -107,7 +107,7 @@ module _ (file : List ℕ) (a b a′ b′ : List ℤ) (answer : FileAnswer) (n :
       spectra-room page room = omega (arith, done .sound .most)
 
       pub spectra-ready : {real imaginary scratch : List ℤ} → 1024 ≤ length real → 1024 ≤ length imaginary
-          → 8256 ≤ length scratch → Printable m N a′ b′ real imaginary scratch
+          → scratchWords 1024 ≤ length scratch → Printable m N a′ b′ real imaginary scratch
       spectra-ready h i j =
           let short = length-le N (done .sound .length-ok) in
           record {
