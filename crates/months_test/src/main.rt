@@ -9,6 +9,7 @@ use months::block_number;
 use months::length_of;
 use months::record::SumsAnswer;
 use months::sums_at;
+use refusals::length::MOST_SCRATCH;
 use test_rows::random_sample;
 use test_rows::write_count;
 use whole::size_of;
@@ -17,6 +18,7 @@ ghost use Prim.Native.Nat.{_^_, _≤_, _<_};
 ghost use lib.IntN.{natAbs};
 ghost use lib.ListN.{length as List·length};
 ghost use Rattle.months.specs.Promises.{Held};
+ghost use Rattle.refusals.specs.Refusals.{scratchWords};
 
 // ---- what is written
 
@@ -65,10 +67,10 @@ fn row(value: i32) -> [i32; 2100]
     [value; 2100]
 }
 
-fn scratch_words() -> [i64; 8256]
-    ensures { λ r. ⌜ 8256 ≡ List·length r ⌝ }
+fn scratch_words() -> [i64; MOST_SCRATCH]
+    ensures { λ r. ⌜ scratchWords 1024 ≡ List·length r ⌝ }
 {
-    [0; 8256]
+    [0; MOST_SCRATCH]
 }
 
 // Samples of either sign, the one at place 700 out of range.

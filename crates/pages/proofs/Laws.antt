@@ -13,10 +13,11 @@ use lib.Seq.{take-append-seam, drop-append-seam}
 use mir.Syntax.{w32}
 use mir.Val.{SFits}
 use Rattle.whole.proofs.Cases.{le-or-lt, same-or-not}
+use Rattle.words.specs.Put.{joined}
+use Rattle.words.proofs.Putting.{joined-length}
 use Rattle.lengths.specs.Block.{isLength, level, spectrumYields}
 use Rattle.lengths.proofs.ElevenLengths.{is-power}
-use Rattle.text.specs.Decimal.{number, decimal}
-use Rattle.text.specs.Lines.{space, lineFeed}
+use Rattle.text.specs.Decimal.{space, lineFeed, number, decimal}
 use Rattle.text.specs.Alignment.{rightAligned}
 use Rattle.text.proofs.Alignment.{aligned-length}
 use Rattle.text.proofs.Reading.{aligned-back}
@@ -39,16 +40,9 @@ abbrev FitBelow : ℕ → (ℕ → ℤ) → Type 0
 FitBelow n c = (k : ℕ) → k < n → SFits w32 (c k)
 
 module _ (c s : ℕ → ℤ) (n : ℕ) (few : n ≤ 10000) (f : FitBelow n c) (g : FitBelow n s) where
-  pub lines-length : (k : ℕ) → k ≤ n → length (lines c s k) ≡ 31 * k
-  unfolding lines
-  lines-length zero h = refl
-  lines-length (suc k) h =
-      omega (
-        arith,
-        length-append (lines c s k) (line k (c k) (s k)),
-        lines-length k (omega arith),
-        line-length k (c k) (s k) (omega arith) (f k h) (g k h),
-      )
+  lines-length : (k : ℕ) → k ≤ n → length (lines c s k) ≡ 31 * k
+  lines-length k h =
+      joined-length _ 31 k (λ i l. line-length i (c i) (s i) (omega arith) (f i (omega arith)) (g i (omega arith)))
 
 pub page-length : PageLength
 unfolding page
@@ -96,7 +90,7 @@ line-back k c s d t f g i j e =
 module _ (c s d t : ℕ → ℤ) (n : ℕ) (few : n ≤ 10000)
     (f : FitBelow n c) (g : FitBelow n s) (i : FitBelow n d) (j : FitBelow n t) where
   lines-back : (m : ℕ) → m ≤ n → lines c s m ≡ lines d t m → (k : ℕ) → k < m → (c k ≡ d k) × (s k ≡ t k)
-  unfolding lines
+  unfolding joined
   lines-back zero h e k l = absurd (omega arith)
   lines-back (suc m) h e k l =
       let wide = lines-length c s n few f g m (omega arith) ∙ sym (lines-length d t n few i j m (omega arith)) in

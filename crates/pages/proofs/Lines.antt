@@ -3,7 +3,6 @@ use mathlib.Core.Bool.{true}
 use mathlib.Core.Path.{_≡_, refl}
 use mathlib.Core.List.{List, [], _∷_, _++_, append-assoc}
 use Prim.Native.Nat.{ℕ, _+_, _*_, _≤_, _<_}
-use native.Mathlib.Numerals.{add-one}
 use native.Mathlib.Omega.{arith}
 use lib.IntN.{ℤ}
 use lib.ListN.{length, length-append}
@@ -11,11 +10,10 @@ use mir.Syntax.{w32}
 use mir.Val.{SFits, toZ}
 use mir.Facts.{toZ-ofZ, toZ-pos}
 use Rattle.words.specs.Put.{Put}
-use Rattle.words.proofs.Putting.{put-none, _then_}
+use Rattle.words.proofs.Putting.{_then_, joined-none, joined-more}
 use Rattle.lengths.specs.Block.{isLength, spectrumYields}
 use Rattle.lengths.proofs.ElevenLengths.{length-le}
-use Rattle.text.specs.Decimal.{number, decimal}
-use Rattle.text.specs.Lines.{space, lineFeed}
+use Rattle.text.specs.Decimal.{space, lineFeed, number, decimal}
 use Rattle.text.specs.Alignment.{rightAligned}
 use Rattle.text.proofs.Spelling.{number-length, decimal-length}
 use Rattle.text.proofs.Runs.{held}
@@ -88,16 +86,14 @@ pub record LinesPut (c s : ℕ → ℤ) (k : ℕ) (page : List ℕ) (at next : �
 
 module _ (c s : ℕ → ℤ) {at : ℕ} {page : List ℕ} where
   pub no-lines : at ≤ length page → LinesPut c s 0 page at at page
-  unfolding lines
-  no-lines room = record { put = put-none room; behind = omega arith }
+  no-lines room = record { put = joined-none _ room; behind = omega arith }
 
   pub line-more : (k : ℕ) {next q : ℕ} {page₁ page₂ : List ℕ} → LinesPut c s k page at next page₁
       → Put page₁ next (line k (held (c k)) (held (s k))) q page₂ → k < 10000 → SFits w32 (c k) → SFits w32 (s k)
       → LinesPut c s (k + 1) page at q page₂
-  unfolding lines
   line-more k p l few f g =
       let more = rw (toZ-ofZ f, toZ-ofZ g) at l in
-      record { put = rw add-one (p .put then more); behind = omega (arith, p .behind, more .next-is, line-length k (c k) (s k) few f g) }
+      record { put = joined-more _ k (p .put) more; behind = omega (arith, p .behind, more .next-is, line-length k (c k) (s k) few f g) }
 
 -- ---- a run of `put_page`: the heading is put, and the lines before k
 abbrev headingBytes : List ℕ

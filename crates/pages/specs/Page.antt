@@ -2,14 +2,14 @@
 -- cosine and sine are the stored coefficients, coefficient k at k; N is the block length.
 use mathlib.Core.Bool.{cond}
 use mathlib.Core.List.{List, [], _∷_, _++_}
-use Prim.Native.Nat.{ℕ, zero, suc, _+_, _*_}
+use Prim.Native.Nat.{ℕ, _+_, _*_}
 use lib.Dec.{ltb}
 use lib.IntN.{ℤ}
+use Rattle.words.specs.Put.{joined}
 use Rattle.lengths.specs.Block.{spectrumYields}
 use Rattle.refusals.specs.Refusals.{Verdict, refused, accepted}
 use Rattle.refusals.specs.Calls.{storedTests}
-use Rattle.text.specs.Decimal.{number, decimal}
-use Rattle.text.specs.Lines.{space, lineFeed}
+use Rattle.text.specs.Decimal.{space, lineFeed, number, decimal}
 use Rattle.text.specs.Alignment.{rightAligned}
 
 -- "Columns are k in 4, cosine in 12 and sine in 12, right aligned, with one space between." A line is "30 columns and a line feed"
@@ -25,9 +25,8 @@ abbrev pub line : (k : ℕ) → (cosine sine : ℤ) → List ℕ
 line k cosine sine = columns (number k) (decimal cosine) (decimal sine)
 
 -- the lines "from k = 0 upwards", of k = 0 .. n - 1
-unfoldable pub lines : (cosine sine : ℕ → ℤ) → ℕ → List ℕ
-lines cosine sine zero = []
-lines cosine sine (suc k) = lines cosine sine k ++ line k (cosine k) (sine k)
+abbrev pub lines : (cosine sine : ℕ → ℤ) → ℕ → List ℕ
+lines cosine sine n = joined (λ k. line k (cosine k) (sine k)) n
 
 -- "Under it stands one line for each k that Spectrum yields"
 unfoldable pub page : ℕ → (cosine sine : ℕ → ℤ) → List ℕ

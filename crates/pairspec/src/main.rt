@@ -2,9 +2,11 @@
 // is what the library function `report::put_output` puts into the page: the definition `output` of the bytes that were read.
 use libc::STDIN_FILENO;
 use libc::STDOUT_FILENO;
+use refusals::length::MOST_SCRATCH;
 use report::put_output;
 ghost use mathlib.Core.Path.{_≡_};
 ghost use lib.ListN.{length};
+ghost use Rattle.refusals.specs.Refusals.{scratchWords};
 
 // Room for one byte more than the largest legal file has: a longer file is refused by its first bytes as it is by all of them.
 fn file_buffer() -> [u8; 32777]
@@ -25,10 +27,10 @@ fn coefficients() -> [i32; 1024]
     [0; 1024]
 }
 
-fn scratch_words() -> [i64; 8256]
-    ensures { λ r. ⌜ 8256 ≡ length r ⌝ }
+fn scratch_words() -> [i64; MOST_SCRATCH]
+    ensures { λ r. ⌜ scratchWords 1024 ≡ length r ⌝ }
 {
-    [0; 8256]
+    [0; MOST_SCRATCH]
 }
 
 // Room for the heading and 4,096 lines of 34 bytes.

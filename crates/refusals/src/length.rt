@@ -21,6 +21,9 @@ pub fn shorter(a: usize, b: usize) -> usize
     if a < b { a } else { b }
 }
 
+// The words of scratch for the longest block.
+pub const MOST_SCRATCH: usize = 8 * 1024 + 64;
+
 // The words of scratch that a call on n samples asks for, and clears.
 pub fn scratch_words(n: usize) -> usize
     requires { ⌜ n ≤ 1024 ⌝ }

@@ -1,2 +1,3 @@
+pub mod LineRuns
 pub mod Printing
 pub mod Outputs

@@ -3,19 +3,20 @@
 use mathlib.Core.Bool.{true}
 use mathlib.Core.Path.{_≡_, refl, sym, ap, ap₂, _∙_}
 use mathlib.Core.List.{List, [], _∷_, _++_}
-use Prim.Native.Nat.{ℕ, zero, suc, _+_, _*_, _/_, _≤_, _<_}
+use Prim.Native.Nat.{ℕ, _+_, _*_, _/_, _≤_, _<_}
+use native.Mathlib.Nat.{mul-le-mul-right}
 use native.Mathlib.Omega.{arith}
 use lib.IntN.{ℤ}
 use lib.ListN.{length, take}
 use Rattle.words.specs.Words.{Samples, word}
 use Rattle.words.proofs.Writing.{front}
+use Rattle.words.proofs.Putting.{joined-same}
 use Rattle.lengths.specs.Block.{isLength, level}
 use Rattle.lengths.proofs.Lengths.{pow-len}
 use Rattle.lengths.proofs.ElevenLengths.{is-power, length-le}
 use Rattle.ffct.proofs.Blocks.{pair-same}
-use Rattle.refusals.specs.Refusals.{Verdict, refused, refusedAt, accepted, number}
+use Rattle.refusals.specs.Refusals.{Verdict, refused, refusedAt, accepted, number, scratchWords}
 use Rattle.words.specs.Put.{Put}
-use Rattle.text.specs.Lines.{heading, refusal, lines}
 use Rattle.pairfile.specs.declared.reader.FileAnswer.{FileAnswer}
 use Rattle.pairfile.specs.declared.reader.FileAnswer.the-variants.{BelowHeader, BadCount, BadFileLength, BadLength}
 use Rattle.pairfile.specs.declared.reader.FileAnswer.the-variants.{RecordingTooShort, OutOfRange, Read}
@@ -24,6 +25,7 @@ use Rattle.pairfile.specs.ReadAnswers.{verdictOf, sampleCountOf, blockLengthOf}
 use Rattle.pairfile.specs.Promises.{ReadDone, ReadPromise}
 use Rattle.pairfile.specs.Laws.{firstBytes}
 use Rattle.pairfile.proofs.Longer.{longer}
+use Rattle.report.specs.Lines.{heading, refusal, lines}
 use Rattle.report.specs.Output.{pairAt, blockLines, spectra, printed, output, LongerOutput}
 use Rattle.report.specs.Puts.{Printable, PutFrom, OutputPut}
 use Rattle.report.proofs.Printing.{whole-blocks, next-block}
@@ -50,12 +52,12 @@ module _ {m : ℕ} (N : ℕ) (ok : isLength N ≡ true) (a a′ b b′ : Samples
       (λ n l. e (i * N + n) (omega (arith, pow-len (level N), is-power N ok)))
       (λ n l. d (i * N + n) (omega (arith, pow-len (level N), is-power N ok)))
 
-  pub same-blocks : (i : ℕ) → i * N ≤ m → blockLines N a b i ≡ blockLines N a′ b′ i
-  unfolding blockLines
-  same-blocks zero h = refl
-  same-blocks (suc i) h =
-      let fits : i * N + N ≤ m = omega (arith, next-block i N) in
-      ap₂ _++_ (same-blocks i (omega arith)) (ap (λ p. lines i (p .real) (p .imaginary) N) (same-pair i fits))
+  pub same-blocks : (count : ℕ) → count * N ≤ m → blockLines N a b count ≡ blockLines N a′ b′ count
+  same-blocks count h =
+      joined-same _ _ count (λ i l.
+      let up : i + 1 ≤ count = omega arith in
+      let fits : i * N + N ≤ m = omega (arith, next-block i N, mul-le-mul-right N up) in
+      ap (λ p. lines i (p .real) (p .imaginary) N) (same-pair i fits))
 
 -- ---- the output, by the reader's verdict
 module _ (file : List ℕ) where
@@ -104,8 +106,8 @@ module _ (file : List ℕ) (a b a′ b′ : List ℤ) (answer : FileAnswer) (n :
       pub spectra-room : (page : List ℕ) → 139278 ≤ length page → 14 + 34 * m ≤ length page
       spectra-room page room = omega (arith, done .sound .most)
 
-      pub spectra-ready : {real imaginary scratch : List ℤ} → 1024 ≤ length real → 1024 ≤ length imaginary → 8256 ≤ length scratch
-          → Printable m N a′ b′ real imaginary scratch
+      pub spectra-ready : {real imaginary scratch : List ℤ} → 1024 ≤ length real → 1024 ≤ length imaginary
+          → scratchWords 1024 ≤ length scratch → Printable m N a′ b′ real imaginary scratch
       spectra-ready h i j =
           let short = length-le N (done .sound .length-ok) in
           record {

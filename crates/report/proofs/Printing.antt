@@ -1,9 +1,9 @@
 -- From two recordings to the lines of their blocks: a block that fits is accepted by Pair, and its lines are those of Pair's definition.
 -- Assumes nothing.
 use mathlib.Core.Bool.{true}
-use mathlib.Core.Path.{_≡_, refl, ap₂, _∙_}
-use mathlib.Core.List.{List, _++_}
-use Prim.Native.Nat.{ℕ, zero, suc, _+_, _*_, _/_, _≤_, _<_}
+use mathlib.Core.Path.{_≡_, refl, _∙_}
+use mathlib.Core.List.{List}
+use Prim.Native.Nat.{ℕ, _+_, _*_, _/_, _≤_, _<_}
 use native.Mathlib.Nat.{mul-le-mul-left, mul-le-mul-right, suc-mul, div-le-self, div-mul-le-self}
 use native.Mathlib.Numerals.{add-one}
 use native.Mathlib.Omega.{arith}
@@ -22,8 +22,8 @@ use Rattle.spectra.specs.declared.Answer.{Answer}
 use Rattle.spectra.specs.Answers.{spent}
 use Rattle.spectra.specs.Promises.{PairDone, PairPromise}
 use Rattle.words.specs.Put.{Put}
-use Rattle.text.specs.Lines.{heading, line, lines}
-use Rattle.words.proofs.Putting.{put-none, _then_}
+use Rattle.words.proofs.Putting.{_then_, joined-none, joined-more}
+use Rattle.report.specs.Lines.{heading}
 use Rattle.report.specs.Output.{linesAt, blockLines, spectra}
 use Rattle.report.specs.Puts.{Printable, PutFrom}
 
@@ -40,16 +40,6 @@ module _ (i : ℕ) {N allowance : ℕ} {a b real imaginary scratch real′ imagi
     allowance = omega (arith, e (block a (i * N)) (block b (i * N)));
     range = ((λ j _ l. p .rangeOfA j l), ((λ j _ l. p .rangeOfB j l), tt));
   }) accepted)
-
--- ---- equal coefficients have equal lines
-pub lines-same : (i : ℕ) (f f′ g g′ : Samples) (n : ℕ) → ((k : ℕ) → k < n → f k ≡ f′ k) → ((k : ℕ) → k < n → g k ≡ g′ k)
-    → lines i f g n ≡ lines i f′ g′ n
-unfolding lines
-lines-same i f f′ g g′ zero e d = refl
-lines-same i f f′ g g′ (suc n) e d =
-    ap₂ _++_
-    (lines-same i f f′ g g′ n (λ k h. e k (omega arith)) (λ k h. d k (omega arith)))
-    (ap₂ (line i n) (e n (omega arith)) (d n (omega arith)))
 
 -- ---- the number of a block, and the lines of all blocks up to it, are small
 pub some-samples : (N : ℕ) → isLength N ≡ true → 1 ≤ N
@@ -68,17 +58,15 @@ next-block i N = rw add-one (suc-mul i N)
 module _ (N : ℕ) (a b : Samples) {at : ℕ} {page : List ℕ} {real imaginary scratch : List ℤ} where
   pub no-blocks : at ≤ length page
       → PutFrom page at (blockLines N a b 0) (34 * (0 * N)) at page real imaginary scratch real imaginary scratch
-  unfolding blockLines
-  no-blocks h = record { put = put-none h; fits = omega arith; realWords = refl; imaginaryWords = refl; scratchWords = refl }
+  no-blocks h = record { put = joined-none _ h; fits = omega arith; realWords = refl; imaginaryWords = refl; scratchWords = refl }
 
   pub one-more : (i : ℕ) {next next′ : ℕ} {page′ page″ : List ℕ} {real′ imaginary′ scratch′ real″ imaginary″ scratch″ : List ℤ}
       → PutFrom page at (blockLines N a b i) (34 * (i * N)) next page′ real imaginary scratch real′ imaginary′ scratch′
       → PutFrom page′ next (linesAt N a b i) (34 * N) next′ page″ real′ imaginary′ scratch′ real″ imaginary″ scratch″
       → PutFrom page at (blockLines N a b (i + 1)) (34 * ((i + 1) * N)) next′ page″ real imaginary scratch
       real″ imaginary″ scratch″
-  unfolding blockLines
   one-more i p q = record {
-    put = rw add-one (p .put then q .put);
+    put = joined-more _ i (p .put) (q .put);
     fits = omega (arith, p .fits, q .fits, next-block i N);
     realWords = q .realWords ∙ p .realWords;
     imaginaryWords = q .imaginaryWords ∙ p .imaginaryWords;

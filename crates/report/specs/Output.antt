@@ -1,15 +1,16 @@
 -- Document 01, "The pair file": all that `pairspec` prints, as bytes, from the bytes of the file.
 use mathlib.Core.List.{List, [], _∷_, _++_}
 use mathlib.Core.Path.{_≡_}
-use Prim.Native.Nat.{ℕ, zero, suc, _+_, _*_, _/_}
+use Prim.Native.Nat.{ℕ, _+_, _*_, _/_}
 use lib.ListN.{take}
 use Rattle.words.specs.Words.{Samples}
+use Rattle.words.specs.Put.{joined}
 use Rattle.lengths.specs.Block.{level}
 use Rattle.ffct.specs.Transforms.{PairSpectrum, pair}
 use Rattle.refusals.specs.Refusals.{Verdict, refused, refusedAt, accepted}
-use Rattle.text.specs.Lines.{heading, refusal, lines}
 use Rattle.pairfile.specs.File.{sampleCount, blockLength, samplesOfA, samplesOfB, mostSamples, fileVerdict}
 use Rattle.pairfile.specs.Laws.{firstBytes}
+use Rattle.report.specs.Lines.{heading, refusal, lines}
 
 -- block number i of two recordings, by Pair
 abbrev pub pairAt : ℕ → Samples → Samples → ℕ → PairSpectrum
@@ -19,9 +20,8 @@ pairAt N a b i = pair (level N) (λ n. a (i * N + n)) (λ n. b (i * N + n))
 abbrev pub linesAt : ℕ → Samples → Samples → ℕ → List ℕ
 linesAt N a b i = lines i (pairAt N a b i .real) (pairAt N a b i .imaginary) N
 
-unfoldable pub blockLines : ℕ → Samples → Samples → ℕ → List ℕ
-blockLines N a b zero = []
-blockLines N a b (suc i) = blockLines N a b i ++ linesAt N a b i
+abbrev pub blockLines : ℕ → Samples → Samples → ℕ → List ℕ
+blockLines N a b count = joined (linesAt N a b) count
 
 -- "A tail shorter than N is left out of the blocks; if m is below N there is no block."
 abbrev pub blockCount : ℕ → ℕ → ℕ

@@ -1,13 +1,15 @@
 // All that `pairspec` prints, put into a lent page.
+mod lines;
+
+use crate::lines::put_heading;
+use crate::lines::put_lines;
+use crate::lines::put_refusal;
 use pairfile::reader::number_of;
 use pairfile::reader::read;
 use pairfile::reader::sizes_of;
 use spectra::CountsAnswer;
 use spectra::count_query;
 use spectra::pair;
-use text::put_heading;
-use text::put_lines;
-use text::put_refusal;
 ghost use mathlib.Core.Bool.{true};
 ghost use mathlib.Core.Path.{_≡_};
 ghost use Prim.Native.Nat.{_+_, _*_, _/_, _≤_, _<_};
@@ -15,6 +17,7 @@ ghost use lib.ListN.{length};
 ghost use Rattle.words.specs.Words.{Samples, word};
 ghost use Rattle.lengths.specs.Block.{isLength, level};
 ghost use Rattle.ffct.specs.Transforms.{pair as pairOf};
+ghost use Rattle.refusals.specs.Refusals.{scratchWords};
 ghost use Rattle.report.specs.Output.{linesAt, spectra};
 ghost use Rattle.report.specs.Puts.{Printable, PutFrom, OutputPut};
 
@@ -92,7 +95,7 @@ pub fn put_output(
     page: &mut [u8],
 ) -> usize
     requires { ⌜ (length (now a) ≡ 4096) × (length (now b) ≡ 4096)
-        × (1024 ≤ length (now real)) × (1024 ≤ length (now imaginary)) × (8256 ≤ length (now scratch))
+        × (1024 ≤ length (now real)) × (1024 ≤ length (now imaginary)) × (scratchWords 1024 ≤ length (now scratch))
         × (139278 ≤ length (now page)) ⌝ }
     ensures { λ r. ⌜ OutputPut (now (file .entry)) (now (page .entry)) r (now (page .exit))
         (now (a .entry)) (now (b .entry)) (now (real .entry)) (now (imaginary .entry)) (now (scratch .entry))

@@ -3,6 +3,8 @@
 use counts::tally::Tally;
 use libc::STDOUT_FILENO;
 use refusals::call::Refusal;
+use refusals::length::MOST_SCRATCH;
+use refusals::length::scratch_words;
 use spectra::Answer;
 use spectra::CountsAnswer;
 use spectra::cosine;
@@ -14,8 +16,9 @@ use test_rows::random_sample;
 use test_rows::write_count;
 use test_rows::write_words;
 ghost use mathlib.Core.Path.{_≡_};
-ghost use Prim.Native.Nat.{_≤_};
+ghost use Prim.Native.Nat.{_+_, _≤_};
 ghost use lib.ListN.{length};
+ghost use Rattle.refusals.specs.Refusals.{scratchWords};
 
 // ---- what is written
 
@@ -137,11 +140,14 @@ fn row(value: i32) -> [i32; 1040]
     [value; 1040]
 }
 
+// The most words of scratch that are lent: two to spare.
+const MOST_LENT: usize = MOST_SCRATCH + 2;
+
 // Scratch as it is before a call.
-fn scratch_words() -> [i64; 8260]
-    ensures { λ r. ⌜ 8260 ≡ length r ⌝ }
+fn scratch_row() -> [i64; MOST_LENT]
+    ensures { λ r. ⌜ scratchWords 1024 + 2 ≡ length r ⌝ }
 {
-    [90; 8260]
+    [90; MOST_LENT]
 }
 
 fn write_buffers(first: &[i32], second: &[i32], scratch: &[i64]) {
@@ -184,11 +190,11 @@ fn write_call(
 }
 
 fn run_call(call: Call, a: &[i32], b: &[i32], case: Case)
-    requires { ⌜ (case .first ≤ 1040) × (case .second ≤ 1040) × (case .scratch ≤ 8260) ⌝ }
+    requires { ⌜ (case .first ≤ 1040) × (case .second ≤ 1040) × (case .scratch ≤ scratchWords 1024 + 2) ⌝ }
 {
     let mut firsts = row(70);
     let mut seconds = row(80);
-    let mut scratch = scratch_words();
+    let mut scratch = scratch_row();
     let first = case.first;
     let second = case.second;
     let words = case.scratch;
@@ -204,7 +210,7 @@ fn run_call(call: Call, a: &[i32], b: &[i32], case: Case)
 }
 
 fn run_calls(a: &[i32], b: &[i32], case: Case)
-    requires { ⌜ (case .first ≤ 1040) × (case .second ≤ 1040) × (case .scratch ≤ 8260) ⌝ }
+    requires { ⌜ (case .first ≤ 1040) × (case .second ≤ 1040) × (case .scratch ≤ scratchWords 1024 + 2) ⌝ }
 {
     run_call(Call::Spectrum, a, b, case);
     run_call(Call::Cosine, a, b, case);
@@ -239,7 +245,7 @@ fn run_roomy(a: &[i32], b: &[i32], start: usize, length: usize, allowance: u64) 
         allowance,
         first: room + 2,
         second: room + 3,
-        scratch: 8 * room + 66,
+        scratch: scratch_words(room) + 2,
     };
     run_calls(a, b, case);
 }
@@ -280,13 +286,14 @@ fn run_refusals(i: usize, j: usize) {
     let b = [-2000000, -2000000, 6, y, 6, 6, 6, 6, 6, 6];
     let lent_a = pick(2, i, j, 10, 7);
     let lent_b = pick(3, i, j, 10, 7);
+    let enough = scratch_words(8);
     let case = Case {
         start: 2,
         length: pick(1, i, j, 8, 6),
         allowance: pick(7, i, j, 100, 1) as u64,
         first: pick(4, i, j, 8, 3),
         second: pick(5, i, j, 8, 3),
-        scratch: pick(6, i, j, 128, 103),
+        scratch: pick(6, i, j, enough, enough - 25),
     };
     run_calls(&a[0..lent_a], &b[0..lent_b], case);
 }

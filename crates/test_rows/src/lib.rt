@@ -1,6 +1,6 @@
 // What the test programs write: numbers with a blank before each, and rows of words; and samples for them.
 use libc::STDOUT_FILENO;
-use text::magnitude;
+use whole::size_of_small;
 
 pub fn write_count(value: u64) {
     io::write_all(STDOUT_FILENO, b" ");
@@ -13,14 +13,14 @@ pub fn write_number(value: i32) {
     } else {
         io::write_all(STDOUT_FILENO, b" ");
     }
-    io::print_decimal(STDOUT_FILENO, magnitude(value));
+    io::print_decimal(STDOUT_FILENO, size_of_small(value));
 }
 
 const PRIME: u64 = 4294967291;
 
 // One more word of a digest: 2^31 more than the word, modulo the prime.
 pub fn digested(digest: u64, word: i32) -> u64 {
-    let size = magnitude(word) % PRIME;
+    let size = size_of_small(word) % PRIME;
     let residue = if word < 0 { PRIME - size } else { size };
     (digest % PRIME * 65599 + 2147483648 + residue % PRIME) % PRIME
 }

@@ -1,5 +1,5 @@
--- The digits of a number (`number` and `decimal` of specs/Decimal): those that `io::decimal` writes, the sign, how wide numbers and lines
--- are, and that a number is read back from its digits. Assumes nothing.
+-- The digits of a number (`number` and `decimal` of specs/Decimal): those that `io::decimal` writes, the sign, how wide numbers are,
+-- and that a number is read back from its digits. Assumes nothing.
 use mathlib.Core.Path.{_≡_, refl, ap, ap₂}
 use mathlib.Core.Bool.{true, false, true≢false}
 use mathlib.Core.List.{List, [], _∷_, _++_, List·Memᴰ, List·Memᴰ·append-cases, List·Memᴰ·eq-of-singleton}
@@ -17,7 +17,6 @@ use mir.Val.{SFits}
 use Rattle.whole.proofs.Cases.{le-or-lt}
 use Rattle.io.specs.Digits.{digits, glyph, Fewest}
 use Rattle.text.specs.Decimal.{digit, spelled, number, decimal}
-use Rattle.text.specs.Lines.{line}
 
 -- ---- the digits of a number below 10, and of a larger one
 
@@ -74,7 +73,7 @@ unfolding decimal
 decimal-natural (pos n) h = refl
 decimal-natural (negsuc n) h = absurd (true≢false h)
 
--- ---- how wide numbers and lines are
+-- ---- how wide numbers are
 
 spelled-length : (f d n : ℕ) → n < 10 ^ suc d → length (spelled f n) ≤ suc d
 spelled-length zero d n h = unfold spelled in omega arith
@@ -94,12 +93,6 @@ pub decimal-length : (x : ℤ) → SFits w32 x → length (decimal x) ≤ 11
 unfolding decimal
 decimal-length (pos n) f = omega (arith, number-length 9 n (omega (arith, f .sfits)))
 decimal-length (negsuc n) f = omega (arith, number-length 9 (suc n) (omega (arith, f .sfits)))
-
-pub line-length :
-    {block k : ℕ} (re im : ℤ) → block < 10000 → k < 10000 → SFits w32 re → SFits w32 im → length (line block k re im) ≤ 34
-unfolding line
-line-length {block} {k} re im b c f g =
-    simp length-append (omega (arith, number-length 3 block b, number-length 3 k c, decimal-length re f, decimal-length im g))
 
 -- ---- a number is read back from its digits
 

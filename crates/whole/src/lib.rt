@@ -34,6 +34,13 @@ pub fn size_of(z: i64) -> u64
     z as u64
 }
 
+// The same of a number of 32 bits.
+pub fn size_of_small(x: i32) -> u64
+    ensures { λ r. ⌜ r ≡ natAbs x ⌝ }
+{
+    size_of(x as i64)
+}
+
 // The larger of two numbers.
 pub fn larger(a: u64, b: u64) -> u64
     ensures { λ r. ⌜ r ≡ max a b ⌝ }

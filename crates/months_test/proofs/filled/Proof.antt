@@ -3,13 +3,14 @@ use mathlib.Core.Path.{_≡_}
 use Prim.Native.Nat.{_-_}
 use lib.ListN.{length as List·length}
 use borrow.Author.Needs.{needs}
+use Rattle.refusals.specs.Refusals.{scratchWords}
 use Rattle.months.specs.Promises.{Held}
 use Rattle.months_test.proofs.filled.Statement.{statement}
 use Rattle.months_test.proofs.filled.Tie as tie
 
 abbrev Inv-loop : tie.InvT-loop
 Inv-loop recording length blocks cosine₀ sine₀ scratch₀ next₀ i₀ cosine sine scratch next i =
-    (2100 ≡ List·length cosine) × (2100 ≡ List·length sine) × (8256 ≡ List·length scratch) × Held next
+    (2100 ≡ List·length cosine) × (2100 ≡ List·length sine) × (scratchWords 1024 ≡ List·length scratch) × Held next
 
 abbrev μ-loop : tie.MeasureT-loop
 μ-loop recording length blocks cosine₀ sine₀ scratch₀ next₀ i₀ cosine sine scratch next i = blocks - i

@@ -3,7 +3,8 @@ use native.Mathlib.Omega.{arith}
 use borrow.Author.Needs.{needs}
 use Rattle.words.proofs.Writing.{front}
 use Rattle.lengths.proofs.ElevenLengths.{length-le}
-use Rattle.report.proofs.Printing.{pair-done, lines-same, few-blocks}
+use Rattle.report.proofs.LineRuns.{lines-same}
+use Rattle.report.proofs.Printing.{pair-done, few-blocks}
 use Rattle.report.proofs.put_block.Statement.{statement}
 use Rattle.report.proofs.put_block.Tie as tie
 

@@ -8,7 +8,7 @@ pub put-decimal-spec : {M : Type 1} → statement M
 put-decimal-spec =
     tie.close
     (tie.spec
-    (λ c κs. search needs)  -- magnitude-requires
+    (λ c κs. search needs)  -- size-of-small-requires
     (λ c. search needs)  -- slice-aggregate-put
     (λ c κs. search (needs, sign-ready))  -- put-requires
     (λ c κs. search (needs, size-ready))  -- put-number-requires

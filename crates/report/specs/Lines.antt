@@ -1,15 +1,10 @@
 -- Document 01, "The pair file": the lines that `pairspec` prints, as bytes. "Every line printed ends in one line feed."
 use mathlib.Core.List.{List, [], _∷_, _++_}
-use Prim.Native.Nat.{ℕ, zero, suc}
+use Prim.Native.Nat.{ℕ}
 use lib.IntN.{ℤ}
 use Rattle.words.specs.Words.{Samples}
-use Rattle.text.specs.Decimal.{number, decimal}
-
-abbrev pub space : List ℕ
-space = 32 ∷ []
-
-abbrev pub lineFeed : List ℕ
-lineFeed = 10 ∷ []
+use Rattle.words.specs.Put.{joined}
+use Rattle.text.specs.Decimal.{space, lineFeed, number, decimal}
 
 -- "the line `block k re im`": b l o c k, k, r e, i m, with spaces (32) between them, and the line feed
 abbrev pub heading : List ℕ
@@ -24,6 +19,5 @@ unfoldable pub line : ℕ → ℕ → ℤ → ℤ → List ℕ
 line block k re im = number block ++ space ++ number k ++ space ++ decimal re ++ space ++ decimal im ++ lineFeed
 
 -- the lines of a block, for k = 0 .. n - 1
-unfoldable pub lines : ℕ → Samples → Samples → ℕ → List ℕ
-lines block re im zero = []
-lines block re im (suc k) = lines block re im k ++ line block k (re k) (im k)
+abbrev pub lines : ℕ → Samples → Samples → ℕ → List ℕ
+lines block re im n = joined (λ k. line block k (re k) (im k)) n

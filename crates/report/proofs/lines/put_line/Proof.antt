@@ -1,8 +1,8 @@
--- `text::put_line` meets its contract: its four numbers and what ends them are the line. Assumes nothing.
+-- `report::lines::put_line` meets its contract: its four numbers and what ends them are the line. Assumes nothing.
 use borrow.Author.Needs.{needs}
-use Rattle.text.proofs.Runs.{block-ready, k-ready, re-ready, im-ready, line-put}
-use Rattle.text.proofs.put_line.Statement.{statement}
-use Rattle.text.proofs.put_line.Tie as tie
+use Rattle.report.proofs.LineRuns.{block-ready, k-ready, re-ready, im-ready, line-put}
+use Rattle.report.proofs.lines.put_line.Statement.{statement}
+use Rattle.report.proofs.lines.put_line.Tie as tie
 
 pub put-line-spec : {M : Type 1} → statement M
 put-line-spec =

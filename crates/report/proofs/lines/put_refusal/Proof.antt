@@ -1,8 +1,8 @@
--- `text::put_refusal` meets its contract: the word, the one digit and the line feed. Assumes nothing.
+-- `report::lines::put_refusal` meets its contract: the word, the one digit and the line feed. Assumes nothing.
 use borrow.Author.Needs.{needs}
-use Rattle.text.proofs.Runs.{digit-ready, refusal-put}
-use Rattle.text.proofs.put_refusal.Statement.{statement}
-use Rattle.text.proofs.put_refusal.Tie as tie
+use Rattle.report.proofs.LineRuns.{digit-ready, refusal-put}
+use Rattle.report.proofs.lines.put_refusal.Statement.{statement}
+use Rattle.report.proofs.lines.put_refusal.Tie as tie
 
 pub put-refusal-spec : {M : Type 1} → statement M
 put-refusal-spec =

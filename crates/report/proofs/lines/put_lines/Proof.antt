@@ -1,10 +1,10 @@
--- `text::put_lines` meets its contract: after k turns the first k lines are put. Assumes nothing.
+-- `report::lines::put_lines` meets its contract: after k turns the first k lines are put. Assumes nothing.
 use Prim.Native.Nat.{_-_, _≤_}
 use borrow.Author.Needs.{needs}
 use Rattle.words.specs.Words.{word}
-use Rattle.text.proofs.Runs.{LinesPut, no-lines, line-ready, line-more, all-lines}
-use Rattle.text.proofs.put_lines.Statement.{statement}
-use Rattle.text.proofs.put_lines.Tie as tie
+use Rattle.report.proofs.LineRuns.{LinesPut, no-lines, line-ready, line-more, all-lines}
+use Rattle.report.proofs.lines.put_lines.Statement.{statement}
+use Rattle.report.proofs.lines.put_lines.Tie as tie
 
 abbrev Inv-loop : tie.InvT-loop
 Inv-loop block real imaginary n page₀ at next₀ k₀ page next k =
