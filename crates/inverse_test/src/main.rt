@@ -1,9 +1,10 @@
 // Runs the inverse DCT on stored coefficients, and writes what it answers and what then stands in its buffer. The file stdout beside src/
 // was made by tests/inverse.py, which shares nothing with the product.
 use inverse::inverse_dct;
-use inverse::number_of;
-use inverse::place_of;
 use libc::STDOUT_FILENO;
+use refusals::refusal::Outcome;
+use refusals::refusal::number_of;
+use refusals::refusal::place_of;
 use test_rows::write_count;
 use test_rows::write_words;
 ghost use mathlib.Core.Path.{_≡_};
@@ -19,12 +20,25 @@ fn row(value: i32) -> [i32; 1040]
     [value; 1040]
 }
 
-// The number and the place of every answer, then the words lent.
+// The number and the place of every answer.
+fn write_answer(answer: Outcome) {
+    match answer {
+        Outcome::Refused(refusal) => {
+            write_count(number_of(refusal) as u64);
+            write_count(place_of(refusal) as u64);
+        }
+        Outcome::Accepted => {
+            write_count(0);
+            write_count(0);
+        }
+    }
+}
+
+// The answer, then the words lent.
 fn write_call(coefficients: &[i32], length: usize, values: &mut [i32]) {
     let answer = inverse_dct(coefficients, length, values);
     io::write_all(STDOUT_FILENO, b"inverse");
-    write_count(number_of(answer) as u64);
-    write_count(place_of(answer) as u64);
+    write_answer(answer);
     write_words(values);
     io::write_all(STDOUT_FILENO, b"\n");
 }

@@ -55,7 +55,13 @@ pub fn tell_mark(answer: MarkAnswer, told: &mut [u64; 5]) -> u32
             number_of(refusal)
         }
         MarkAnswer::Marked(mark, tally) => {
-            *told = [tally.products, tally.sums, tally.largest_rest, 0, number_of_mark(mark)];
+            *told = [
+                tally.products,
+                tally.sums,
+                tally.largest_rest,
+                0,
+                number_of_mark(mark),
+            ];
             0
         }
     }

@@ -7,7 +7,7 @@ use native.Mathlib.Omega.{arith}
 use lib.IntN.{ℤ}
 use lib.ListN.{length, length-append}
 use mir.Syntax.{w32}
-use mir.Val.{SFits}
+use mir.Val.{Fits, SFits}
 use mir.Facts.{toZ-ofZ}
 use Rattle.words.specs.Words.{Samples}
 use Rattle.words.specs.Put.{Put}
@@ -23,10 +23,11 @@ unfolding line
 line-length {block} {k} re im b c f g =
     simp length-append (omega (arith, number-length 3 block b, number-length 3 k c, decimal-length re f, decimal-length im g))
 
--- ---- a refusal: the word, one digit and the line feed
-pub digit-ready : (n at r : ℕ) (word page page₁ : List ℕ) → n < 10 → at + 10 ≤ length page → Put page at word r page₁ → length word ≤ 8
-    → r + length (number n ++ lineFeed) ≤ length page₁
-digit-ready n at r word page page₁ digit room put short = omega (arith, number-length 0 n digit, length-append (number n) lineFeed)
+-- ---- a refusal: the word, a number of 32 bits and the line feed
+pub number-ready : (n at r : ℕ) (word page page₁ : List ℕ) → Fits w32 n → at + 19 ≤ length page → Put page at word r page₁
+    → length word ≤ 8 → r + length (number n ++ lineFeed) ≤ length page₁
+number-ready n at r word page page₁ fits room put short =
+    omega (arith, number-length 9 n (omega (arith, fits)), length-append (number n) lineFeed)
 
 pub refusal-put : (n : ℕ) {at r q : ℕ} {page page₁ page₂ : List ℕ}
     → Put page at (114 ∷ 101 ∷ 102 ∷ 117 ∷ 115 ∷ 101 ∷ 100 ∷ 32 ∷ []) r page₁ → Put page₁ r (number n ++ lineFeed) q page₂

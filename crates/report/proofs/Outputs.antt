@@ -1,7 +1,7 @@
 -- The whole output: that of a file that is turned down, and that of a file that was read, from the recordings that hold its samples.
 -- Assumes nothing.
 use mathlib.Core.Bool.{true}
-use mathlib.Core.Path.{_≡_, refl, sym, ap, ap₂, _∙_}
+use mathlib.Core.Path.{_≡_, refl, sym, ap, ap₂, subst, _∙_}
 use mathlib.Core.List.{List, [], _∷_, _++_}
 use Prim.Native.Nat.{ℕ, _+_, _*_, _/_, _≤_, _<_}
 use native.Mathlib.Nat.{mul-le-mul-right}
@@ -15,13 +15,16 @@ use Rattle.lengths.specs.Block.{isLength, level}
 use Rattle.lengths.proofs.Lengths.{pow-len}
 use Rattle.lengths.proofs.ElevenLengths.{is-power, length-le}
 use Rattle.ffct.proofs.Blocks.{pair-same}
-use Rattle.refusals.specs.Refusals.{Verdict, refused, refusedAt, accepted, number, scratchWords}
+use Rattle.refusals.specs.declared.refusal.Refusal.{Refusal}
+use Rattle.refusals.specs.Refusals.{Verdict, refusedAt, accepted, number, scratchWords}
+use Rattle.refusals.specs.Answers as refused
+use Rattle.refusals.proofs.Promises.{refuses}
 use Rattle.words.specs.Put.{Put}
-use Rattle.pairfile.specs.declared.reader.FileAnswer.{FileAnswer}
-use Rattle.pairfile.specs.declared.reader.FileAnswer.the-variants.{BelowHeader, BadCount, BadFileLength, BadLength}
-use Rattle.pairfile.specs.declared.reader.FileAnswer.the-variants.{RecordingTooShort, OutOfRange, Read}
+use Rattle.pairfile.specs.declared.reader.Sizes.{Sizes}
+use Rattle.pairfile.specs.declared.reader.ReadAnswer.{ReadAnswer}
+use Rattle.pairfile.specs.declared.reader.ReadAnswer.the-variants.{Refused, Read}
 use Rattle.pairfile.specs.File.{sampleCount, blockLength, samplesOfA, samplesOfB, mostSamples, fileVerdict}
-use Rattle.pairfile.specs.ReadAnswers.{verdictOf, sampleCountOf, blockLengthOf}
+use Rattle.pairfile.specs.Answers.{verdictOf}
 use Rattle.pairfile.specs.Promises.{ReadDone, ReadPromise}
 use Rattle.pairfile.specs.Laws.{firstBytes}
 use Rattle.pairfile.proofs.Longer.{longer}
@@ -29,20 +32,6 @@ use Rattle.report.specs.Lines.{heading, refusal, lines}
 use Rattle.report.specs.Output.{pairAt, blockLines, spectra, printed, output, LongerOutput}
 use Rattle.report.specs.Puts.{Printable, PutFrom, OutputPut}
 use Rattle.report.proofs.Printing.{whole-blocks, next-block}
-
--- ---- the number of an answer has one digit, and is 0 for acceptance alone
-pub record Numbered (v : Verdict) : Type 0 where
-  pub small : number v < 10
-  pub none : number v ≡ 0 → v ≡ accepted
-
-pub numbered : (answer : FileAnswer) → Numbered (verdictOf answer)
-numbered BelowHeader = record { small = omega arith; none = λ e. absurd (omega arith) }
-numbered BadCount = record { small = omega arith; none = λ e. absurd (omega arith) }
-numbered BadFileLength = record { small = omega arith; none = λ e. absurd (omega arith) }
-numbered BadLength = record { small = omega arith; none = λ e. absurd (omega arith) }
-numbered RecordingTooShort = record { small = omega arith; none = λ e. absurd (omega arith) }
-numbered (OutOfRange place) = record { small = omega arith; none = λ e. absurd (omega arith) }
-numbered (Read sizes) = record { small = omega arith; none = λ e. refl }
 
 -- ---- equal recordings have equal lines
 module _ {m : ℕ} (N : ℕ) (ok : isLength N ≡ true) (a a′ b b′ : Samples)
@@ -61,91 +50,92 @@ module _ {m : ℕ} (N : ℕ) (ok : isLength N ≡ true) (a a′ b b′ : Samples
 
 -- ---- the output, by the reader's verdict
 module _ (file : List ℕ) where
-  pub refused-output : (v : Verdict) → v ≡ fileVerdict file (mostSamples ∷ mostSamples ∷ []) → (v ≡ accepted → ⊥)
+  refused-output : (v : Verdict) → v ≡ fileVerdict file (mostSamples ∷ mostSamples ∷ []) → (v ≡ accepted → ⊥)
       → output file ≡ refusal (number v)
   unfolding output
-  refused-output (refused n) e never = rw (sym e) refl
   refused-output (refusedAt n place) e never = rw (sym e) refl
   refused-output accepted e never = absurd (never refl)
 
-  pub read-output : {v : Verdict} → v ≡ fileVerdict file (mostSamples ∷ mostSamples ∷ []) → v ≡ accepted
+  read-output : fileVerdict file (mostSamples ∷ mostSamples ∷ []) ≡ accepted
       → output file ≡ spectra (sampleCount file) (blockLength file) (samplesOfA file) (samplesOfB file)
   unfolding output
-  read-output e a = rw (sym e ∙ a) refl
+  read-output e = rw e refl
 
--- ---- a run of `put_output`: the reader's answer and its number, then a refusal's line or the spectra
-module _ (file : List ℕ) (a b a′ b′ : List ℤ) (answer : FileAnswer) (n : ℕ) (r : ReadPromise file a b a′ b′ answer)
-    (is : n ≡ number (verdictOf answer)) where
-  pub one-digit : n < 10
-  one-digit = omega (arith, is, numbered answer .small)
+-- ---- a run of `put_output`: the reader's answer, then a refusal's line or the spectra
+module _ (file : List ℕ) (a b a′ b′ : List ℤ) (answer : ReadAnswer) (r : ReadPromise file a b a′ b′ answer)
+    (ofA : length a ≡ mostSamples) (ofB : length b ≡ mostSamples) where
+  promised : {is : ReadAnswer} → answer ≡ is → ReadPromise file a b a′ b′ is
+  promised e = subst (λ is. ReadPromise file a b a′ b′ is) e r
 
-  module _ (ofA : length a ≡ mostSamples) (ofB : length b ≡ mostSamples) where
-    verdict : verdictOf answer ≡ fileVerdict file (mostSamples ∷ mostSamples ∷ [])
-    verdict = rw (ofA, ofB) at (r .verdict)
+  verdict : {is : ReadAnswer} → answer ≡ is → verdictOf is ≡ fileVerdict file (mostSamples ∷ mostSamples ∷ [])
+  verdict e = rw (ofA, ofB) at (promised e .verdict)
 
-    pub refusal-put : {next : ℕ} {page page′ : List ℕ} {real imaginary scratch : List ℤ} → Put page 0 (refusal n) next page′ → 0 < n
-        → OutputPut file page next page′ a b real imaginary scratch a′ b′ real imaginary scratch
-    refusal-put p some =
-        let never : (verdictOf answer ≡ accepted → ⊥) = λ e. absurd (omega (arith, is, ap number e)) in
+  pub refusal-put : {why : Refusal} → answer ≡ Refused why → {n : ℕ} → n ≡ number (refused.verdictOf why)
+      → {next : ℕ} {page page′ : List ℕ} {real imaginary scratch : List ℤ} → Put page 0 (refusal n) next page′
+      → OutputPut file page next page′ a b real imaginary scratch a′ b′ real imaginary scratch
+  refusal-put {why} e is p =
+      let stay = promised e .unchanged (refuses why) in
+      record {
+        put = rw (refused-output file _ (verdict e) (refuses why)) (rw is at p);
+        wordsOfA = ap length (stay .0);
+        wordsOfB = ap length (stay .1);
+        realWords = refl;
+        imaginaryWords = refl;
+        scratchWords = refl;
+      }
+
+  module _ (sizes : Sizes) (e : answer ≡ Read sizes) where
+    abbrev m : ℕ
+    m = sizes .samples
+
+    abbrev N : ℕ
+    N = sizes .length
+
+    done : ReadDone file a b a′ b′ m N
+    done = promised e .done refl
+
+    pub spectra-room : (page : List ℕ) → 139278 ≤ length page → 14 + 34 * m ≤ length page
+    spectra-room page room = omega (arith, done .sound .most)
+
+    pub spectra-ready : {real imaginary scratch : List ℤ} → 1024 ≤ length real → 1024 ≤ length imaginary
+        → scratchWords 1024 ≤ length scratch → Printable m N a′ b′ real imaginary scratch
+    spectra-ready h i j =
+        let short = length-le N (done .sound .length-ok) in
         record {
-          put = rw (refused-output file (verdictOf answer) verdict never) (rw is at p);
-          wordsOfA = ap length (r .unchanged never .0);
-          wordsOfB = ap length (r .unchanged never .1);
-          realWords = refl;
-          imaginaryWords = refl;
-          scratchWords = refl;
+          length-ok = done .sound .length-ok;
+          most = done .sound .most;
+          wordsOfA = omega (arith, done .sound .most, done .wordsOfA .len);
+          wordsOfB = omega (arith, done .sound .most, done .wordsOfB .len);
+          rangeOfA = λ n l. rw (front (done .wordsOfA) n l) (done .sound .rangeOfA n l);
+          rangeOfB = λ n l. rw (front (done .wordsOfB) n l) (done .sound .rangeOfB n l);
+          realWords = omega arith;
+          imaginaryWords = omega arith;
+          scratchFits = omega arith;
         }
 
-    module _ (m N : ℕ) (samples : m ≡ sampleCountOf answer) (blocks : N ≡ blockLengthOf answer) (none : n ≤ 0) where
-      accepts : verdictOf answer ≡ accepted
-      accepts = numbered answer .none (omega (arith, is))
+    read-spectra : spectra m N (word a′) (word b′) ≡ spectra (sampleCount file) (blockLength file) (samplesOfA file) (samplesOfB file)
+    read-spectra =
+        let ok = done .sound .length-ok in
+        let same = same-blocks N ok (word a′) (samplesOfA file) (word b′) (samplesOfB file)
+        (front (done .wordsOfA))
+        (front (done .wordsOfB)) in
+        ap (λ l. heading ++ l) (same (m / N) (whole-blocks (m / N) m N ok (omega arith)))
+        ∙ ap₂ (λ m N. spectra m N (samplesOfA file) (samplesOfB file)) (done .samples-is) (done .length-is)
 
-      done : ReadDone file a b a′ b′ m N
-      done = rw (samples, blocks) (r .done accepts)
-
-      pub spectra-room : (page : List ℕ) → 139278 ≤ length page → 14 + 34 * m ≤ length page
-      spectra-room page room = omega (arith, done .sound .most)
-
-      pub spectra-ready : {real imaginary scratch : List ℤ} → 1024 ≤ length real → 1024 ≤ length imaginary
-          → scratchWords 1024 ≤ length scratch → Printable m N a′ b′ real imaginary scratch
-      spectra-ready h i j =
-          let short = length-le N (done .sound .length-ok) in
-          record {
-            length-ok = done .sound .length-ok;
-            most = done .sound .most;
-            wordsOfA = omega (arith, done .sound .most, done .wordsOfA .len);
-            wordsOfB = omega (arith, done .sound .most, done .wordsOfB .len);
-            rangeOfA = λ n l. rw (front (done .wordsOfA) n l) (done .sound .rangeOfA n l);
-            rangeOfB = λ n l. rw (front (done .wordsOfB) n l) (done .sound .rangeOfB n l);
-            realWords = omega arith;
-            imaginaryWords = omega arith;
-            scratchFits = omega arith;
-          }
-
-      read-spectra : spectra m N (word a′) (word b′) ≡ spectra (sampleCount file) (blockLength file) (samplesOfA file) (samplesOfB file)
-      read-spectra =
-          let ok = done .sound .length-ok in
-          let same = same-blocks N ok (word a′) (samplesOfA file) (word b′) (samplesOfB file)
-          (front (done .wordsOfA))
-          (front (done .wordsOfB)) in
-          ap (λ l. heading ++ l) (same (m / N) (whole-blocks (m / N) m N ok (omega arith)))
-          ∙ ap₂ (λ m N. spectra m N (samplesOfA file) (samplesOfB file)) (done .samples-is) (done .length-is)
-
-      pub spectra-put : {most next : ℕ} {page page′ : List ℕ} {real imaginary scratch real′ imaginary′ scratch′ : List ℤ}
-          → PutFrom page 0 (spectra m N (word a′) (word b′)) most next page′ real imaginary scratch real′ imaginary′ scratch′
-          → OutputPut file page next page′ a b real imaginary scratch a′ b′ real′ imaginary′ scratch′
-      spectra-put p = record {
-        put = rw (read-output file verdict accepts ∙ sym read-spectra) (p .put);
-        wordsOfA = done .wordsOfA .len;
-        wordsOfB = done .wordsOfB .len;
-        realWords = p .realWords;
-        imaginaryWords = p .imaginaryWords;
-        scratchWords = p .scratchWords;
-      }
+    pub spectra-put : {most next : ℕ} {page page′ : List ℕ} {real imaginary scratch real′ imaginary′ scratch′ : List ℤ}
+        → PutFrom page 0 (spectra m N (word a′) (word b′)) most next page′ real imaginary scratch real′ imaginary′ scratch′
+        → OutputPut file page next page′ a b real imaginary scratch a′ b′ real′ imaginary′ scratch′
+    spectra-put p = record {
+      put = rw (read-output file (sym (verdict e)) ∙ sym read-spectra) (p .put);
+      wordsOfA = done .wordsOfA .len;
+      wordsOfB = done .wordsOfB .len;
+      realWords = p .realWords;
+      imaginaryWords = p .imaginaryWords;
+      scratchWords = p .scratchWords;
+    }
 
 -- ---- the output for a longer file is that for its first 32,777 bytes, which `pairspec` reads
 same-print : (v : Verdict) (f g : List ℕ) → (v ≡ accepted → f ≡ g) → printed f v ≡ printed g v
-same-print (refused n) f g e = refl
 same-print (refusedAt n place) f g e = refl
 same-print accepted f g e = ap (λ f. printed f accepted) (e refl)
 

@@ -7,7 +7,7 @@ use Rattle.words.specs.Words.{Samples}
 use Rattle.words.specs.Put.{joined}
 use Rattle.lengths.specs.Block.{level}
 use Rattle.ffct.specs.Transforms.{PairSpectrum, pair}
-use Rattle.refusals.specs.Refusals.{Verdict, refused, refusedAt, accepted}
+use Rattle.refusals.specs.Refusals.{Verdict, refusedAt, accepted}
 use Rattle.pairfile.specs.File.{sampleCount, blockLength, samplesOfA, samplesOfB, mostSamples, fileVerdict}
 use Rattle.pairfile.specs.Laws.{firstBytes}
 use Rattle.report.specs.Lines.{heading, refusal, lines}
@@ -32,7 +32,6 @@ spectra m N a b = heading ++ blockLines N a b (blockCount m N)
 
 -- "For a refusal it prints one line only": the number alone, also for 6
 abbrev pub printed : List ℕ → Verdict → List ℕ
-printed file (refused number) = refusal number
 printed file (refusedAt number place) = refusal number
 printed file accepted = spectra (sampleCount file) (blockLength file) (samplesOfA file) (samplesOfB file)
 

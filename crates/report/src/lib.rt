@@ -4,9 +4,9 @@ mod lines;
 use crate::lines::put_heading;
 use crate::lines::put_lines;
 use crate::lines::put_refusal;
-use pairfile::reader::number_of;
+use pairfile::reader::ReadAnswer;
 use pairfile::reader::read;
-use pairfile::reader::sizes_of;
+use refusals::refusal::number_of;
 use spectra::CountsAnswer;
 use spectra::count_query;
 use spectra::pair;
@@ -28,7 +28,7 @@ fn pair_products(n: usize) -> u64
 {
     match count_query(n) {
         CountsAnswer::Counted(counts) => counts.pair.products,
-        CountsAnswer::BadLength => 0,
+        CountsAnswer::Refused(_) => 0,
     }
 }
 
@@ -102,19 +102,17 @@ pub fn put_output(
         (now (a .exit)) (now (b .exit)) (now (real .exit)) (now (imaginary .exit)) (now (scratch .exit)) ⌝ }
 {
     let answer = read(file, a, b);
-    let number = number_of(answer);
-    if 0 < number {
-        return put_refusal(number as u64, page, 0);
+    match answer {
+        ReadAnswer::Refused(refusal) => put_refusal(number_of(refusal), page, 0),
+        ReadAnswer::Read(sizes) => put_spectra(
+            a,
+            b,
+            sizes.samples,
+            sizes.length,
+            real,
+            imaginary,
+            scratch,
+            page,
+        ),
     }
-    let sizes = sizes_of(answer);
-    put_spectra(
-        a,
-        b,
-        sizes.samples,
-        sizes.length,
-        real,
-        imaginary,
-        scratch,
-        page,
-    )
 }

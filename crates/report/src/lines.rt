@@ -15,12 +15,13 @@ pub fn put_heading(page: &mut [u8], at: usize) -> usize
     put(b"block k re im\n", page, at)
 }
 
-pub fn put_refusal(number: u64, page: &mut [u8], at: usize) -> usize
-    requires { ⌜ (number < 10) × (at + 10 ≤ length (now page)) ⌝ }
+// A number of 32 bits has at most 10 digits.
+pub fn put_refusal(number: u32, page: &mut [u8], at: usize) -> usize
+    requires { ⌜ at + 19 ≤ length (now page) ⌝ }
     ensures { λ r. ⌜ Put (now (page .entry)) at (refusal number) r (now (page .exit)) ⌝ }
 {
     let behind = put(b"refused ", page, at);
-    put_number(number, b"\n", page, behind)
+    put_number(number as u64, b"\n", page, behind)
 }
 
 fn put_line(block: u64, k: u64, re: i32, im: i32, page: &mut [u8], at: usize) -> usize

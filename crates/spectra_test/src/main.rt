@@ -2,9 +2,10 @@
 // src/ was made by tests/spectra.py, which shares nothing with the product.
 use counts::tally::Tally;
 use libc::STDOUT_FILENO;
-use refusals::call::Refusal;
 use refusals::length::MOST_SCRATCH;
 use refusals::length::scratch_words;
+use refusals::refusal::Refusal;
+use refusals::refusal::number_of;
 use spectra::Answer;
 use spectra::CountsAnswer;
 use spectra::cosine;
@@ -32,17 +33,11 @@ fn write_tally(tally: Tally) {
     write_count(tally.largest_rest);
 }
 
+// The number; the place behind it for 6, the one refusal of these calls that has one.
 fn write_refusal(refusal: Refusal) {
-    match refusal {
-        Refusal::BadLength => write_count(1),
-        Refusal::BeyondRecording => write_count(2),
-        Refusal::ResultTooShort => write_count(3),
-        Refusal::ScratchTooShort => write_count(4),
-        Refusal::AllowanceTooSmall => write_count(5),
-        Refusal::OutOfRange(place) => {
-            write_count(6);
-            write_count(place as u64);
-        }
+    write_count(number_of(refusal) as u64);
+    if let Refusal::OutOfRange(place) = refusal {
+        write_count(place as u64);
     }
 }
 
@@ -220,7 +215,7 @@ fn run_calls(a: &[i32], b: &[i32], case: Case)
 fn run_query(length: usize) {
     io::write_all(STDOUT_FILENO, b"counts");
     match count_query(length) {
-        CountsAnswer::BadLength => write_count(1),
+        CountsAnswer::Refused(refusal) => write_count(number_of(refusal) as u64),
         CountsAnswer::Counted(counts) => {
             write_counts(counts.dct.products, counts.dct.sums);
             write_counts(counts.spectrum.products, counts.spectrum.sums);

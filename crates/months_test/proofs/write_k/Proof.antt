@@ -1,6 +1,8 @@
 -- `months_test::write_k` meets its contract: the sums of a month that holds a history are small. Assumes nothing.
+use mathlib.Core.Path.{subst}
 use mir.Facts.{toZ-ofZ}
 use borrow.Author.Needs.{needs, sfits-of}
+use Rattle.months.specs.Promises.{SumsPromise}
 use Rattle.months.proofs.Held.{Small, sums-small}
 use Rattle.months_test.proofs.write_k.Statement.{statement}
 use Rattle.months_test.proofs.write_k.Tie as tie
@@ -8,7 +10,7 @@ use Rattle.months_test.proofs.write_k.Tie as tie
 small : (c : tie.After-sums) → Small (c .sums .given .0 .0)
 small c =
     let told = c .before .before in
-    rw (c .sums .given .1) at (sums-small (told .before .before .pre) _ (told .sums-at .ensures))
+    sums-small (told .before .before .pre) _ (subst (SumsPromise _ _) (c .sums .given .1) (told .sums-at .ensures))
 
 pub write-k-spec : {M : Type 1} → statement M
 write-k-spec =

@@ -1,8 +1,7 @@
 -- `report::pair_products` meets its contract: of a length the count query gives Pair's products. Assumes nothing.
-use mathlib.Core.Path.{refl, ap, subst}
-use native.Mathlib.Omega.{arith}
+use mathlib.Core.Path.{refl, subst}
 use borrow.Author.Needs.{needs}
-use Rattle.refusals.specs.Refusals.{number}
+use Rattle.refusals.proofs.Promises.{refuses}
 use Rattle.spectra.specs.Promises.{CountsPromise}
 use Rattle.report.proofs.pair_products.Statement.{statement}
 use Rattle.report.proofs.pair_products.Tie as tie
@@ -17,7 +16,7 @@ returns-2 : tie.Need-returns-2
 returns-2 c =
     let q = c .before .before in
     let refused = subst (CountsPromise (q .before .args .n)) (c .enum-told .given .1) (q .count-query .ensures) .verdict in
-    absurd (omega (arith, ap number (rw (q .before .pre) at refused)))
+    absurd (refuses (c .enum-told .given .0 .0) (rw (q .before .pre) at refused))
 
 pub pair-products-spec : {M : Type 1} → statement M
 pair-products-spec =

@@ -40,7 +40,7 @@ returns c =
       fits = r .1;
       realWords = done .realWords .len;
       imaginaryWords = done .imaginaryWords .len;
-      scratchWords = done .scratchCleared .len;
+      scratchWords = done .spends .scratchCleared .len;
     }
 
 pub put-block-spec : {M : Type 1} → statement M

@@ -62,7 +62,9 @@ sums-at-spec =
     (λ c. record { fits = omega (arith, inside (c .before)) })  -- mul-sine
     (λ c. omega (arith, inside (c .before)))  -- element-copy-out-sine
     (λ c. rw (cosine (c .before), sine c) (record {
-      verdict = rw (some (c .before .before .before),
-          le-leb (c .before .before .before .before .before .args .k) _ (yielded (c .before .before)));
+      verdict = rw (
+        some (c .before .before .before),
+        le-leb (c .before .before .before .before .before .args .k) _ (yielded (c .before .before)),
+      );
       sums = λ _. refl;
     })))  -- returns-3
