@@ -21,9 +21,6 @@ pub fn shorter(a: usize, b: usize) -> usize
     if a < b { a } else { b }
 }
 
-// The words of scratch for the longest block.
-pub const MOST_SCRATCH: usize = 8 * 1024 + 64;
-
 // The words of scratch that a call on n samples asks for, and clears.
 pub fn scratch_words(n: usize) -> usize
     requires { ⌜ n ≤ 1024 ⌝ }
@@ -31,3 +28,6 @@ pub fn scratch_words(n: usize) -> usize
 {
     8 * n + 64
 }
+
+// Those of the longest block, 1,024 samples: `scratch_words` of it, as a constant, since an array's length is one.
+pub const MOST_SCRATCH: usize = 8 * 1024 + 64;

@@ -17,7 +17,8 @@ use Rattle.text.proofs.Spelling.{number-length, decimal-length}
 use Rattle.text.proofs.Runs.{held}
 use Rattle.report.specs.Lines.{refusal, line, lines}
 
-pub line-length :
+-- ---- how wide a line is
+line-length :
     {block k : ℕ} (re im : ℤ) → block < 10000 → k < 10000 → SFits w32 re → SFits w32 im → length (line block k re im) ≤ 34
 unfolding line
 line-length {block} {k} re im b c f g =
