@@ -20,7 +20,7 @@ use tell::tell_read;
 use tell::tell_sums;
 use tell::tell_written;
 ghost use mathlib.Core.Path.{_≡_};
-ghost use Rattle.spectra.specs.Promises.{buffers};
+ghost use Rattle.spectra.specs.Promises.{buffers, pairBuffers};
 ghost use Rattle.months.specs.Months.{lengthOf, blockNumber};
 ghost use Rattle.mealbis.specs.Promises.{SpectrumTold, CosineTold, PairTold, MarkTold, CountsTold};
 ghost use Rattle.mealbis.specs.Promises.{BeginTold, AddTold, SumsTold, InverseTold, PageTold, ReadTold, WriteTold};
@@ -76,8 +76,8 @@ pub extern "C" fn mealbis_pair(
     told: &mut [u64; 4],
 ) -> u32
     ensures { λ r. ⌜ PairTold (now (a .entry)) (now (b .entry)) start length allowance
-        (now (real .entry)) (now (imaginary .entry)) (now (scratch .entry))
-        (now (real .exit)) (now (imaginary .exit)) (now (scratch .exit)) (now (told .exit)) r ⌝ }
+        (pairBuffers (now (real .entry)) (now (imaginary .entry)) (now (scratch .entry)))
+        (pairBuffers (now (real .exit)) (now (imaginary .exit)) (now (scratch .exit))) (now (told .exit)) r ⌝ }
 {
     let answer = spectra::pair(a, b, start, length, allowance, real, imaginary, scratch);
     tell(answer, told)
