@@ -12,7 +12,7 @@ use Rattle.spectra.specs.declared.Answer.{Answer}
 use Rattle.spectra.specs.declared.CountsAnswer.{CountsAnswer}
 use Rattle.spectra.specs.declared.marks.MarkAnswer.{MarkAnswer}
 use Rattle.spectra.specs.Answers.{verdictOf, spent, verdictOfCounts, countsOf, verdictOfMark, spentMarking, markNumber}
-use Rattle.spectra.specs.Promises.{Buffers, SpectrumPromise, CosinePromise, PairPromise, MarkPromise, CountsPromise}
+use Rattle.spectra.specs.Promises.{Buffers, PairBuffers, SpectrumPromise, CosinePromise, PairPromise, MarkPromise, CountsPromise}
 use Rattle.months.specs.declared.record.SumsAnswer.{SumsAnswer}
 use Rattle.months.specs.Answers.{verdictOfSums, sumsOf}
 use Rattle.months.specs.Promises.{BeginPromise, AddPromise, SumsPromise}
@@ -43,10 +43,8 @@ abbrev pub CosineTold : List ℤ → (start N allowance : ℕ) → (coefficients
 CosineTold recording start N allowance coefficients scratch coefficients′ scratch′ =
     Told (CosinePromise recording start N allowance coefficients scratch coefficients′ scratch′) verdictOf spentAndPlace
 
-abbrev pub PairTold : (a b : List ℤ) → (start N allowance : ℕ) → (real imaginary scratch real′ imaginary′ scratch′ : List ℤ)
-    → List ℕ → ℕ → Type 0
-PairTold a b start N allowance real imaginary scratch real′ imaginary′ scratch′ =
-    Told (PairPromise a b start N allowance real imaginary scratch real′ imaginary′ scratch′) verdictOf spentAndPlace
+abbrev pub PairTold : (a b : List ℤ) → (start N allowance : ℕ) → (lent lent′ : PairBuffers) → List ℕ → ℕ → Type 0
+PairTold a b start N allowance lent lent′ = Told (PairPromise a b start N allowance lent lent′) verdictOf spentAndPlace
 
 -- ---- the mark of a block, as its number, stands behind these; it is 0 in every refusal
 abbrev pub markedAndPlace : MarkAnswer → List ℕ

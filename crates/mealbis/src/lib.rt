@@ -2,28 +2,57 @@
 // 0 where the call is accepted. What else an answer tells comes back through one lent record of words, which are written in every answer.
 // No function asks anything of its input, and each promises what the call that it makes promises (specs/Promises.antt). include/mealbis.h is
 // written for who calls them.
-mod tell;
 pub mod version;
 
 use months::record;
 use months::record::Record;
+use months::record::SumsAnswer;
 use pairfile::reader;
+use pairfile::reader::ReadAnswer;
 use pairfile::writer;
+use refusals::refusal::Filled;
+use refusals::refusal::Outcome;
+use refusals::refusal::number_of;
+use refusals::refusal::place_of;
+use spectra::Answer;
+use spectra::CountsAnswer;
 use spectra::marks;
-use tell::tell;
-use tell::tell_counts;
-use tell::tell_mark;
-use tell::tell_outcome;
-use tell::tell_page;
-use tell::tell_place;
-use tell::tell_read;
-use tell::tell_sums;
-use tell::tell_written;
+use spectra::marks::Mark;
+use spectra::marks::MarkAnswer;
 ghost use mathlib.Core.Path.{_≡_};
-ghost use Rattle.spectra.specs.Promises.{buffers};
+ghost use Rattle.refusals.specs.Refusals.{number};
+ghost use Rattle.spectra.specs.Answers.{verdictOf, numberOfMark};
+ghost use Rattle.spectra.specs.Promises.{buffers, pairBuffers};
 ghost use Rattle.months.specs.Months.{lengthOf, blockNumber};
-ghost use Rattle.mealbis.specs.Promises.{SpectrumTold, CosineTold, PairTold, MarkTold, CountsTold};
+ghost use Rattle.mealbis.specs.Promises.{spentAndPlace, SpectrumTold, CosineTold, PairTold, MarkTold, CountsTold};
 ghost use Rattle.mealbis.specs.Promises.{BeginTold, AddTold, SumsTold, InverseTold, PageTold, ReadTold, WriteTold};
+
+// What C is told of a call on recordings: products, sums, the largest rest and the place.
+fn tell(answer: Answer, told: &mut [u64; 4]) -> u32
+    ensures { λ r. ⌜ (r ≡ number (verdictOf answer)) × (now (told .exit) ≡ spentAndPlace answer) ⌝ }
+{
+    match answer {
+        Answer::Refused(refusal) => {
+            *told = [0, 0, 0, place_of(refusal) as u64];
+            number_of(refusal)
+        }
+        Answer::Done(tally) => {
+            *told = [tally.products, tally.sums, tally.largest_rest, 0];
+            0
+        }
+    }
+}
+
+// The mark as a number: flat 1, clipped 2, plain 3.
+fn number_of_mark(mark: Mark) -> u64
+    ensures { λ r. ⌜ r ≡ numberOfMark mark ⌝ }
+{
+    match mark {
+        Mark::Flat => 1,
+        Mark::Clipped => 2,
+        Mark::Plain => 3,
+    }
+}
 
 // ---- the calls on recordings, which tell products, sums, the largest rest and the place
 
@@ -76,8 +105,8 @@ pub extern "C" fn mealbis_pair(
     told: &mut [u64; 4],
 ) -> u32
     ensures { λ r. ⌜ PairTold (now (a .entry)) (now (b .entry)) start length allowance
-        (now (real .entry)) (now (imaginary .entry)) (now (scratch .entry))
-        (now (real .exit)) (now (imaginary .exit)) (now (scratch .exit)) (now (told .exit)) r ⌝ }
+        (pairBuffers (now (real .entry)) (now (imaginary .entry)) (now (scratch .entry)))
+        (pairBuffers (now (real .exit)) (now (imaginary .exit)) (now (scratch .exit))) (now (told .exit)) r ⌝ }
 {
     let answer = spectra::pair(a, b, start, length, allowance, real, imaginary, scratch);
     tell(answer, told)
@@ -112,7 +141,22 @@ pub extern "C" fn mealbis_mark(
         sine,
         scratch,
     );
-    tell_mark(answer, told)
+    match answer {
+        MarkAnswer::Refused(refusal) => {
+            *told = [0, 0, 0, place_of(refusal) as u64, 0];
+            number_of(refusal)
+        }
+        MarkAnswer::Marked(mark, tally) => {
+            *told = [
+                tally.products,
+                tally.sums,
+                tally.largest_rest,
+                0,
+                number_of_mark(mark),
+            ];
+            0
+        }
+    }
 }
 
 // ---- months, in lent words
@@ -122,8 +166,10 @@ pub extern "C" fn mealbis_mark(
 pub extern "C" fn mealbis_month_begin(month: &mut Record, length: usize) -> u32
     ensures { λ r. ⌜ BeginTold length (now (month .exit)) r ⌝ }
 {
-    let answer = record::begin_in(month, length);
-    tell_outcome(answer)
+    match record::begin_in(month, length) {
+        Outcome::Refused(refusal) => number_of(refusal),
+        Outcome::Accepted => 0,
+    }
 }
 
 // Spectrum, and its coefficients added to a month; it tells what Spectrum tells.
@@ -177,8 +223,16 @@ pub extern "C" fn mealbis_month_blocks(month: &Record) -> i64
 pub extern "C" fn mealbis_month_sums(month: &Record, k: usize, told: &mut [i64; 2]) -> u32
     ensures { λ r. ⌜ SumsTold (now (month .entry)) k (now (told .exit)) r ⌝ }
 {
-    let answer = record::sums_at(month, k);
-    tell_sums(answer, told)
+    match record::sums_at(month, k) {
+        SumsAnswer::Refused(refusal) => {
+            *told = [0, 0];
+            number_of(refusal)
+        }
+        SumsAnswer::Yielded(sums) => {
+            *told = [sums.cosine, sums.sine];
+            0
+        }
+    }
 }
 
 // ---- the other calls
@@ -188,8 +242,23 @@ pub extern "C" fn mealbis_month_sums(month: &Record, k: usize, told: &mut [i64; 
 pub extern "C" fn mealbis_counts(length: usize, told: &mut [u64; 6]) -> u32
     ensures { λ r. ⌜ CountsTold length (now (told .exit)) r ⌝ }
 {
-    let answer = spectra::count_query(length);
-    tell_counts(answer, told)
+    match spectra::count_query(length) {
+        CountsAnswer::Refused(refusal) => {
+            *told = [0; 6];
+            number_of(refusal)
+        }
+        CountsAnswer::Counted(counts) => {
+            *told = [
+                counts.dct.products,
+                counts.dct.sums,
+                counts.spectrum.products,
+                counts.spectrum.sums,
+                counts.pair.products,
+                counts.pair.sums,
+            ];
+            0
+        }
+    }
 }
 
 // Strain back from a stored cosine block; it tells the place.
@@ -202,8 +271,16 @@ pub extern "C" fn mealbis_inverse_dct(
 ) -> u32
     ensures { λ r. ⌜ InverseTold (now (coefficients .entry)) length (now (values .entry)) (now (values .exit)) (now (told .exit)) r ⌝ }
 {
-    let answer = inverse::inverse_dct(coefficients, length, values);
-    tell_place(answer, told)
+    match inverse::inverse_dct(coefficients, length, values) {
+        Outcome::Refused(refusal) => {
+            *told = [place_of(refusal) as u64];
+            number_of(refusal)
+        }
+        Outcome::Accepted => {
+            *told = [0];
+            0
+        }
+    }
 }
 
 // The page of a stored spectrum, into a lent buffer; it tells its bytes.
@@ -218,8 +295,16 @@ pub extern "C" fn mealbis_page(
     ensures { λ r. ⌜ PageTold (now (cosine .entry)) (now (sine .entry)) length (now (page .entry)) (now (page .exit))
         (now (told .exit)) r ⌝ }
 {
-    let answer = pages::fill_page(cosine, sine, length, page);
-    tell_page(answer, told)
+    match pages::fill_page(cosine, sine, length, page) {
+        Filled::Refused(refusal) => {
+            *told = [0];
+            number_of(refusal)
+        }
+        Filled::Bytes(bytes) => {
+            *told = [bytes as u64];
+            0
+        }
+    }
 }
 
 // A pair file, to two recordings; it tells the samples of each, the length of a block and the place.
@@ -233,8 +318,16 @@ pub extern "C" fn mealbis_read(
     ensures { λ r. ⌜ ReadTold (now (file .entry)) (now (a .entry)) (now (b .entry)) (now (a .exit)) (now (b .exit))
         (now (told .exit)) r ⌝ }
 {
-    let answer = reader::read(file, a, b);
-    tell_read(answer, told)
+    match reader::read(file, a, b) {
+        ReadAnswer::Refused(refusal) => {
+            *told = [0, 0, place_of(refusal) as u64];
+            number_of(refusal)
+        }
+        ReadAnswer::Read(sizes) => {
+            *told = [sizes.samples as u64, sizes.length as u64, 0];
+            0
+        }
+    }
 }
 
 // The pair file of two recordings, into a lent buffer; it tells its bytes and the place.
@@ -249,6 +342,14 @@ pub extern "C" fn mealbis_write(
     ensures { λ r. ⌜ WriteTold (now (a .entry)) (now (b .entry)) length (now (file .entry)) (now (file .exit))
         (now (told .exit)) r ⌝ }
 {
-    let answer = writer::write(a, b, length, file);
-    tell_written(answer, told)
+    match writer::write(a, b, length, file) {
+        Filled::Refused(refusal) => {
+            *told = [0, place_of(refusal) as u64];
+            number_of(refusal)
+        }
+        Filled::Bytes(bytes) => {
+            *told = [bytes as u64, 0];
+            0
+        }
+    }
 }

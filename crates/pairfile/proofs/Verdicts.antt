@@ -3,10 +3,9 @@
 -- written.
 -- Assumes nothing.
 use mathlib.Core.Path.{_≡_, refl, sym, _∙_}
-use mathlib.Core.Logic.{inl, inr}
 use mathlib.Core.Bool.{Bool, true, false, not, cond}
 use mathlib.Core.List.{List, [], _∷_}
-use Prim.Native.Nat.{ℕ, _≤_, _<_}
+use Prim.Native.Nat.{ℕ, min, _≤_, _<_}
 use native.Mathlib.Omega.{arith}
 use lib.Dec.{eqb, ltb}
 use lib.IntN.{ℤ, natAbs}
@@ -22,7 +21,7 @@ use Rattle.refusals.specs.Refusals.{someBelow, firstOutOr, firstOutIn, refused,
 use Rattle.refusals.specs.Passes.{OnePass}
 use Rattle.refusals.proofs.Passes.{all-in}
 use Rattle.refusals.proofs.Promises.{turned-down, carried-out, past-test}
-use Rattle.refusals.proofs.Conditions.{all-reach, some-below, none-of, found-none, found-at, in-verdict}
+use Rattle.refusals.proofs.Conditions.{two-below, none-of, found-none, found-at, in-verdict}
 use Rattle.pairfile.specs.declared.reader.ReadAnswer.the-variants.{Refused, Read}
 use Rattle.pairfile.specs.File.{sampleCount, blockLength, samplesAt, startOfA, startOfB, samplesOfA, samplesOfB}
 use Rattle.pairfile.specs.File.{headerBytes, mostSamples, badCount, fileBytes, fileVerdict}
@@ -135,17 +134,16 @@ module _ (file : List ℕ) (a b : List ℤ) where
         pub bad-length : not ok ≡ true → ReadPromise file a b a b (Refused BadLength)
         bad-length h = turned-down BadLength (refl, refl) (past-9 ∙ rw h)
 
-        module _ (good : not ok ≡ false) where
-          pub a-short : length a < m → ReadPromise file a b a b (Refused ResultTooShort)
-          a-short h = turned-down ResultTooShort (refl, refl) (past-9 ∙ rw (good, some-below m lent (inl h)))
+        module _ (good : not ok ≡ false) (shortest : ℕ) (least : shortest ≡ min (length a) (length b)) where
+          counted : someBelow m lent ≡ someBelow m (shortest ∷ [])
+          counted = two-below (length a) (length b) least m
 
-          pub b-short : length b < m → ReadPromise file a b a b (Refused ResultTooShort)
-          b-short h = turned-down ResultTooShort (refl, refl) (past-9 ∙ rw (good, some-below m lent (inr (inl h))))
+          pub too-short : shortest < m → ReadPromise file a b a b (Refused ResultTooShort)
+          too-short h = turned-down ResultTooShort (refl, refl) (past-9 ∙ rw (good, counted, lt-ltb _ _ h))
 
-          module _ (for-a : m ≤ length a) (for-b : m ≤ length b) (of-a : Pass)
-              (found-a : OnePass largestSample (samplesAt file startOfA) 0 m of-a) where
+          module _ (enough : m ≤ shortest) (of-a : Pass) (found-a : OnePass largestSample (samplesAt file startOfA) 0 m of-a) where
             past-3 : fileVerdict file lent ≡ firstOutIn recordings 0 m accepted
-            past-3 = past-9 ∙ rw (good, all-reach m lent (for-a, (for-b, tt)))
+            past-3 = past-9 ∙ rw (good, counted, le-ltb _ _ enough)
 
             pub a-out : {place looks : ℕ} → of-a ≡ At place looks → ReadPromise file a b a b (Refused (OutOfRange place))
             a-out {place} e = turned-down (OutOfRange place) (refl, refl) (past-3 ∙ found-at 6 _ found-a e)

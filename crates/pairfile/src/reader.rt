@@ -3,6 +3,7 @@ use crate::count::bad_count;
 use lengths::is_length;
 use little_endian::signed_at;
 use little_endian::unsigned_at;
+use refusals::length::shorter;
 use refusals::range::Pass;
 use refusals::range::in_range;
 use refusals::refusal::Refusal;
@@ -75,10 +76,7 @@ pub fn read(file: &[u8], a: &mut [i32], b: &mut [i32]) -> ReadAnswer
     if !is_length(n) {
         return ReadAnswer::Refused(Refusal::BadLength);
     }
-    if a.len() < m {
-        return ReadAnswer::Refused(Refusal::ResultTooShort);
-    }
-    if b.len() < m {
+    if shorter(a.len(), b.len()) < m {
         return ReadAnswer::Refused(Refusal::ResultTooShort);
     }
     let of_b = 8 + 4 * m;

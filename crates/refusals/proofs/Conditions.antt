@@ -1,7 +1,7 @@
 -- The conditions of a refusal as tests, and as facts: lengths that reach a number, samples that are in range.
 -- Assumes nothing.
 use mathlib.Core.Path.{_≡_, refl, sym, _∙_}
-use mathlib.Core.Logic.{_⊎_, inl, inr, ⊎-elim}
+use mathlib.Core.Logic.{⊎-elim}
 use mathlib.Core.Bool.{Bool, true, false, false≢true, _||_}
 use mathlib.Core.List.{List, [], _∷_}
 use Prim.Native.Nat.{ℕ, _+_, min, _≤_, _<_}
@@ -19,27 +19,14 @@ use Rattle.refusals.proofs.Promises.{not-both}
 use Rattle.refusals.proofs.Passes.{all-in, first-at}
 use Rattle.refusals.proofs.Ranges.{first-end, first-place, all-within}
 
--- ---- lengths: all reach n, or some are below it
+-- ---- lengths that all reach n
 abbrev pub AllReach : ℕ → List ℕ → Type 0
 AllReach n [] = Unit {0}
 AllReach n (m ∷ ms) = (n ≤ m) × AllReach n ms
 
-abbrev pub SomeBelow : ℕ → List ℕ → Type 0
-SomeBelow n [] = ⊥
-SomeBelow n (m ∷ ms) = (m < n) ⊎ SomeBelow n ms
-
 pub all-reach : (n : ℕ) (ms : List ℕ) → AllReach n ms → someBelow n ms ≡ false
 all-reach n [] h = refl
 all-reach n (m ∷ ms) (l, h) = rw (le-ltb m n l) (all-reach n ms h)
-
-or-true : (b : Bool) → (b || true) ≡ true
-or-true true = refl
-or-true false = refl
-
-pub some-below : (n : ℕ) (ms : List ℕ) → SomeBelow n ms → someBelow n ms ≡ true
-some-below n [] h = absurd h
-some-below n (m ∷ ms) (inl l) = rw (lt-ltb m n l)
-some-below n (m ∷ ms) (inr h) = rw (some-below n ms h) (or-true (ltb m n))
 
 pub none-of : (a b : Bool) → (a || b) ≡ false → (a ≡ false) × (b ≡ false)
 none-of true b e = absurd (false≢true (sym e))

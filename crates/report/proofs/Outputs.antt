@@ -29,6 +29,7 @@ use Rattle.pairfile.specs.Promises.{ReadDone, ReadPromise}
 use Rattle.pairfile.specs.Laws.{firstBytes}
 use Rattle.pairfile.proofs.Longer.{longer}
 use Rattle.report.specs.Lines.{heading, refusal, lines}
+use Rattle.spectra.specs.Promises.{PairBuffers}
 use Rattle.report.specs.Output.{pairAt, blockLines, spectra, printed, output, LongerOutput}
 use Rattle.report.specs.Puts.{Printable, PutFrom, OutputPut}
 use Rattle.report.proofs.Printing.{whole-blocks, next-block}
@@ -71,17 +72,15 @@ module _ (file : List ℕ) (a b a′ b′ : List ℤ) (answer : ReadAnswer) (r :
   verdict e = rw (ofA, ofB) at (promised e .verdict)
 
   pub refusal-put : {why : Refusal} → answer ≡ Refused why → {n : ℕ} → n ≡ number (refused.verdictOf why)
-      → {next : ℕ} {page page′ : List ℕ} {real imaginary scratch : List ℤ} → Put page 0 (refusal n) next page′
-      → OutputPut file page next page′ a b real imaginary scratch a′ b′ real imaginary scratch
+      → {next : ℕ} {page page′ : List ℕ} {work : PairBuffers} → Put page 0 (refusal n) next page′
+      → OutputPut file page next page′ a b work a′ b′ work
   refusal-put {why} e is p =
       let stay = promised e .unchanged (refuses why) in
       record {
         put = rw (refused-output file _ (verdict e) (refuses why)) (rw is at p);
         wordsOfA = ap length (stay .0);
         wordsOfB = ap length (stay .1);
-        realWords = refl;
-        imaginaryWords = refl;
-        scratchWords = refl;
+        kept = record { real = refl; imaginary = refl; scratch = refl };
       }
 
   module _ (sizes : Sizes) (e : answer ≡ Read sizes) where
@@ -97,8 +96,8 @@ module _ (file : List ℕ) (a b a′ b′ : List ℤ) (answer : ReadAnswer) (r :
     pub spectra-room : (page : List ℕ) → 139278 ≤ length page → 14 + 34 * m ≤ length page
     spectra-room page room = omega (arith, done .sound .most)
 
-    pub spectra-ready : {real imaginary scratch : List ℤ} → 1024 ≤ length real → 1024 ≤ length imaginary
-        → scratchWords 1024 ≤ length scratch → Printable m N a′ b′ real imaginary scratch
+    pub spectra-ready : {work : PairBuffers} → 1024 ≤ length (work .real) → 1024 ≤ length (work .imaginary)
+        → scratchWords 1024 ≤ length (work .scratch) → Printable m N a′ b′ work
     spectra-ready h i j =
         let short = length-le N (done .sound .length-ok) in
         record {
@@ -122,16 +121,13 @@ module _ (file : List ℕ) (a b a′ b′ : List ℤ) (answer : ReadAnswer) (r :
         ap (λ l. heading ++ l) (same (m / N) (whole-blocks (m / N) m N ok (omega arith)))
         ∙ ap₂ (λ m N. spectra m N (samplesOfA file) (samplesOfB file)) (done .samples-is) (done .length-is)
 
-    pub spectra-put : {most next : ℕ} {page page′ : List ℕ} {real imaginary scratch real′ imaginary′ scratch′ : List ℤ}
-        → PutFrom page 0 (spectra m N (word a′) (word b′)) most next page′ real imaginary scratch real′ imaginary′ scratch′
-        → OutputPut file page next page′ a b real imaginary scratch a′ b′ real′ imaginary′ scratch′
+    pub spectra-put : {most next : ℕ} {page page′ : List ℕ} {work work′ : PairBuffers}
+        → PutFrom page 0 (spectra m N (word a′) (word b′)) most next page′ work work′ → OutputPut file page next page′ a b work a′ b′ work′
     spectra-put p = record {
       put = rw (read-output file (sym (verdict e)) ∙ sym read-spectra) (p .put);
       wordsOfA = done .wordsOfA .len;
       wordsOfB = done .wordsOfB .len;
-      realWords = p .realWords;
-      imaginaryWords = p .imaginaryWords;
-      scratchWords = p .scratchWords;
+      kept = p .kept;
     }
 
 -- ---- the output for a longer file is that for its first 32,777 bytes, which `pairspec` reads

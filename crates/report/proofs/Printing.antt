@@ -20,18 +20,18 @@ use Rattle.refusals.specs.Refusals.{block, accepted}
 use Rattle.refusals.proofs.Calls.{is-accepted}
 use Rattle.spectra.specs.declared.Answer.{Answer}
 use Rattle.spectra.specs.Answers.{spent}
-use Rattle.spectra.specs.Promises.{PairDone, PairPromise}
+use Rattle.spectra.specs.Promises.{PairBuffers, PairDone, PairPromise}
 use Rattle.words.specs.Put.{Put}
 use Rattle.words.proofs.Putting.{_then_, joined-none, joined-more}
 use Rattle.report.specs.Lines.{heading}
 use Rattle.report.specs.Output.{linesAt, blockLines, spectra}
-use Rattle.report.specs.Puts.{Printable, PutFrom}
+use Rattle.report.specs.Puts.{Printable, Kept, PutFrom}
 
 -- ---- Pair accepts a block of recordings that are printable up to its end
-module _ (i : ℕ) {N allowance : ℕ} {a b real imaginary scratch real′ imaginary′ scratch′ : List ℤ} (answer : Answer) where
-  pub pair-done : Printable (i * N + N) N a b real imaginary scratch → ((x y : Samples) → allowance ≡ pairOf (level N) x y .products)
-      → PairPromise a b (i * N) N allowance real imaginary scratch real′ imaginary′ scratch′ answer
-      → PairDone N (block a (i * N)) (block b (i * N)) allowance real imaginary scratch real′ imaginary′ scratch′ (spent answer)
+module _ (i : ℕ) {N allowance : ℕ} {a b : List ℤ} {work work′ : PairBuffers} (answer : Answer) where
+  pub pair-done : Printable (i * N + N) N a b work → ((x y : Samples) → allowance ≡ pairOf (level N) x y .products)
+      → PairPromise a b (i * N) N allowance work work′ answer
+      → PairDone N (block a (i * N)) (block b (i * N)) allowance work work′ (spent answer)
   pair-done p e promise = promise .done (promise .verdict ∙ is-accepted (record {
     length-ok = p .length-ok;
     recordings = (p .wordsOfA, (p .wordsOfB, tt));
@@ -55,37 +55,34 @@ pub next-block : (i N : ℕ) → (i + 1) * N ≡ i * N + N
 next-block i N = rw add-one (suc-mul i N)
 
 -- ---- what the loop over the blocks puts: nothing yet, and one block more
-module _ (N : ℕ) (a b : Samples) {at : ℕ} {page : List ℕ} {real imaginary scratch : List ℤ} where
-  pub no-blocks : at ≤ length page
-      → PutFrom page at (blockLines N a b 0) (34 * (0 * N)) at page real imaginary scratch real imaginary scratch
-  no-blocks h = record { put = joined-none _ h; fits = omega arith; realWords = refl; imaginaryWords = refl; scratchWords = refl }
+kept-both : {u v w : PairBuffers} → Kept u v → Kept v w → Kept u w
+kept-both a b = record { real = b .real ∙ a .real; imaginary = b .imaginary ∙ a .imaginary; scratch = b .scratch ∙ a .scratch }
 
-  pub one-more : (i : ℕ) {next next′ : ℕ} {page′ page″ : List ℕ} {real′ imaginary′ scratch′ real″ imaginary″ scratch″ : List ℤ}
-      → PutFrom page at (blockLines N a b i) (34 * (i * N)) next page′ real imaginary scratch real′ imaginary′ scratch′
-      → PutFrom page′ next (linesAt N a b i) (34 * N) next′ page″ real′ imaginary′ scratch′ real″ imaginary″ scratch″
-      → PutFrom page at (blockLines N a b (i + 1)) (34 * ((i + 1) * N)) next′ page″ real imaginary scratch
-      real″ imaginary″ scratch″
+module _ (N : ℕ) (a b : Samples) {at : ℕ} {page : List ℕ} {work : PairBuffers} where
+  pub no-blocks : at ≤ length page → PutFrom page at (blockLines N a b 0) (34 * (0 * N)) at page work work
+  no-blocks h = record { put = joined-none _ h; fits = omega arith; kept = record { real = refl; imaginary = refl; scratch = refl } }
+
+  pub one-more : (i : ℕ) {next next′ : ℕ} {page′ page″ : List ℕ} {work′ work″ : PairBuffers}
+      → PutFrom page at (blockLines N a b i) (34 * (i * N)) next page′ work work′
+      → PutFrom page′ next (linesAt N a b i) (34 * N) next′ page″ work′ work″
+      → PutFrom page at (blockLines N a b (i + 1)) (34 * ((i + 1) * N)) next′ page″ work work″
   one-more i p q = record {
     put = joined-more _ i (p .put) (q .put);
     fits = omega (arith, p .fits, q .fits, next-block i N);
-    realWords = q .realWords ∙ p .realWords;
-    imaginaryWords = q .imaginaryWords ∙ p .imaginaryWords;
-    scratchWords = q .scratchWords ∙ p .scratchWords;
+    kept = kept-both (p .kept) (q .kept);
   }
 
-pub next-fits : {m N : ℕ} (i : ℕ) {a b real imaginary scratch : List ℤ} → Printable m N a b real imaginary scratch → i < m / N
-    → Fits w64 (i + 1)
+pub next-fits : {m N : ℕ} (i : ℕ) {a b : List ℤ} {work : PairBuffers} → Printable m N a b work → i < m / N → Fits w64 (i + 1)
 next-fits {m} {N} i k l = record { fits = omega (arith, k .most, div-le-self m N) }
 
 -- ---- a run of `put_spectra`: the heading is put, and the blocks before number i
-module _ (m N : ℕ) (a b : List ℤ) {real imaginary scratch : List ℤ} (k : Printable m N a b real imaginary scratch)
+module _ (m N : ℕ) (a b : List ℤ) {work : PairBuffers} (k : Printable m N a b work)
     {at : ℕ} {page page₁ : List ℕ} (h : Put page 0 heading at page₁) (i : ℕ) {next : ℕ} {page′ : List ℕ}
-    {real′ imaginary′ scratch′ : List ℤ} (p : PutFrom page₁ at (blockLines N (word a) (word b) i) (34 * (i * N)) next page′
-    real imaginary scratch real′ imaginary′ scratch′) where
+    {work′ : PairBuffers} (p : PutFrom page₁ at (blockLines N (word a) (word b) i) (34 * (i * N)) next page′ work work′) where
   fits : i < m / N → i * N + N ≤ m
   fits l = omega (arith, whole-blocks (i + 1) m N (k .length-ok) (omega arith), next-block i N)
 
-  pub block-ready : i < m / N → Printable (i * N + N) N a b real′ imaginary′ scratch′
+  pub block-ready : i < m / N → Printable (i * N + N) N a b work′
   block-ready l = record {
     length-ok = k .length-ok;
     most = omega (arith, fits l, k .most);
@@ -93,22 +90,19 @@ module _ (m N : ℕ) (a b : List ℤ) {real imaginary scratch : List ℤ} (k : P
     wordsOfB = omega (arith, fits l, k .wordsOfB);
     rangeOfA = λ n h. k .rangeOfA n (omega (arith, fits l));
     rangeOfB = λ n h. k .rangeOfB n (omega (arith, fits l));
-    realWords = omega (arith, k .realWords, p .realWords);
-    imaginaryWords = omega (arith, k .imaginaryWords, p .imaginaryWords);
-    scratchFits = omega (arith, k .scratchFits, p .scratchWords);
+    realWords = omega (arith, k .realWords, p .kept .real);
+    imaginaryWords = omega (arith, k .imaginaryWords, p .kept .imaginary);
+    scratchFits = omega (arith, k .scratchFits, p .kept .scratch);
   }
 
   pub block-room : i < m / N → 14 + 34 * m ≤ length page → next + 34 * N ≤ length page′
   block-room l room = omega (arith, fits l, h .next-is, h .len, p .fits, p .put .len)
 
-  pub spectra-put : i ≤ m / N → m / N ≤ i → PutFrom page 0 (spectra m N (word a) (word b)) (14 + 34 * m) next page′
-      real imaginary scratch real′ imaginary′ scratch′
+  pub spectra-put : i ≤ m / N → m / N ≤ i → PutFrom page 0 (spectra m N (word a) (word b)) (14 + 34 * m) next page′ work work′
   spectra-put l g =
       let all : i ≡ m / N = omega arith in
       record {
         put = rw all at (h then p .put);
         fits = omega (arith, p .fits, h .next-is, whole-blocks i m N (k .length-ok) l);
-        realWords = p .realWords;
-        imaginaryWords = p .imaginaryWords;
-        scratchWords = p .scratchWords;
+        kept = p .kept;
       }

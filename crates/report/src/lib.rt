@@ -18,6 +18,7 @@ ghost use Rattle.words.specs.Words.{Samples, word};
 ghost use Rattle.lengths.specs.Block.{isLength, level};
 ghost use Rattle.ffct.specs.Transforms.{pair as pairOf};
 ghost use Rattle.refusals.specs.Refusals.{scratchWords};
+ghost use Rattle.spectra.specs.Promises.{pairBuffers};
 ghost use Rattle.report.specs.Output.{linesAt, spectra};
 ghost use Rattle.report.specs.Puts.{Printable, PutFrom, OutputPut};
 
@@ -44,12 +45,12 @@ fn put_block(
     page: &mut [u8],
     at: usize,
 ) -> usize
-    requires { ⌜ Printable (block * n + n) n (now a) (now b) (now real) (now imaginary) (now scratch)
+    requires { ⌜ Printable (block * n + n) n (now a) (now b) (pairBuffers (now real) (now imaginary) (now scratch))
         × (at + 34 * n ≤ length (now page)) ⌝ }
     ensures { λ r. ⌜ PutFrom (now (page .entry)) at
         (linesAt n (word (now (a .entry))) (word (now (b .entry))) block) (34 * n) r (now (page .exit))
-        (now (real .entry)) (now (imaginary .entry)) (now (scratch .entry))
-        (now (real .exit)) (now (imaginary .exit)) (now (scratch .exit)) ⌝ }
+        (pairBuffers (now (real .entry)) (now (imaginary .entry)) (now (scratch .entry)))
+        (pairBuffers (now (real .exit)) (now (imaginary .exit)) (now (scratch .exit))) ⌝ }
 {
     let allowance = pair_products(n);
     pair(a, b, block * n, n, allowance, real, imaginary, scratch);
@@ -67,11 +68,11 @@ fn put_spectra(
     scratch: &mut [i64],
     page: &mut [u8],
 ) -> usize
-    requires { ⌜ Printable m n (now a) (now b) (now real) (now imaginary) (now scratch) × (14 + 34 * m ≤ length (now page)) ⌝ }
+    requires { ⌜ Printable m n (now a) (now b) (pairBuffers (now real) (now imaginary) (now scratch)) × (14 + 34 * m ≤ length (now page)) ⌝ }
     ensures { λ r. ⌜ PutFrom (now (page .entry)) 0
         (spectra m n (word (now (a .entry))) (word (now (b .entry)))) (14 + 34 * m) r (now (page .exit))
-        (now (real .entry)) (now (imaginary .entry)) (now (scratch .entry))
-        (now (real .exit)) (now (imaginary .exit)) (now (scratch .exit)) ⌝ }
+        (pairBuffers (now (real .entry)) (now (imaginary .entry)) (now (scratch .entry)))
+        (pairBuffers (now (real .exit)) (now (imaginary .exit)) (now (scratch .exit))) ⌝ }
 {
     let count = m / n;
     let mut at = put_heading(page, 0);
@@ -98,8 +99,8 @@ pub fn put_output(
         × (1024 ≤ length (now real)) × (1024 ≤ length (now imaginary)) × (scratchWords 1024 ≤ length (now scratch))
         × (139278 ≤ length (now page)) ⌝ }
     ensures { λ r. ⌜ OutputPut (now (file .entry)) (now (page .entry)) r (now (page .exit))
-        (now (a .entry)) (now (b .entry)) (now (real .entry)) (now (imaginary .entry)) (now (scratch .entry))
-        (now (a .exit)) (now (b .exit)) (now (real .exit)) (now (imaginary .exit)) (now (scratch .exit)) ⌝ }
+        (now (a .entry)) (now (b .entry)) (pairBuffers (now (real .entry)) (now (imaginary .entry)) (now (scratch .entry)))
+        (now (a .exit)) (now (b .exit)) (pairBuffers (now (real .exit)) (now (imaginary .exit)) (now (scratch .exit))) ⌝ }
 {
     let answer = read(file, a, b);
     match answer {

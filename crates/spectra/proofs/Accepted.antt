@@ -26,7 +26,7 @@ use Rattle.refusals.proofs.Promises.{carried-out}
 use Rattle.refusals.proofs.Calls.{Passes, is-accepted}
 use Rattle.spectra.specs.declared.Answer.the-variants.{Done}
 use Rattle.spectra.specs.Promises.{Spends, CosinePromise, cosineCall, Buffers, buffers, SpectrumPromise, spectrumCall}
-use Rattle.spectra.specs.Promises.{PairPromise, pairCall}
+use Rattle.spectra.specs.Promises.{PairBuffers, pairBuffers, PairPromise, pairCall}
 
 -- ---- the block of N samples from s on, lent as a slice of the recording r
 abbrev pub part : List ℤ → ℕ → ℕ → List ℤ
@@ -166,8 +166,7 @@ module _ {N m allowance : ℕ} (is : m ≡ scratchWords N) where
               (λ h. forms .spectrumAtOne x (level-of-one (fit-r .length-ok) h));
         })
 
-  module _ {start : ℕ} (a b real imaginary scratch : List ℤ)
-      (passed : Passes (pairCall a b start N allowance real imaginary scratch)) where
+  module _ {start : ℕ} (a b : List ℤ) (lent : PairBuffers) (passed : Passes (pairCall a b start N allowance lent)) where
     fit-a : Fit a start N
     fit-a = fit a passed (passed .recordings .0) (passed .range .0)
 
@@ -175,19 +174,19 @@ module _ {N m allowance : ℕ} (is : m ≡ scratchWords N) where
     fit-b = fit b passed (passed .recordings .1 .0) (passed .range .1 .0)
 
     pub pair-ready : let n = length (part a start N) in
-        Workable n (part a start N) (take m scratch) × Workable n (part b start N) (take m scratch)
-        × (n ≤ length real) × (n ≤ length imaginary)
+        Workable n (part a start N) (take m (lent .scratch)) × Workable n (part b start N) (take m (lent .scratch))
+        × (n ≤ length (lent .real)) × (n ≤ length (lent .imaginary))
     pair-ready = let e = fit-length fit-a in (
-      fit-workable fit-a scratch e is (passed .scratch),
-      fit-workable fit-b scratch e is (passed .scratch),
+      fit-workable fit-a (lent .scratch) e is (passed .scratch),
+      fit-workable fit-b (lent .scratch) e is (passed .scratch),
       omega (arith, e, passed .results .0),
       omega (arith, e, passed .results .1 .0),
     )
 
     pub pair-done : {real′ imaginary′ w′ : List ℤ} {spent : Tally} → let n = length (part a start N) in
-        PairMade n (pair (level n) (word (part a start N)) (word (part b start N))) real imaginary (take m scratch)
+        PairMade n (pair (level n) (word (part a start N)) (word (part b start N))) (lent .real) (lent .imaginary) (take m (lent .scratch))
         real′ imaginary′ w′ spent
-        → PairPromise a b start N allowance real imaginary scratch real′ imaginary′ (w′ ++ drop m scratch) (Done spent)
+        → PairPromise a b start N allowance lent (pairBuffers real′ imaginary′ (w′ ++ drop m (lent .scratch))) (Done spent)
     pair-done done =
         let x = block a start in
         let y = block b start in

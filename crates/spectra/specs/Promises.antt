@@ -102,37 +102,44 @@ CosinePromise recording start N allowance coefficients scratch coefficients′ s
     ((coefficients′ ≡ coefficients) × (scratch′ ≡ scratch))
     (CosineDone N (block recording start) allowance coefficients scratch coefficients′ scratch′ (spent answer))
 
--- ---- Pair, recordings a and b
-abbrev pub pairCall : (a b : List ℤ) → (start N allowance : ℕ) → (real imaginary scratch : List ℤ) → Call
-pairCall a b start N allowance real imaginary scratch =
+-- ---- Pair, recordings a and b. What it is lent: two result buffers and scratch
+pub record PairBuffers : Type 0 where
+  pub real : List ℤ
+  pub imaginary : List ℤ
+  pub scratch : List ℤ
+
+abbrev pub pairBuffers : (real imaginary scratch : List ℤ) → PairBuffers
+pairBuffers real imaginary scratch = record { real = real; imaginary = imaginary; scratch = scratch }
+
+abbrev pub pairCall : (a b : List ℤ) → (start N allowance : ℕ) → PairBuffers → Call
+pairCall a b start N allowance lent =
     record {
       lengths = length a ∷ length b ∷ [];
       samples = word a ∷ word b ∷ [];
       start = start;
       N = N;
       allowance = allowance;
-      results = length real ∷ length imaginary ∷ [];
+      results = length (lent .real) ∷ length (lent .imaginary) ∷ [];
       yields = N;
-      scratch = length scratch;
+      scratch = length (lent .scratch);
       products = pairOf (level N) (block a start) (block b start) .products;
     }
 
-pub record PairDone (N : ℕ) (x y : Samples) (allowance : ℕ)
-    (real imaginary scratch real′ imaginary′ scratch′ : List ℤ) (spent : Tally) : Type 0 where
+pub record PairDone (N : ℕ) (x y : Samples) (allowance : ℕ) (lent lent′ : PairBuffers) (spent : Tally) : Type 0 where
   pub blockA : AcceptedBlock (level N) x
   pub blockB : AcceptedBlock (level N) y
-  pub realWords : Written 0 N (pairOf (level N) x y .real) real real′
-  pub imaginaryWords : Written 0 N (pairOf (level N) x y .imaginary) imaginary imaginary′
-  pub realNear : (k : ℕ) → k < N → Within (quarter N) (word real′ k) (exactReal N x y k)
-  pub imaginaryNear : (k : ℕ) → k < N → Within (quarter N) (word imaginary′ k) (exactImaginary N x y k)
+  pub realWords : Written 0 N (pairOf (level N) x y .real) (lent .real) (lent′ .real)
+  pub imaginaryWords : Written 0 N (pairOf (level N) x y .imaginary) (lent .imaginary) (lent′ .imaginary)
+  pub realNear : (k : ℕ) → k < N → Within (quarter N) (word (lent′ .real) k) (exactReal N x y k)
+  pub imaginaryNear : (k : ℕ) → k < N → Within (quarter N) (word (lent′ .imaginary) k) (exactImaginary N x y k)
   pub spends : let t = pairOf (level N) x y in Spends N allowance (t .products) (t .sums) (t .largestRest)
-      2 (pairProducts (level N)) (pairSums (level N)) scratch scratch′ spent
+      2 (pairProducts (level N)) (pairSums (level N)) (lent .scratch) (lent′ .scratch) spent
 
-abbrev pub PairPromise : List ℤ → List ℤ → ℕ → ℕ → ℕ → (real imaginary scratch real′ imaginary′ scratch′ : List ℤ) → Answer → Type 0
-PairPromise a b start N allowance real imaginary scratch real′ imaginary′ scratch′ answer =
-    Promise (verdictOf answer) (verdict (pairCall a b start N allowance real imaginary scratch))
-    ((real′ ≡ real) × (imaginary′ ≡ imaginary) × (scratch′ ≡ scratch))
-    (PairDone N (block a start) (block b start) allowance real imaginary scratch real′ imaginary′ scratch′ (spent answer))
+abbrev pub PairPromise : (a b : List ℤ) → (start N allowance : ℕ) → (lent lent′ : PairBuffers) → Answer → Type 0
+PairPromise a b start N allowance lent lent′ answer =
+    Promise (verdictOf answer) (verdict (pairCall a b start N allowance lent))
+    (lent′ ≡ lent)
+    (PairDone N (block a start) (block b start) allowance lent lent′ (spent answer))
 
 -- ---- the count query: it tests 1 alone, and gives all six counts, by the definitions and by the closed forms
 pub record CountsPromise (N : ℕ) (answer : CountsAnswer) : Type 0 where

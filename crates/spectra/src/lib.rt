@@ -22,7 +22,7 @@ ghost use Rattle.lengths.specs.Block.{isLength, level};
 ghost use Rattle.counts.specs.Counts.{SixCounts};
 ghost use Rattle.refusals.specs.Calls.{tests};
 ghost use Rattle.refusals.specs.Tests.{Tells};
-ghost use Rattle.spectra.specs.Promises.{buffers, spectrumCall, cosineCall, pairCall};
+ghost use Rattle.spectra.specs.Promises.{buffers, pairBuffers, spectrumCall, cosineCall, pairCall};
 ghost use Rattle.spectra.specs.Promises.{SpectrumPromise, CosinePromise, PairPromise, CountsPromise};
 
 // The answer of a call on recordings: a refusal, or the counts that were spent and the largest rest.
@@ -116,7 +116,7 @@ fn test_pair(
     scratch: &[i64],
 ) -> Outcome
     ensures { λ r. ⌜ Tells (tests (pairCall (now (a .entry)) (now (b .entry)) start length allowance
-        (now (real .entry)) (now (imaginary .entry)) (now (scratch .entry)))) r ⌝ }
+        (pairBuffers (now (real .entry)) (now (imaginary .entry)) (now (scratch .entry))))) r ⌝ }
 {
     let counts = counts_at(length);
     let shortest = shorter(a.len(), b.len());
@@ -200,8 +200,8 @@ pub fn pair(
     scratch: &mut [i64],
 ) -> Answer
     ensures { λ r. ⌜ PairPromise (now (a .entry)) (now (b .entry)) start length allowance
-        (now (real .entry)) (now (imaginary .entry)) (now (scratch .entry))
-        (now (real .exit)) (now (imaginary .exit)) (now (scratch .exit)) r ⌝ }
+        (pairBuffers (now (real .entry)) (now (imaginary .entry)) (now (scratch .entry)))
+        (pairBuffers (now (real .exit)) (now (imaginary .exit)) (now (scratch .exit))) r ⌝ }
 {
     let tested = test_pair(a, b, start, length, allowance, real, imaginary, scratch);
     if let Outcome::Refused(refusal) = tested {

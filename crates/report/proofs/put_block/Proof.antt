@@ -38,9 +38,7 @@ returns c =
     record {
       put = rw (lines-same (s .args .block) _ _ _ _ (s .args .n) (front (done .realWords)) (front (done .imaginaryWords))) at (r .0);
       fits = r .1;
-      realWords = done .realWords .len;
-      imaginaryWords = done .imaginaryWords .len;
-      scratchWords = done .spends .scratchCleared .len;
+      kept = record { real = done .realWords .len; imaginary = done .imaginaryWords .len; scratch = done .spends .scratchCleared .len };
     }
 
 pub put-block-spec : {M : Type 1} → statement M

@@ -3,6 +3,7 @@
 use Prim.Native.Nat.{_-_, _*_, _≤_}
 use borrow.Author.Needs.{needs}
 use Rattle.words.specs.Words.{word}
+use Rattle.spectra.specs.Promises.{pairBuffers}
 use Rattle.report.specs.Output.{blockLines}
 use Rattle.report.specs.Puts.{PutFrom}
 use Rattle.report.proofs.Printing.{some-samples, no-blocks, one-more, next-fits, block-ready, block-room, spectra-put}
@@ -12,7 +13,8 @@ use Rattle.report.proofs.put_spectra.Tie as tie
 abbrev Inv-loop : tie.InvT-loop
 Inv-loop a b m n real₀ imaginary₀ scratch₀ page₀ count at₀ block₀ real imaginary scratch page at block =
     (block ≤ count)
-    × PutFrom page₀ at₀ (blockLines n (word a) (word b) block) (34 * (block * n)) at page real₀ imaginary₀ scratch₀ real imaginary scratch
+    × PutFrom page₀ at₀ (blockLines n (word a) (word b) block) (34 * (block * n)) at page
+    (pairBuffers real₀ imaginary₀ scratch₀) (pairBuffers real imaginary scratch)
 
 abbrev μ-loop : tie.MeasureT-loop
 μ-loop a b m n real₀ imaginary₀ scratch₀ page₀ count at₀ block₀ real imaginary scratch page at block = count - block

@@ -11,14 +11,15 @@ use Rattle.refusals.specs.Calls.{Call, tests}
 use Rattle.refusals.specs.Answers.{behind}
 use Rattle.refusals.proofs.Conditions.{two-below, found-none, found-at}
 use Rattle.refusals.proofs.Calls.{passes, by-first, passed-by}
-use Rattle.spectra.specs.Promises.{pairCall}
+use Rattle.spectra.specs.Promises.{pairBuffers, pairCall}
 use Rattle.spectra.proofs.test_pair.Statement.{statement}
 use Rattle.spectra.proofs.test_pair.Tie as tie
 
 abbrev call : tie.After-test → Call
 call c =
     let a = c .before .before .before .before .args in
-    pairCall (a .a .now) (a .b .now) (a .start) (a .length) (a .allowance) (a .real .now) (a .imaginary .now) (a .scratch .now)
+    pairCall (a .a .now) (a .b .now) (a .start) (a .length) (a .allowance)
+    (pairBuffers (a .real .now) (a .imaginary .now) (a .scratch .now))
 
 told : (c : tie.After-test) {tested : Outcome} → c .test .result ≡ tested → (rest : Verdict)
     → let a = c .before .before .before .before .args in

@@ -3,7 +3,7 @@ use mathlib.Core.Path.{sym, _∙_}
 use Prim.Native.Nat.{_≤_}
 use native.Mathlib.Omega.{arith}
 use borrow.Author.Needs.{needs}
-use Rattle.pairfile.proofs.Verdicts.{good-count, below-header, count-bad, bad-bytes, bad-length, a-short, b-short}
+use Rattle.pairfile.proofs.Verdicts.{good-count, below-header, count-bad, bad-bytes, bad-length, too-short}
 use Rattle.pairfile.proofs.Verdicts.{Readable, a-out, b-out, all-in-range}
 use Rattle.pairfile.proofs.reader.read.Statement.{statement}
 use Rattle.pairfile.proofs.reader.read.Tie as tie
@@ -20,8 +20,8 @@ is-accepted : (c : tie.After-enum-told2) →
     Readable (s .file .now) (s .a .now) (s .b .now) (m .unsigned-at .result) (n .unsigned-at2 .result)
 is-accepted c = search (needs, all-in-range)
 
-returns-9 : tie.Need-returns-9
-returns-9 c =
+returns-8 : tie.Need-returns-8
+returns-8 c =
     let tested = c .before .before .before .before .before .before in
     is-accepted tested .reads (c .before .before .before .before .fill .ensures) (c .before .fill2 .ensures)
 
@@ -41,20 +41,20 @@ read-spec =
     (λ c. search needs)  -- cast-n
     (λ c κs. search needs)  -- is-length-requires
     (λ c. search (needs, bad-length))  -- returns-4
-    (λ c. search (needs, a-short))  -- returns-5
-    (λ c. search (needs, b-short))  -- returns-6
+    (λ c κs. search needs)  -- shorter-requires
+    (λ c. search (needs, too-short))  -- returns-5
     (λ c. search needs)  -- mul-of-b
     (λ c. search needs)  -- add-of-b
     (λ c κs. search needs)  -- first-out-requires
     (λ c. search needs)  -- enum-known-first-out
-    (λ c. search (needs, a-out))  -- returns-7
+    (λ c. search (needs, a-out))  -- returns-6
     (λ c. search needs)  -- enum-told
     (λ c κs. search needs)  -- first-out-requires-2
     (λ c. search needs)  -- enum-known-first-out-2
-    (λ c. search (needs, b-out))  -- returns-8
+    (λ c. search (needs, b-out))  -- returns-7
     (λ c. search needs)  -- enum-told-2
     (λ c κs. search needs)  -- fill-requires
     (λ c κs. search needs)  -- fill-requires-2
     (λ c. search needs)  -- same-length
     (λ c. search needs)  -- same-length-2
-    returns-9)
+    returns-8)

@@ -1,11 +1,11 @@
--- `mealbis::tell::tell_read` meets its contract: each arm tells what the definitions have for its answer. Assumes nothing.
+-- `mealbis::tell` meets its contract: each arm tells what the definitions have for its answer. Assumes nothing.
 use mathlib.Core.Path.{refl}
 use borrow.Author.Needs.{needs}
-use Rattle.mealbis.proofs.tell.tell_read.Statement.{statement}
-use Rattle.mealbis.proofs.tell.tell_read.Tie as tie
+use Rattle.mealbis.proofs.tell.Statement.{statement}
+use Rattle.mealbis.proofs.tell.Tie as tie
 
-pub tell-read-spec : {M : Type 1} → statement M
-tell-read-spec =
+pub tell-spec : {M : Type 1} → statement M
+tell-spec =
     tie.close
     (tie.spec
     (λ c. search needs)  -- enum-known-answer
