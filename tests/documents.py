@@ -1,6 +1,6 @@
 #!/usr/bin/env python3
-"""Holds docs/MAP.md to the documents that it maps and to the files that it names; and every document to the files that it names and, with the
-files of crates/, to a width.
+"""Holds docs/MAP.md to the documents that it maps and to the files that it names; docs/DECISIONS.md to the names that it has; and every document
+to the files that it names and, with the files of crates/, to a width.
 
     python3 tests/documents.py [FOLDER]        the repository, where it is not the one that this file is in
 
@@ -12,7 +12,8 @@ Names. `crate/specs/File: `name`` says that the file declares the name; `Other: 
 the file named last in its column. A name in brackets after another stands somewhere in that file. In the column of functions a name is declared
 in the code of the crate named before it, `crate: `name``, or of any. In the column of edits, `crate: name` is crates/crate/must-fail/name.edit; a
 name without a crate is of the crate named last in the column; a cell without an edit says `none meant: ` and why. Files that README.md and
-docs/*.md name exist.
+docs/*.md name exist. What stands between backticks in DECISIONS and begins with a name, as `name`, `name()` or `name x y`, is a crate, or the
+name stands in the code, the definitions or the proofs of a crate, or in the header, outside of comments, or is an example's.
 
 The last line is 'N passed, M failed'.
 """
@@ -28,6 +29,8 @@ SENTENCE_END = re.compile(r"(?<=[^.][.?!])\s+(?=[^a-z.])")
 FILE = re.compile(r"[\w+]+(?:/[\w+.-]+)+")
 NAMED_FILE = re.compile(r"(?<![\w/.])(?!target/)(?:\w+/(?:specs|proofs|src|must-fail)|(?:bench|crates|docs|examples|include|tests))/[\w+./-]+")
 WORD = r"[\w'′₀-₉-]"  # a letter of a name in specs/ and proofs/
+NAME = re.compile(r"(?<!%s)[^\W\d_]%s*" % (WORD, WORD))
+OUTSIDE = {"memcpy", "memset", "before_"}  # of DECISIONS: what the archive calls, and what bench/run puts before names
 
 
 class Results:
@@ -257,6 +260,22 @@ def check_files(results):
                 results.add("NAME" in word or crates.files(word), "%s:%d: no file %s" % (path.relative_to(ROOT), number, word))
 
 
+def check_decisions(results):
+    """The names between backticks in docs/DECISIONS.md."""
+    path = ROOT / "docs/DECISIONS.md"
+    crates = Crates()
+    known = set(crates.names) | OUTSIDE | {program.stem for program in (ROOT / "examples").rglob("*.*")}
+    for kind in ("*.rt", "*.antt"):
+        for source in (ROOT / "crates").rglob(kind):
+            known.update(NAME.findall(without_comments(source)))
+    known.update(NAME.findall(re.sub(r"(?s)/\*.*?\*/", "", (ROOT / "include/mealbis.h").read_text())))
+    for number, line in enumerate(path.read_text().splitlines(), 1):
+        for quoted in re.findall(r"`([^`]+)`", line):
+            name = NAME.match(quoted)
+            if name and re.fullmatch(r"(\(\))?( .*)?", quoted[name.end():]):
+                results.add(name[0] in known, "%s:%d: nothing is called `%s`" % (path.relative_to(ROOT), number, name[0]))
+
+
 def check_widths(results):
     """The lines of the documents, outside of tables, and of the files of crates/."""
     documents = [ROOT / name for name in NARROW]
@@ -273,6 +292,7 @@ def main():
     results = Results()
     check_map(results)
     check_files(results)
+    check_decisions(results)
     check_widths(results)
     print("%d passed, %d failed" % (results.passed, results.failed))
     return 1 if results.failed else 0
