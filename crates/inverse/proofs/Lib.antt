@@ -6,3 +6,4 @@ pub mod Sizes
 pub mod ValueRuns
 pub mod Verdicts
 pub mod RoundTrip
+pub mod Excluded

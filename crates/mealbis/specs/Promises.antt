@@ -22,8 +22,8 @@ use Rattle.pairfile.specs.Answers as file
 use Rattle.pairfile.specs.Promises.{ReadPromise, WritePromise}
 use Rattle.pages.specs.Promises.{PagePromise}
 
--- There is an answer that keeps the call's promise, and it is the answer told: by the number returned, which is the refusal's in document 01
--- or 02 and 0 where the call is accepted, and by the words of a lent record, which hold in every answer what `words` has for it.
+-- There is an answer that keeps the call's promise, and it is the answer told: by the number returned, which is the refusal's in document
+-- 01 or 02 and 0 where the call is accepted, and by the words of a lent record, which hold in every answer what `words` has for it.
 pub record Told {Answer A : Type 0} (promise : Answer → Type 0) (verdict : Answer → Verdict) (words : Answer → List A)
     (told′ : List A) (number : ℕ) : Type 0 where
   pub answer : Answer
@@ -31,8 +31,8 @@ pub record Told {Answer A : Type 0} (promise : Answer → Type 0) (verdict : Ans
   pub number-is : number ≡ numberOf (verdict answer)
   pub words-are : told′ ≡ words answer
 
--- ---- the calls on recordings tell products, sums, the largest rest and the place. By their definitions the counts and the largest rest are
--- 0 in every refusal, and the place is 0 in every answer but refusal 6
+-- ---- the calls on recordings tell products, sums, the largest rest and the place. By their definitions the counts and the largest rest
+-- are 0 in every refusal, and the place is 0 in every answer but refusal 6
 abbrev pub spentAndPlace : Answer → List ℕ
 spentAndPlace a = spent a .products ∷ spent a .sums ∷ spent a .«largest_rest» ∷ place (verdictOf a) ∷ []
 
@@ -55,8 +55,8 @@ abbrev pub MarkTold : List ℤ → (start N allowance : ℕ) → (flatLimit clip
 MarkTold recording start N allowance flatLimit clipLevel lent lent′ =
     Told (MarkPromise recording start N allowance flatLimit clipLevel lent lent′) verdictOfMark markedAndPlace
 
--- ---- a month, in words that C lends. Beginning tells its number alone, adding what Spectrum tells, reading the two sums for k, which are 0
--- in a refusal
+-- ---- a month, in words that C lends. Beginning tells its number alone, adding what Spectrum tells, reading the two sums for k, which are
+-- 0 in a refusal
 abbrev pub BeginTold : ℕ → (month′ : List ℤ) → ℕ → Type 0
 BeginTold N month′ = Told {A = ℕ} (BeginPromise N month′) outcome (λ answer. []) []
 
@@ -81,8 +81,8 @@ abbrev pub InverseTold : (coefficients : List ℤ) → ℕ → (values values′
 InverseTold coefficients N values values′ =
     Told (InversePromise coefficients N values values′) outcome (λ a. place (outcome a) ∷ [])
 
--- ---- a page tells its bytes, 0 in every refusal; a file that is written, its bytes and the place; one that is read, m, N and the place. The
--- place is 0 in every answer but refusal 6
+-- ---- a page tells its bytes, 0 in every refusal; a file that is written, its bytes and the place; one that is read, m, N and the place.
+-- The place is 0 in every answer but refusal 6
 abbrev pub PageTold : (cosine sine : List ℤ) → ℕ → (buffer buffer′ : List ℕ) → List ℕ → ℕ → Type 0
 PageTold cosine sine N buffer buffer′ = Told (PagePromise cosine sine N buffer buffer′) filled (λ a. bytesOf a ∷ [])
 

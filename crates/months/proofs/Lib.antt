@@ -6,3 +6,4 @@ pub mod Histories
 pub mod Months
 pub mod AddRuns
 pub mod Held
+pub mod Excluded

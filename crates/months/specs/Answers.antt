@@ -1,4 +1,5 @@
--- The answer of reading the sums for a k, by the numbers and values of document 02. Beginning answers with an outcome, adding as Spectrum does.
+-- The answer of reading the sums for a k, by the numbers and values of document 02. Beginning answers with an outcome, adding as Spectrum
+-- does.
 use lib.IntN.{pos}
 use Rattle.refusals.specs.Refusals.{Verdict, accepted}
 use Rattle.refusals.specs.Answers as refusal

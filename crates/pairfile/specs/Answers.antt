@@ -1,4 +1,5 @@
--- The answer of the reader, by document 01's numbers and values. The writer answers with a number of bytes (refusals/specs/Answers: `filled`).
+-- The answer of the reader, by document 01's numbers and values. The writer answers with a number of bytes (refusals/specs/Answers:
+-- `filled`).
 use Rattle.refusals.specs.Refusals.{Verdict, accepted}
 use Rattle.refusals.specs.Answers as refusal
 use Rattle.pairfile.specs.declared.reader.Sizes.{Sizes}

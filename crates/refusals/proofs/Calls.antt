@@ -64,7 +64,8 @@ module _ (call : Call) {x : Samples} {others : List Samples} (is : call .samples
     (short : (n : ℕ) → someBelow n (call .results) ≡ someBelow n (room ∷ []))
     (spends : isLength (call .N) ≡ true → products ≡ call .products) where
   pub by-first : {tested : Outcome}
-      → Tells (tests (oneRecording x shortest (call .start) (call .N) (call .allowance) room (call .yields) (call .scratch) products)) tested
+      → Tells (tests (oneRecording x shortest (call .start) (call .N) (call .allowance) room (call .yields) (call .scratch) products))
+      tested
       → (rest : Verdict) → tests call rest ≡ behind tested (firstOutIn others (call .start) (call .N) rest)
   unfolding tests
   by-first t rest =
@@ -92,7 +93,8 @@ module _ (N needed : ℕ) where
       let (enough, past-2) = past-test 2 (someBelow needed stored) past-1 in
       (not-false _ good, reach-all needed stored enough, past-2)
 
-  pub stored-accepted : (stored : List ℕ) (rest : Verdict) → isLength N ≡ true → AllReach needed stored → storedTests N needed stored rest ≡ rest
+  pub stored-accepted : (stored : List ℕ) (rest : Verdict) → isLength N ≡ true → AllReach needed stored
+      → storedTests N needed stored rest ≡ rest
   unfolding storedTests
   stored-accepted stored rest ok h = rw (ok, all-reach needed stored h)
 

@@ -3,3 +3,4 @@ pub mod Passes
 pub mod Conditions
 pub mod Promises
 pub mod Calls
+pub mod Exclusion

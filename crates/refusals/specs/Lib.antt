@@ -3,3 +3,4 @@ pub mod Answers
 pub mod Passes
 pub mod Calls
 pub mod Tests
+pub mod Exclusion

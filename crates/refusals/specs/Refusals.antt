@@ -1,5 +1,6 @@
 -- Document 01, "When a call is turned down": the conditions 1 to 6, on lengths and samples, in their order; and what a call promises of its
--- verdict. The order itself is in Calls, of the calls on recordings and on stored blocks; and where a call has tests of its own, in its crate.
+-- verdict. The order itself is in Calls, of the calls on recordings and on stored blocks; and where a call has tests of its own, in its
+-- crate.
 use mathlib.Core.Bool.{Bool, false, cond, _||_}
 use mathlib.Core.List.{List, [], _∷_}
 use mathlib.Core.Path.{_≡_}
@@ -36,8 +37,8 @@ firstBeyond limit x i (suc d) = cond (atMost limit (x i)) (firstBeyond limit x (
 abbrev pub inRange : ℤ → Bool
 inRange z = atMost largestSample z
 
--- ---- the verdict: a call is accepted, or turned down with the number of the first condition that holds and, for 6 and 10, the place of the
--- first number out of range
+-- ---- the verdict: a call is accepted, or turned down with the number of the first condition that holds and, for 6 and 10, the place of
+-- the first number out of range
 pub data Verdict : Type 0 where
   refusedAt : (number place : ℕ) → Verdict
   accepted : Verdict

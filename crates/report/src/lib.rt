@@ -68,7 +68,8 @@ fn put_spectra(
     scratch: &mut [i64],
     page: &mut [u8],
 ) -> usize
-    requires { ⌜ Printable m n (now a) (now b) (pairBuffers (now real) (now imaginary) (now scratch)) × (14 + 34 * m ≤ length (now page)) ⌝ }
+    requires { ⌜ Printable m n (now a) (now b) (pairBuffers (now real) (now imaginary) (now scratch))
+        × (14 + 34 * m ≤ length (now page)) ⌝ }
     ensures { λ r. ⌜ PutFrom (now (page .entry)) 0
         (spectra m n (word (now (a .entry))) (word (now (b .entry)))) (14 + 34 * m) r (now (page .exit))
         (pairBuffers (now (real .entry)) (now (imaginary .entry)) (now (scratch .entry)))

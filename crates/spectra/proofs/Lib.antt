@@ -1,3 +1,4 @@
 pub mod Accepted
 pub mod MarkRules
 pub mod MarkRuns
+pub mod Excluded

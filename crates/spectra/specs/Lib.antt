@@ -1,3 +1,4 @@
 pub mod Answers
 pub mod Marks
 pub mod Promises
+pub mod Excluded

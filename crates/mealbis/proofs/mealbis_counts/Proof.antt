@@ -13,5 +13,6 @@ mealbis-counts-spec =
     (λ c. search needs)  -- enum-known-refusal
     (λ c κs. search needs)  -- number-of-requires
     (λ c. search needs)  -- enum-known-counts
-    (λ c. let w = c .before .before .before in told (w .before .before .count-query .ensures) (w .refusal .given .1) (c .number-of .ensures) refl)  -- returns
+    (λ c. let w = c .before .before .before in
+    told (w .before .before .count-query .ensures) (w .refusal .given .1) (c .number-of .ensures) refl)  -- returns
     (λ c. let w = c .before .before in told (w .before .before .count-query .ensures) (w .counts .given .1) refl refl))  -- returns-2

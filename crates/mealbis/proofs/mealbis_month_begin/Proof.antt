@@ -13,5 +13,6 @@ mealbis-month-begin-spec =
     (λ c. search needs)  -- enum-known-refusal
     (λ c κs. search needs)  -- number-of-requires
     (λ c. search needs)  -- enum-told
-    (λ c. let w = c .before .before in told (w .before .before .begin-in .ensures) (w .refusal .given .1) (c .number-of .ensures) refl)  -- returns
+    (λ c. let w = c .before .before in
+    told (w .before .before .begin-in .ensures) (w .refusal .given .1) (c .number-of .ensures) refl)  -- returns
     (λ c. let w = c in told (w .before .before .begin-in .ensures) (w .enum-told .given .1) refl refl))  -- returns-2

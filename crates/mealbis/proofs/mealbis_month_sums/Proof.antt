@@ -14,7 +14,9 @@ mealbis-month-sums-spec =
     (λ c. search needs)  -- enum-known-refusal
     (λ c κs. search needs)  -- number-of-requires
     (λ c. search needs)  -- enum-known-sums
-    (λ c. let w = c .before .before .before in told (w .before .before .sums-at .ensures) (w .refusal .given .1) (c .number-of .ensures) refl)  -- returns
+    (λ c. let w = c .before .before .before in
+    told (w .before .before .sums-at .ensures) (w .refusal .given .1) (c .number-of .ensures) refl)  -- returns
     (λ c. let w = c .before .before .before in
     let s = c .before .struct-told .given in
-    told (w .before .before .sums-at .ensures) (w .sums .given .1) refl (rw (toZ-ofZ (sfits-of (s .0 .1)), toZ-ofZ (sfits-of (s .1 .0 .1))))))  -- returns-2
+    told (w .before .before .sums-at .ensures)
+    (w .sums .given .1) refl (rw (toZ-ofZ (sfits-of (s .0 .1)), toZ-ofZ (sfits-of (s .1 .0 .1))))))  -- returns-2

@@ -12,5 +12,6 @@ tell-spec =
     (λ c κs. search needs)  -- place-of-requires
     (λ c κs. search needs)  -- number-of-requires
     (λ c. search needs)  -- enum-known-answer-2
-    (λ c. rw (c .before .before .before .before .answer .given .1, c .before .before .place-of .ensures) (c .number-of .ensures, refl))  -- returns
+    (λ c. rw (c .before .before .before .before .answer .given .1, c .before .before .place-of .ensures)
+    (c .number-of .ensures, refl))  -- returns
     (λ c. rw (c .before .before .answer2 .given .1) (refl, refl)))  -- returns-2

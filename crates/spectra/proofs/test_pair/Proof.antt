@@ -28,7 +28,8 @@ told c e rest =
     let a = c .before .before .before .before .args in
     let shortest = two-below _ _ (c .before .before .shorter .ensures) in
     let room = two-below _ _ (c .before .shorter2 .ensures) in
-    by-first (call c) refl _ _ _ shortest room (λ ok. c .before .before .before .counts-at .ensures ok .ofPair _ _ .0) (c .test .ensures) rest
+    by-first (call c) refl _ _ _ shortest room (λ ok. c .before .before .before .counts-at .ensures ok .ofPair _ _ .0)
+    (c .test .ensures) rest
     ∙ ap (λ t. behind t (firstOutOr (word (a .b .now)) (a .start) (a .length) rest)) e
 
 -- where a passes them, b's block lies in its recording

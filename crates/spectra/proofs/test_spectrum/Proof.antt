@@ -10,7 +10,8 @@ use Rattle.spectra.proofs.test_spectrum.Tie as tie
 returns : tie.Need-returns
 returns c =
     let a = c .before .before .before .args in
-    let call = spectrumCall (a .recording .now) (a .start) (a .length) (a .allowance) (buffers (a .cosine .now) (a .sine .now) (a .scratch .now)) in
+    let lent = buffers (a .cosine .now) (a .sine .now) (a .scratch .now) in
+    let call = spectrumCall (a .recording .now) (a .start) (a .length) (a .allowance) lent in
     record {
       verdict = by-first call refl _ _ _ (λ n. refl) (two-below _ _ (c .before .shorter .ensures))
           (λ ok. c .before .before .counts-at .ensures ok .ofSpectrum _ .0) (c .test .ensures);
