@@ -1,3 +1,4 @@
 pub mod Page
 pub mod Promises
 pub mod Laws
+pub mod Excluded

@@ -5,3 +5,4 @@ pub mod WriteVerdicts
 pub mod OneFile
 pub mod Longer
 pub mod RoundTrips
+pub mod Excluded

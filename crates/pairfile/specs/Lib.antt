@@ -3,3 +3,4 @@ pub mod OwnFile
 pub mod Answers
 pub mod Promises
 pub mod Laws
+pub mod Excluded

@@ -39,13 +39,14 @@ module _ {before bytes after : List ℕ} {next : ℕ} (p : Put before 0 bytes ne
   pub byte-put : (k : ℕ) → k < length bytes → getD after k 0 ≡ getD bytes k 0
   byte-put k h = sym (getD-take next after k 0 (omega (arith, p .next-is))) ∙ ap (λ l. getD l k 0) (p .front)
 
-  pub byte-behind : getD after next 0 ≡ getD before next 0
-  byte-behind =
-      ap (λ k. getD after k 0) {x = next} {y = next + 0} (omega arith)
+  pub byte-behind : (k : ℕ) → next ≡ k → getD after k 0 ≡ getD before k 0
+  byte-behind k e =
+      rw (← e)
+      (ap (λ i. getD after i 0) {x = next} {y = next + 0} (omega arith)
       ∙ sym (getD-drop next after 0 0)
       ∙ ap (λ l. getD l 0 0) (p .rest)
       ∙ getD-drop next before 0 0
-      ∙ ap (λ k. getD before k 0) {x = next + 0} {y = next} (omega arith)
+      ∙ ap (λ i. getD before i 0) {x = next + 0} {y = next} (omega arith))
 
 -- ---- passes
 pub excluded : Excluded
