@@ -1,8 +1,8 @@
 #!/usr/bin/env python3
 """Calls mealbis_page of the library, over its C interface, and compares each page, byte for byte, with that of tests/reference.py.
 
-    python3 tests/pages.py [--library PATH] [--seed NUMBER]
-    python3 tests/pages.py --example a|b FILE [BLOCK]        what the example `binder_pages` prints for these words, by the reference alone
+    python3 tests/call_pages.py [--library PATH] [--seed NUMBER]
+    python3 tests/call_pages.py --example a|b FILE [BLOCK]        what the example `binder_pages` prints for these words, by the reference alone
 
 Builds libmealbis.a and a shared library of it, target/shared/libmealbis.so; or takes another shared library. Of every call it compares the
 answer, *bytes, the whole buffer of the page and the coefficients, with guards before and behind each. Some pages are of the coefficients

@@ -1,7 +1,7 @@
 #!/usr/bin/env python3
 """Calls mealbis_write of the library, over its C interface, and compares each file, byte for byte, with that of tests/reference.py.
 
-    python3 tests/written_files.py [--library PATH] [--seed NUMBER]
+    python3 tests/call_written_files.py [--library PATH] [--seed NUMBER]
 
 Builds libmealbis.a and a shared library of it, target/shared/libmealbis.so; or takes another shared library. Of every call it compares the
 answer, the record (bytes, place), the whole buffer of the file and the recordings, with guards before and behind each. What is written goes through

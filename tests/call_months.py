@@ -1,8 +1,8 @@
 #!/usr/bin/env python3
 """Calls the months of the library, over its C interface, and compares each answer and each month with those of tests/reference.py.
 
-    python3 tests/months.py [--library PATH] [--seed NUMBER]
-    python3 tests/months.py --example FILE..        what the example `months` prints for these pair files, by the reference alone
+    python3 tests/call_months.py [--library PATH] [--seed NUMBER]
+    python3 tests/call_months.py --example FILE..        what the example `months` prints for these pair files, by the reference alone
 
 Builds libmealbis.a and a shared library of it, target/shared/libmealbis.so; or takes another shared library. After every call of
 mealbis_month_begin and mealbis_month_add it compares every word of the month, and of adding also the answer, the record (products, sums,

@@ -1,7 +1,7 @@
 #!/usr/bin/env python3
 """Calls mealbis_mark of the library, over its C interface, and compares each answer with that of tests/reference.py and with mealbis_spectrum's.
 
-    python3 tests/marks.py [--library PATH] [--seed NUMBER]
+    python3 tests/call_marks.py [--library PATH] [--seed NUMBER]
 
 Builds libmealbis.a and a shared library of it, target/shared/libmealbis.so; or takes another shared library. Of every call it compares the
 answer, the record (products, sums, largest_rest, place, mark), both buffers of coefficients, scratch and the recording, with guards before
