@@ -244,7 +244,7 @@ def _as_they_are(values):
     """A view of words of 32 bits that can be lent as they are; None of all else."""
     try:
         view = memoryview(values)
-    except TypeError:
+    except (TypeError, ValueError, BufferError):
         return None
     if view.format != "i" or view.itemsize != 4 or view.ndim != 1 or not view.c_contiguous or view.readonly:
         return None
