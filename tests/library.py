@@ -1,21 +1,27 @@
-"""What the scripts have in common that call the library over its C interface: the shared library, memory that is lent, calls that are compared."""
+"""What the scripts have in common that call the library over its C interface: the shared library, memory that is lent, calls that are compared,
+sets of refusals and lengths that every call is tried with. What the functions take and return is declared in bindings/python/mealbis.py."""
 
 import argparse
 import array
 import ctypes
+import itertools
 import mmap
 import random
 import subprocess
 import sys
 from pathlib import Path
 
-from reference import LARGEST_SAMPLE
+from reference import LARGEST_SAMPLE, LENGTHS
 
 ROOT = Path(__file__).resolve().parent.parent
+sys.path.insert(0, str(ROOT / "bindings/python"))
+import mealbis                      # noqa: E402
+
 BUILT = ROOT / "target/shared"
 OUT = (LARGEST_SAMPLE + 1, -LARGEST_SAMPLE - 1, 2 ** 31 - 1, -2 ** 31)      # samples out of range
 BAD_LENGTHS = (0, 3, 5, 6, 7, 9, 1023, 1025, 1536, 2048, 2 ** 31, 2 ** 32, 2 ** 32 + 1, 2 ** 32 + 8, 2 ** 42, 2 ** 63, 2 ** 63 + 8,
                2 ** 64 - 8, 2 ** 64 - 1)
+FAR_LENGTHS = (*(length << 32 for length in LENGTHS), *(length + 2 ** 32 for length in LENGTHS), *(2 ** 64 - length for length in LENGTHS))
 GUARD = 64                          # bytes before and behind what is lent, or a few more
 PAGE = 4096
 MOST_SHOWN = 20                     # failures
@@ -38,20 +44,24 @@ def shared_library():
 class Lent:
     """Memory lent to a call as so many words, between two guards; all of it is compared afterwards."""
 
+    alone = False                   # lent by its pointer alone, without a count
+
     def __init__(self, name, count, held, guards):
-        self.name, self.count = name, count
+        self.name, self.count, self.pointers = name, count, {}
         self.first = len(guards[0])
         whole = b"".join((guards[0], held, guards[1]))
         self.memory = (ctypes.c_uint8 * len(whole)).from_buffer_copy(whole)
         assert ctypes.addressof(self.memory) % 8 == 0
         self.held = self.expected = whole
 
-    def pointer(self):
-        return ctypes.byref(self.memory, self.first)
+    def pointer(self, further=0):
+        """Its first byte, or one further on."""
+        return ctypes.c_void_p(ctypes.addressof(self.memory) + self.first + further)
 
-    def given(self):
-        """The arguments by which it is lent."""
-        return [self.pointer(), ctypes.c_uint64(self.count)]
+    def given(self, kind):
+        """The arguments by which it is lent, the pointer being of this kind."""
+        pointer = self.pointers.get(kind) or self.pointers.setdefault(kind, ctypes.cast(self.pointer(), kind))
+        return [pointer] if self.alone else [pointer, self.count]
 
     def expect(self, written):
         """These bytes should stand in front after the call, and all else stay."""
@@ -77,7 +87,7 @@ class Mapped(Lent):
     """So many words, all 0, in memory of which only one page can be written; that page is compared."""
 
     def __init__(self, name, word_size, count, page=0):
-        self.name, self.count, self.first = name, count, -page * PAGE
+        self.name, self.count, self.first, self.pointers = name, count, -page * PAGE, {}
         libc = ctypes.CDLL(None, use_errno=True)
         libc.mmap.restype = ctypes.c_void_p
         size, readable = ctypes.c_size_t(word_size * count), mmap.PROT_READ
@@ -116,15 +126,42 @@ def lent_words(rng, name, word_size, count):
 
 
 class Record(Lent):
-    """A record, lent by its pointer alone: a word of 64 bits for each field, with anything in it, in which the value should stand."""
+    """A record with anything in it: in each of its fields the value should stand."""
 
-    def __init__(self, rng, fields, code="Q"):
-        guards, held = [rng.randbytes(GUARD) for _ in range(2)], rng.randbytes(8 * len(fields))
+    alone = True
+
+    def __init__(self, rng, kind, **fields):
+        assert fields.keys() == {name for name, _ in kind._fields_}
+        guards, held = [rng.randbytes(GUARD) for _ in range(2)], rng.randbytes(ctypes.sizeof(kind))
         super().__init__("the record (%s)" % ", ".join(fields), len(fields), held, guards)
-        self.expect(in_memory(code, fields.values()))
+        self.kind = kind
+        self.expect(bytes(kind(**fields)))
 
-    def given(self):
-        return [self.pointer()]
+    def now(self):
+        """The record with what stands in it now."""
+        return self.kind.from_buffer_copy(self.front(ctypes.sizeof(self.kind)))
+
+
+# --- what every call is tried with ---------------------------------------------------
+
+def lengths_up_to(most):
+    """Every length up to this one, the rest of the eleven, and far ones, among them those that end in the bits of one of the eleven."""
+    return (*range(most + 1), *(length for length in LENGTHS if length > most), *BAD_LENGTHS, *FAR_LENGTHS)
+
+
+def every_set(order):
+    """Every set of these refusals, none too, each in their order."""
+    return [numbers for size in range(len(order) + 1) for numbers in itertools.combinations(order, size)]
+
+
+def held(order, holds):
+    """Of the conditions, those that hold, in their order: the first is the answer."""
+    return tuple(number for number in order if holds[number])
+
+
+def first(numbers):
+    """The number of an answer to a call for which these conditions hold."""
+    return numbers[0] if numbers else 0
 
 
 # --- calls -------------------------------------------------------------------------
@@ -136,10 +173,8 @@ class Calls:
         self.library, self.rng = library, rng
         self.passed = self.failed = 0
 
-    def function(self, name, returned=ctypes.c_uint32):
-        function = getattr(self.library, name)
-        function.restype = returned
-        return function
+    def function(self, name):
+        return getattr(self.library, name)
 
     def add(self, name, wrong):
         wrong = [told for told in wrong if told]
@@ -149,16 +184,22 @@ class Calls:
             print("%s: FAILED\n    %s" % (name, "\n    ".join(wrong)))
 
     def compare(self, name, function, given, number):
-        """One call on lent memory, the record too, and on numbers, plain ones having 64 bits."""
+        """One call on lent memory, the record too, and on numbers."""
         arguments = []
         for one in given:
+            wanted = function.argtypes[len(arguments)]
             if isinstance(one, Lent):
-                arguments += one.given()
+                arguments += one.given(wanted)
             else:
-                arguments.append(ctypes.c_uint64(one) if isinstance(one, int) else one)
+                arguments.append(ctypes.cast(one, wanted) if isinstance(one, ctypes.c_void_p) else one)
         answer = function(*arguments)
         told = None if answer == number else "the answer is %d and not %d" % (answer, number)
         self.add(name, [told, *(one.difference() for one in given if isinstance(one, Lent))])
+
+    def require(self, sets, met):
+        """Each of these sets of refusals came up."""
+        for numbers in sets:
+            self.add("refusals %s together" % (numbers,), [None if numbers in met else "no call met them"])
 
 
 def run(kind, checks, description):
@@ -168,7 +209,7 @@ def run(kind, checks, description):
     words.add_argument("--seed", type=int, default=20260911)
     words = words.parse_args()
     print("%s: seed %d" % (Path(sys.argv[0]).stem, words.seed))
-    calls = kind(ctypes.CDLL(str(words.library or shared_library())), random.Random(words.seed))
+    calls = kind(mealbis.load(words.library or shared_library()), random.Random(words.seed))
     for check in checks:
         before = calls.passed
         check(calls)

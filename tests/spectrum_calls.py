@@ -4,7 +4,7 @@ import itertools
 import math
 from typing import NamedTuple
 
-from library import OUT, Record, in_memory, lent_words
+from library import OUT, PAGE, Mapped, Record, in_memory, lent_words, mealbis
 from reference import LARGEST_SAMPLE, LENGTHS, scratch_words, tallied_counts
 
 UNBOUNDED = 2 ** 64 - 1             # allowance
@@ -54,7 +54,7 @@ def placed(rng, x):
                         N // 2 + 1 + cosine, N // 2 + 1 + sine, scratch_words(N) + scratch)
 
 
-def lend(rng, call, answer, **more):
+def lend(rng, call, answer, kind=mealbis.Answer, **more):
     """Buffers of coefficients and scratch, and behind them the record, for a call, in which this answer should stand; more are further fields."""
     sizes = {"cosine": (4, call.cosine_len), "sine": (4, call.sine_len), "scratch": (8, call.scratch_len)}
     buffers = [lent_words(rng, name, *size) for name, size in sizes.items()]
@@ -63,8 +63,8 @@ def lend(rng, call, answer, **more):
         for buffer, written in zip(buffers, (*(in_memory("i", words) for words in answer.results), cleared)):
             buffer.expect(written)
     products, sums = answer.counts or (0, 0)
-    fields = {"products": products, "sums": sums, "largest_rest": answer.largest_rest or 0, "place": answer.place or 0, **more}
-    return [*buffers, Record(rng, fields)]
+    record = Record(rng, kind, products=products, sums=sums, largest_rest=answer.largest_rest or 0, place=answer.place or 0, **more)
+    return [*buffers, record]
 
 
 # --- refusals ------------------------------------------------------------------------
@@ -89,3 +89,53 @@ def broken(rng, numbers, N):
     products = tallied_counts(N).spectrum_products if N in LENGTHS else 1
     allowance = rng.choice((0, products - 1)) if 5 in numbers else rng.choice((products, UNBOUNDED))
     return SpectrumCall(recording, start, N, allowance, *short, scratch_words(N) - (rng.choice((1, 64)) if 4 in numbers else 0))
+
+
+def roomy(rng, length):
+    """A call with enough of everything for blocks of up to 2,048 samples, whatever the length."""
+    return SpectrumCall(random_block(rng, 2048), 0, length, UNBOUNDED, 1025, 1025, scratch_words(2048))
+
+
+def out_of_range(rng, N):
+    """(name, block, place): a sample out of range at the first, the last and a middle place of the block, and a later one too."""
+    for out, place in itertools.product(OUT, sorted({0, N // 2, N - 1})):
+        for later in sorted({place, N - 1}):
+            x = random_block(rng, N)
+            x[place], x[later] = out, out
+            yield "%d at places %d and %d of the block" % (out, place, later), x, place
+
+
+def just_enough(N):
+    """A call with just enough of everything."""
+    return SpectrumCall([0] * N + [1, 2], 2, N, tallied_counts(N).spectrum_products, N // 2 + 1, N // 2 + 1, scratch_words(N))
+
+
+def beyond_edges(N):
+    """(name, call, refusal): the same with buffers, scratch, allowance or start one beyond its edge, or far."""
+    enough, listed = just_enough(N), N // 2 + 1
+    changes = [(3, "cosine_len", listed - 1), (3, "cosine_len", 0), (3, "sine_len", listed - 1), (3, "sine_len", 0),
+               (4, "scratch_len", scratch_words(N) - 1), (4, "scratch_len", 0), (2, "recording", [])]
+    changes += [(2, "start", start) for start in (3, 2 ** 32, 2 ** 64 - N, 2 ** 64 - 1)]
+    changes += [(5, "allowance", enough.allowance - 1)] if enough.allowance else []
+    for number, name, value in changes:
+        yield "%s %s" % (name, value), enough._replace(**{name: value}), number
+
+
+# --- far blocks ------------------------------------------------------------------------
+
+class Far:
+    """A recording of more than 2^32 words, and a block of 8 beyond them; `near` is the same block in a short recording."""
+
+    def __init__(self):
+        self.at = 2 ** 32 + 1024
+        self.recording = Mapped("the far recording", 4, self.at + PAGE, 4 * self.at // PAGE)
+
+    def hold(self, x, around):
+        """The near call and the far one on this block amid these samples."""
+        near = SpectrumCall([*around, *x, *around], len(around), 8, UNBOUNDED, 5, 5, scratch_words(8))
+        self.recording.hold(in_memory("i", near.recording))
+        return near, near._replace(start=self.at + near.start)
+
+    def answer(self, near):
+        """The near call's answer, as the far call must give it."""
+        return near if near.place is None else near._replace(place=self.at + near.place)

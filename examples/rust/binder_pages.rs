@@ -6,22 +6,23 @@
 // or the output not be written.
 // examples/build compiles it; examples/binder_pages.txt is what it prints for a and examples/train_crossing.pair. include/mealbis.h says what the
 // calls do.
+#[path = "../../bindings/rust/mealbis.rs"]
 mod mealbis;
 mod pair_file;
 
-use mealbis::{page, read, scratch_words, spectrum, Refused};
+use mealbis::{page, page_bytes, read, scratch_words, spectrum, spectrum_words, Refused, MOST_FILE_SAMPLES};
 use pair_file::{get_file, refuse};
 use std::io::Write;
 use std::process::exit;
 
 // The pages of all blocks of an abutment, a or b.
 fn pages(file: &[u8], abutment: &str) -> Result<Vec<Vec<u8>>, Refused> {
-    let (mut a, mut b) = (vec![0; 4096], vec![0; 4096]);
+    let (mut a, mut b) = (vec![0; MOST_FILE_SAMPLES], vec![0; MOST_FILE_SAMPLES]);
     let (samples, length) = read(file, &mut a, &mut b)?;
     let recording = &if abutment == "a" { a } else { b }[..samples];
-    let (mut cosine, mut sine, mut scratch) = (vec![0; length / 2 + 1], vec![0; length / 2 + 1], vec![0; scratch_words(length)]);
+    let (mut cosine, mut sine, mut scratch) = (vec![0; spectrum_words(length)], vec![0; spectrum_words(length)], vec![0; scratch_words(length)]);
     let printed = |block| {
-        let mut bytes = vec![0; 31 * (length / 2 + 2)];
+        let mut bytes = vec![0; page_bytes(length)];
         spectrum(recording, block * length, length, u64::MAX, &mut cosine, &mut sine, &mut scratch)?;
         page(&cosine, &sine, length, &mut bytes)?;
         Ok(bytes)

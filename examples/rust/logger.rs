@@ -1,9 +1,10 @@
 // A logger's turn in Rust: reads a pair file, takes the spectrum of one block of a, stores its cosine block and brings the strain back, and takes the pair
 // spectrum of the first block of a and b; then three refusals.
 // Run it at the top of the repository. examples/build compiles it and examples/logger.txt is what it prints; include/mealbis.h says what each call does.
+#[path = "../../bindings/rust/mealbis.rs"]
 mod mealbis;
 
-use mealbis::{cosine, counts, inverse_dct, pair, read, reason, scratch_words, spectrum, Answer, Refused};
+use mealbis::{cosine, counts, inverse_dct, pair, read, reason, scratch_words, spectrum, Answer, Refused, MOST_FILE_SAMPLES};
 use std::process::exit;
 
 fn print_rows(heading: &str, first: &[i32], second: &[i32], rows: std::ops::Range<usize>) {
@@ -22,7 +23,7 @@ fn main() {
     let Ok(file) = std::fs::read("examples/train_crossing.pair") else {
         exit(2);
     };
-    let (mut a, mut b) = (vec![0; 4096], vec![0; 4096]);
+    let (mut a, mut b) = (vec![0; MOST_FILE_SAMPLES], vec![0; MOST_FILE_SAMPLES]);
     let (samples, length) = match read(&file, &mut a, &mut b) {
         Ok(sizes) => sizes,
         Err(Refused(number, _)) => {

@@ -5,17 +5,18 @@
 // Exit status: 0 the sums are printed; 1 the library refuses a file or a block; 2 a file could not be read, the output not be written, or the
 // arguments are wrong.
 // examples/build compiles it; examples/months.txt is what it prints for examples/train_crossing.pair. include/mealbis.h says what the calls do.
+#[path = "../../bindings/rust/mealbis.rs"]
 mod mealbis;
 mod pair_file;
 
-use mealbis::{read, scratch_words, Month, Refused};
+use mealbis::{read, scratch_words, spectrum_words, Month, Refused, MOST_FILE_SAMPLES};
 use pair_file::{get_file, refuse};
 use std::io::Write;
 use std::process::exit;
 
 // Adds all blocks of a recording to a month.
 fn add_blocks(month: &mut Month, recording: &[i32], length: usize) -> Result<(), Refused> {
-    let (mut cosine, mut sine, mut scratch) = (vec![0; length / 2 + 1], vec![0; length / 2 + 1], vec![0; scratch_words(length)]);
+    let (mut cosine, mut sine, mut scratch) = (vec![0; spectrum_words(length)], vec![0; spectrum_words(length)], vec![0; scratch_words(length)]);
     for block in 0..recording.len() / length {
         month.add(recording, block * length, length, u64::MAX, &mut cosine, &mut sine, &mut scratch)?;
     }
@@ -24,7 +25,7 @@ fn add_blocks(month: &mut Month, recording: &[i32], length: usize) -> Result<(),
 
 // Adds the file's blocks to the months of a and b, which are begun before the first file's.
 fn add_file(months: &mut Option<[Month; 2]>, file: &[u8]) -> Result<(), Refused> {
-    let (mut a, mut b) = (vec![0; 4096], vec![0; 4096]);
+    let (mut a, mut b) = (vec![0; MOST_FILE_SAMPLES], vec![0; MOST_FILE_SAMPLES]);
     let (samples, length) = read(file, &mut a, &mut b)?;
     if months.is_none() {
         *months = Some([Month::begin(length)?, Month::begin(length)?]);

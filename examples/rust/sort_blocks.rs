@@ -5,10 +5,11 @@
 // the arguments are wrong. A file without a block asks nothing of the figures.
 // examples/build compiles it; examples/sort_blocks.txt is what it prints for examples/train_crossing.pair, 20000 and 6000. include/mealbis.h says
 // what the calls do.
+#[path = "../../bindings/rust/mealbis.rs"]
 mod mealbis;
 mod pair_file;
 
-use mealbis::{mark, read, scratch_words, Figures, Refused, CLIPPED, FLAT, PLAIN};
+use mealbis::{mark, read, scratch_words, spectrum_words, Figures, Refused, CLIPPED, FLAT, PLAIN, MOST_FILE_SAMPLES};
 use pair_file::{get_file, refuse};
 use std::io::Write;
 use std::process::exit;
@@ -17,14 +18,14 @@ const MARKS: [(&str, u64); 3] = [("flat", FLAT), ("clipped", CLIPPED), ("plain",
 
 // The marks of all blocks of a recording.
 fn mark_blocks(recording: &[i32], length: usize, figures: Figures) -> Result<Vec<u64>, Refused> {
-    let (mut cosine, mut sine, mut scratch) = (vec![0; length / 2 + 1], vec![0; length / 2 + 1], vec![0; scratch_words(length)]);
+    let (mut cosine, mut sine, mut scratch) = (vec![0; spectrum_words(length)], vec![0; spectrum_words(length)], vec![0; scratch_words(length)]);
     let starts = (0..recording.len() / length).map(|block| block * length);
     starts.map(|start| mark(recording, start, length, u64::MAX, figures, &mut cosine, &mut sine, &mut scratch).map(|answer| answer.mark)).collect()
 }
 
 // A line for each mark and recording, with the blocks that have this mark.
 fn sorted(file: &[u8], figures: Figures) -> Result<String, Refused> {
-    let (mut a, mut b) = (vec![0; 4096], vec![0; 4096]);
+    let (mut a, mut b) = (vec![0; MOST_FILE_SAMPLES], vec![0; MOST_FILE_SAMPLES]);
     let (samples, length) = read(file, &mut a, &mut b)?;
     let recordings = [("a", mark_blocks(&a[..samples], length, figures)?), ("b", mark_blocks(&b[..samples], length, figures)?)];
     let mut lines = String::from("mark recording blocks\n");

@@ -2,9 +2,10 @@
 //     write_crossing [FILE]        standard output where there is no FILE
 // Exit status: 0 the file is written; 1 the library refuses the recordings; 2 the file could not be written, or the arguments are wrong.
 // examples/build compiles it; examples/write_crossing.txt is what ./pairspec prints of its file. include/mealbis.h says what the call does.
+#[path = "../../bindings/rust/mealbis.rs"]
 mod mealbis;
 
-use mealbis::{reason, write, Refused};
+use mealbis::{file_bytes, reason, write, Refused};
 use std::io::Write;
 use std::process::exit;
 
@@ -27,7 +28,7 @@ fn main() {
         eprintln!("usage: write_crossing [FILE]");
         exit(2);
     }
-    let mut file = [0; 8 + 8 * NEAR_ABUTMENT.len()];
+    let mut file = [0; file_bytes(NEAR_ABUTMENT.len())];
     let bytes = match write(&NEAR_ABUTMENT, &FAR_ABUTMENT, BLOCK, &mut file) {
         Ok(bytes) => bytes,
         Err(Refused(number, place)) => {

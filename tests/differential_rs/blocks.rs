@@ -1,7 +1,7 @@
 // Accepted blocks: patterns that stress the transforms, put anywhere into a longer recording.
 use crate::calls::{Call, Kind, Rules, KINDS, LARGEST, LENGTHS};
 use crate::circle::{Circle, PLACES};
-use crate::library::scratch_words;
+use crate::mealbis::scratch_words;
 use crate::random::Random;
 use crate::run::Run;
 use crate::ties;

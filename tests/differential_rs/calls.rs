@@ -1,6 +1,6 @@
 // A call on recordings, and document 01's answer to it.
 use crate::circle::Circle;
-use crate::library::scratch_words;
+use crate::mealbis::scratch_words;
 use crate::transforms::{self, Outcome, Tally};
 
 pub const LENGTHS: [usize; 11] = [1, 2, 4, 8, 16, 32, 64, 128, 256, 512, 1024];

@@ -1,7 +1,7 @@
 // Calls that are turned down, and calls with numbers at the ends.
 use crate::blocks::{any_accepted, sample};
 use crate::calls::{Call, Kind, Rules, KINDS, LARGEST, LENGTHS};
-use crate::library::scratch_words;
+use crate::mealbis::scratch_words;
 use crate::random::Random;
 use crate::run::Run;
 

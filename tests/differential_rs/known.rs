@@ -1,6 +1,6 @@
 // Document 01's own numbers. This program's transforms are held to them before anything else, and the library by the same calls.
 use crate::calls::{Call, Counts, Kind, Rules, LARGEST, LENGTHS};
-use crate::library::scratch_words;
+use crate::mealbis::scratch_words;
 use crate::random::Random;
 use crate::run::Run;
 use crate::transforms::{round, Tally};

@@ -1,73 +1,7 @@
-// The library's C functions, and memory that is lent to them with guards on both sides.
-// A record is lent as its words, in the header's order, and mealbis_size is usize: the archive is for a machine of 64 bits.
+// Memory that is lent to the library's functions, with guards on both sides. bindings/rust/mealbis.rs declares the functions; a record and a
+// month are lent as their words, in the header's order.
+use crate::mealbis::Size;
 use crate::random::Random;
-
-#[link(name = "mealbis", kind = "static")]
-extern "C" {
-    pub fn mealbis_spectrum(
-        recording: *const i32, recording_len: usize, start: usize, length: usize, allowance: u64,
-        cosine: *mut i32, cosine_len: usize, sine: *mut i32, sine_len: usize, scratch: *mut i64, scratch_len: usize,
-        answer: *mut u64,
-    ) -> u32;
-
-    pub fn mealbis_mark(
-        recording: *const i32, recording_len: usize, start: usize, length: usize, allowance: u64, flat_limit: i32, clip_level: i32,
-        cosine: *mut i32, cosine_len: usize, sine: *mut i32, sine_len: usize, scratch: *mut i64, scratch_len: usize,
-        answer: *mut u64,
-    ) -> u32;
-
-    pub fn mealbis_month_begin(month: *mut i64, length: usize) -> u32;
-
-    pub fn mealbis_month_add(
-        month: *mut i64, recording: *const i32, recording_len: usize, start: usize, length: usize, allowance: u64,
-        cosine: *mut i32, cosine_len: usize, sine: *mut i32, sine_len: usize, scratch: *mut i64, scratch_len: usize,
-        answer: *mut u64,
-    ) -> u32;
-
-    pub fn mealbis_month_length(month: *const i64) -> usize;
-
-    pub fn mealbis_month_blocks(month: *const i64) -> i64;
-
-    pub fn mealbis_month_sums(month: *const i64, k: usize, sums: *mut i64) -> u32;
-
-    pub fn mealbis_page(
-        cosine: *const i32, cosine_len: usize, sine: *const i32, sine_len: usize, length: usize,
-        page: *mut u8, page_len: usize, answer: *mut u64,
-    ) -> u32;
-
-    pub fn mealbis_cosine(
-        recording: *const i32, recording_len: usize, start: usize, length: usize, allowance: u64,
-        coefficients: *mut i32, coefficients_len: usize, scratch: *mut i64, scratch_len: usize,
-        answer: *mut u64,
-    ) -> u32;
-
-    pub fn mealbis_inverse_dct(
-        coefficients: *const i32, coefficients_len: usize, length: usize,
-        values: *mut i32, values_len: usize, answer: *mut u64,
-    ) -> u32;
-
-    pub fn mealbis_pair(
-        a: *const i32, a_len: usize, b: *const i32, b_len: usize, start: usize, length: usize, allowance: u64,
-        real: *mut i32, real_len: usize, imaginary: *mut i32, imaginary_len: usize, scratch: *mut i64, scratch_len: usize,
-        answer: *mut u64,
-    ) -> u32;
-
-    pub fn mealbis_counts(length: usize, answer: *mut u64) -> u32;
-
-    pub fn mealbis_read(
-        file: *const u8, file_len: usize, a: *mut i32, a_len: usize, b: *mut i32, b_len: usize, answer: *mut u64,
-    ) -> u32;
-
-    pub fn mealbis_write(
-        a: *const i32, a_len: usize, b: *const i32, b_len: usize, length: usize,
-        file: *mut u8, file_len: usize, answer: *mut u64,
-    ) -> u32;
-}
-
-// The words of scratch that a block of this length needs; of a length beyond all memory, as many as there can be.
-pub const fn scratch_words(length: usize) -> usize {
-    length.saturating_mul(8).saturating_add(64)
-}
 
 // ---- lent memory
 
@@ -131,12 +65,13 @@ impl<T: Word> Lent<T> {
         lent
     }
 
-    pub fn len(&self) -> usize {
-        self.len
-    }
-
     pub fn pointer(&mut self) -> *mut T {
         self.memory[self.first..].as_mut_ptr()
+    }
+
+    // the arguments by which it is lent
+    pub fn given(&mut self) -> (*mut T, Size) {
+        (self.pointer(), self.len as Size)
     }
 
     // These words should stand in front after the call, and every other word be as it is.

@@ -17,6 +17,8 @@ mod hostile;
 mod known;
 mod library;
 mod marked;
+#[path = "../../bindings/rust/mealbis.rs"]
+mod mealbis;
 mod months;
 mod pages;
 mod random;

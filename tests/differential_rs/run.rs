@@ -4,6 +4,8 @@ use crate::exact::{distance, within, Part};
 use crate::files::File;
 use crate::library::*;
 use crate::marked::Marking;
+use crate::mealbis::raw::*;
+use crate::mealbis::{scratch_words, Size};
 use crate::months::{LentMonth, Month, FIRST_COSINE, FIRST_SINE};
 use crate::pages::Printing;
 use crate::random::Random;
@@ -101,7 +103,7 @@ impl Run {
         let (begun, correct) = Month::begun(length);
         month.month = begun;
         month.lent.expect(&month.month.words);
-        let number = unsafe { mealbis_month_begin(month.lent.pointer(), length) };
+        let number = unsafe { mealbis_month_begin(month.lent.pointer().cast(), length as Size) };
         self.record.answer(BEGIN, correct, &[]);
         self.end(vec![month.lent.difference()], number, correct, || format!("a month begun for {length}"));
     }
@@ -150,9 +152,9 @@ impl Run {
         let correct = if sums.is_some() { 0 } else { 16 };
         let (cosine, sine) = sums.unwrap_or((0, 0));
         let mut record = record("the two sums", &[cosine, sine], random);
-        let lent = month.lent.pointer();
-        let number = unsafe { mealbis_month_sums(lent, k, record.pointer()) };
-        let (length, blocks) = unsafe { (mealbis_month_length(lent), mealbis_month_blocks(lent)) };
+        let lent = month.lent.pointer().cast();
+        let number = unsafe { mealbis_month_sums(lent, k as Size, record.pointer().cast()) };
+        let (length, blocks) = unsafe { (mealbis_month_length(lent) as usize, mealbis_month_blocks(lent)) };
 
         let mut found = vec![month.lent.difference(), record.difference()];
         found.push((length != month.month.length()).then(|| format!("the length is {length} and not {}", month.month.length())));
@@ -170,9 +172,10 @@ impl Run {
         let mut record = record("the record: bytes", &[written.len() as u64], random);
         page.expect(&written);
         let number = {
-            let [(cosine, cosine_len), (sine, sine_len)] = rows.each_mut().map(|row| (row.pointer(), row.len()));
+            let [(cosine, cosine_len), (sine, sine_len)] = rows.each_mut().map(Lent::given);
             let sine = if call.same_words { cosine } else { sine };
-            unsafe { mealbis_page(cosine, cosine_len, sine, sine_len, call.length, page.pointer(), page.len(), record.pointer()) }
+            let (bytes, bytes_len) = page.given();
+            unsafe { mealbis_page(cosine, cosine_len, sine, sine_len, call.length as Size, bytes, bytes_len, record.pointer().cast()) }
         };
 
         let mut found = vec![page.difference(), record.difference()];
@@ -194,7 +197,10 @@ impl Run {
         let mut values = Lent::filled("the values", call.values, random);
         let mut record = record("the record: place", &[answer.place as u64], random);
         values.expect(&answer.sums.iter().map(|&sum| rounded(sum, call.length)).collect::<Vec<_>>());
-        let number = unsafe { mealbis_inverse_dct(coefficients.pointer(), coefficients.len(), call.length, values.pointer(), values.len(), record.pointer()) };
+        let number = {
+            let ((given, given_len), (back, back_len)) = (coefficients.given(), values.given());
+            unsafe { mealbis_inverse_dct(given, given_len, call.length as Size, back, back_len, record.pointer().cast()) }
+        };
 
         let mut wrong = differences(&[coefficients.difference(), values.difference(), record.difference()]);
         wrong.extend(wrong_number(number, answer.number));
@@ -228,7 +234,7 @@ impl Run {
         let expected = self.rules.counts(length);
         let six = expected.map_or([0; 6], |c| [c.dct.products, c.dct.sums, c.spectrum.products, c.spectrum.sums, c.pair.products, c.pair.sums]);
         let mut record = record("the six counts", &six, random);
-        let number = unsafe { mealbis_counts(length, record.pointer()) };
+        let number = unsafe { mealbis_counts(length as Size, record.pointer().cast()) };
 
         let correct = if expected.is_some() { 0 } else { 1 };
         self.record.answer(COUNTS, correct, &[]);
@@ -246,8 +252,9 @@ impl Run {
             recording.expect(samples);
         }
         let number = {
-            let [a, b] = &mut recordings;
-            unsafe { mealbis_read(bytes.pointer(), bytes.len(), a.pointer(), a.len(), b.pointer(), b.len(), record.pointer()) }
+            let [(a, a_len), (b, b_len)] = recordings.each_mut().map(Lent::given);
+            let (data, data_len) = bytes.given();
+            unsafe { mealbis_read(data, data_len, a, a_len, b, b_len, record.pointer().cast()) }
         };
 
         let mut found = vec![bytes.difference(), record.difference()];
@@ -265,9 +272,10 @@ impl Run {
         let mut record = record("the record: bytes, place", &[answer.file.len() as u64, answer.place as u64], random);
         file.expect(&answer.file);
         let number = {
-            let [(a, a_len), (b, b_len)] = recordings.each_mut().map(|recording| (recording.pointer(), recording.len()));
+            let [(a, a_len), (b, b_len)] = recordings.each_mut().map(Lent::given);
             let b = if call.same_words { a } else { b };
-            unsafe { mealbis_write(a, a_len, b, b_len, call.length, file.pointer(), file.len(), record.pointer()) }
+            let (bytes, bytes_len) = file.given();
+            unsafe { mealbis_write(a, a_len, b, b_len, call.length as Size, bytes, bytes_len, record.pointer().cast()) }
         };
 
         let mut found = vec![file.difference(), record.difference()];
@@ -340,27 +348,27 @@ impl LentCall {
     }
 
     fn make(&mut self, call: &Call, beside: Beside) -> u32 {
-        let (start, length, allowance) = (call.start, call.length, call.allowance);
-        let lent: Vec<(*mut i32, usize)> = self.recordings.iter_mut().map(|r| (r.pointer(), r.len())).collect();
-        let out: Vec<(*mut i32, usize)> = self.results.iter_mut().map(|r| (r.pointer(), r.len())).collect();
+        let (start, length, allowance) = (call.start as Size, call.length as Size, call.allowance);
+        let lent: Vec<(*mut i32, Size)> = self.recordings.iter_mut().map(Lent::given).collect();
+        let out: Vec<(*mut i32, Size)> = self.results.iter_mut().map(Lent::given).collect();
         let (a, a_len) = lent[0];
         let (b, b_len) = if call.same_words { lent[0] } else { lent[lent.len() - 1] };
         let ((y, y_len), (z, z_len)) = (out[0], out[out.len() - 1]);
-        let (work, work_len) = (self.scratch.pointer(), self.scratch.len());
+        let (work, work_len) = self.scratch.given();
         let record = self.record.pointer();
         unsafe {
             match (call.kind, beside) {
                 (Kind::Spectrum, Beside::Nothing) => {
-                    mealbis_spectrum(a, a_len, start, length, allowance, y, y_len, z, z_len, work, work_len, record)
+                    mealbis_spectrum(a, a_len, start, length, allowance, y, y_len, z, z_len, work, work_len, record.cast())
                 }
                 (Kind::Spectrum, Beside::Figures(flat, clip)) => {
-                    mealbis_mark(a, a_len, start, length, allowance, flat, clip, y, y_len, z, z_len, work, work_len, record)
+                    mealbis_mark(a, a_len, start, length, allowance, flat, clip, y, y_len, z, z_len, work, work_len, record.cast())
                 }
                 (Kind::Spectrum, Beside::Month(month)) => {
-                    mealbis_month_add(month, a, a_len, start, length, allowance, y, y_len, z, z_len, work, work_len, record)
+                    mealbis_month_add(month.cast(), a, a_len, start, length, allowance, y, y_len, z, z_len, work, work_len, record.cast())
                 }
-                (Kind::Cosine, _) => mealbis_cosine(a, a_len, start, length, allowance, y, y_len, work, work_len, record),
-                (Kind::Pair, _) => mealbis_pair(a, a_len, b, b_len, start, length, allowance, y, y_len, z, z_len, work, work_len, record),
+                (Kind::Cosine, _) => mealbis_cosine(a, a_len, start, length, allowance, y, y_len, work, work_len, record.cast()),
+                (Kind::Pair, _) => mealbis_pair(a, a_len, b, b_len, start, length, allowance, y, y_len, z, z_len, work, work_len, record.cast()),
             }
         }
     }

@@ -1,6 +1,6 @@
 // Adds many blocks to months, one after the other, and writes the months' block numbers and sums: a program that keeps a month through a
 // loop, and relies on it that the sums of a month that holds a history are small. The file stdout beside src/ was made by
-// tests/month_sums.py, which shares nothing with the product.
+// tests/expect_month_sums.py, which shares nothing with the product.
 use libc::STDOUT_FILENO;
 use months::Month;
 use months::add;

@@ -1,4 +1,4 @@
-// Writes the stored quarter wave, an entry to a line. The file stdout beside src/ was made by tests/quarter_wave.py, which shares nothing
+// Writes the stored quarter wave, an entry to a line. The file stdout beside src/ was made by tests/expect_quarter_wave.py, which shares nothing
 // with the product.
 use libc::STDOUT_FILENO;
 

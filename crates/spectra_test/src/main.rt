@@ -1,5 +1,5 @@
 // Runs Spectrum, Cosine, Pair and the count query, and writes what each answers and what then stands in its buffers. The file stdout beside
-// src/ was made by tests/spectra.py, which shares nothing with the product.
+// src/ was made by tests/expect_spectra.py, which shares nothing with the product.
 use counts::tally::Tally;
 use libc::STDOUT_FILENO;
 use refusals::length::MOST_SCRATCH;

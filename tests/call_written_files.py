@@ -1,7 +1,7 @@
 #!/usr/bin/env python3
 """Calls mealbis_write of the library, over its C interface, and compares each file, byte for byte, with that of tests/reference.py.
 
-    python3 tests/written_files.py [--library PATH] [--seed NUMBER]
+    python3 tests/call_written_files.py [--library PATH] [--seed NUMBER]
 
 Builds libmealbis.a and a shared library of it, target/shared/libmealbis.so; or takes another shared library. Of every call it compares the
 answer, the record (bytes, place), the whole buffer of the file and the recordings, with guards before and behind each. What is written goes through
@@ -13,7 +13,8 @@ import array
 import itertools
 import sys
 
-from library import BAD_LENGTHS, OUT, Calls, Mapped, Record, in_memory, lent_bytes, lent_samples, lent_words, run
+from library import (BAD_LENGTHS, OUT, Calls, Mapped, Record, every_set, first, held, in_memory, lengths_up_to, lent_bytes, lent_samples,
+                     lent_words, mealbis, run)
 from reference import LARGEST_SAMPLE, LENGTHS, MOST_FILE_SAMPLES, file_size, write_pair_file
 
 ORDER = (8, 11, 1, 6, 3)            # in which mealbis_write tests
@@ -37,7 +38,7 @@ class FileCalls(Calls):
         lent_b = lent_a if b is a else lent_samples("b", b)
         file = lent_bytes(self.rng, "the file", self.rng.randbytes(size))
         file.expect(answer.data)
-        record = Record(self.rng, {"bytes": len(answer.data), "place": answer.place or 0})
+        record = Record(self.rng, mealbis.WriteAnswer, bytes=len(answer.data), place=answer.place or 0)
         self.compare(name, self.write_function, (lent_a, lent_b, length, file, record), answer.refusal)
         return file.front(len(answer.data))
 
@@ -48,10 +49,9 @@ class FileCalls(Calls):
         recordings = [lent_words(self.rng, which, 4, m + spare) for which in "ab"]
         for recording, wanted in zip(recordings, (a, b)):
             recording.expect(in_memory("i", wanted))
-        record = Record(self.rng, {"samples": m, "length": length, "place": 0})
+        record = Record(self.rng, mealbis.ReadAnswer, samples=m, length=length, place=0)
         self.compare(name, self.read_function, (file, *recordings, record), 0)
-        _, length, _ = array.array("Q", record.front(24))
-        return [list(array.array("i", recording.front(4 * m))) for recording in recordings], length
+        return [list(array.array("i", recording.front(4 * m))) for recording in recordings], record.now().length
 
     def round_trip(self, name, a, b, length, more):
         """An accepted input written to a buffer with so many bytes more, and read again."""
@@ -117,9 +117,8 @@ def check_read_and_written(calls, count=300):
 def holding(a, b, length, size):
     """The conditions that hold, whatever the others do, in their order."""
     m = len(a)
-    holds = {8: m == 0 or m > 4096, 11: len(b) != m, 1: length not in LENGTHS,
-             6: any(abs(sample) > 1_000_000 for sample in itertools.chain(a, b)), 3: size < 8 + 8 * m}
-    return tuple(number for number in ORDER if holds[number])
+    return held(ORDER, {8: m == 0 or m > 4096, 11: len(b) != m, 1: length not in LENGTHS,
+                        6: any(abs(sample) > 1_000_000 for sample in itertools.chain(a, b)), 3: size < 8 + 8 * m})
 
 
 def broken(rng, numbers):
@@ -139,16 +138,14 @@ def broken(rng, numbers):
 
 def check_refusals(calls):
     """Each refusal alone and every set of them together: the earliest wins."""
-    met = set()
-    sets = [numbers for size in range(len(ORDER) + 1) for numbers in itertools.combinations(ORDER, size)]
+    met, sets = set(), every_set(ORDER)
     for numbers in sets:
         for a, b, length, size in broken(calls.rng, numbers):
-            held = holding(a, b, length, size)
-            met.add(held)
-            name = "refusals %s, recordings of %d and %d, N %d, %d bytes" % (held, len(a), len(b), length, size)
-            calls.write(name, a, b, length, size, held[0] if held else 0)
-    for numbers in sets:
-        calls.add("refusals %s together" % (numbers,), [None if numbers in met else "no call met them"])
+            together = holding(a, b, length, size)
+            met.add(together)
+            name = "refusals %s, recordings of %d and %d, N %d, %d bytes" % (together, len(a), len(b), length, size)
+            calls.write(name, a, b, length, size, first(together))
+    calls.require(sets, met)
 
 
 def check_places(calls):
@@ -168,7 +165,7 @@ def check_places(calls):
 
 def check_lengths(calls):
     """Every block length up to 2,100 and some far ones: the eleven are accepted."""
-    for length in (*range(2101), *BAD_LENGTHS, *(length << 32 for length in LENGTHS), *(length + 2 ** 32 for length in LENGTHS)):
+    for length in lengths_up_to(2100):
         calls.write("N %d" % length, [5], [-5], length, 20, 0 if length in LENGTHS else 1)
 
 
@@ -191,10 +188,10 @@ def check_far_sizes(calls):
     for a, b, number in ((words, words, 8), (words, lent_samples("b", few), 8), (lent_samples("a", few), words, 11)):
         lent = lent_bytes(calls.rng, "the file", calls.rng.randbytes(100))
         name = "recordings of %d and %d" % (a.count, b.count)
-        calls.compare(name, calls.write_function, (a, b, 4, lent, Record(calls.rng, {"bytes": 0, "place": 0})), number)
+        calls.compare(name, calls.write_function, (a, b, 4, lent, Record(calls.rng, mealbis.WriteAnswer, bytes=0, place=0)), number)
     answer = write_pair_file(few, few, 4, file.count)
     file.expect(answer.data)
-    given = lent_samples("a", few), lent_samples("b", few), 4, file, Record(calls.rng, {"bytes": 40, "place": 0})
+    given = lent_samples("a", few), lent_samples("b", few), 4, file, Record(calls.rng, mealbis.WriteAnswer, bytes=40, place=0)
     calls.compare("a file of %d bytes" % file.count, calls.write_function, given, 0)
 
 

@@ -1,7 +1,7 @@
 #!/usr/bin/env python3
 """Runs the program pairspec on many files and compares each output, byte for byte, with tests/reference.py.
 
-    python3 tests/pairspec.py [--program PATH] [--seed NUMBER] [--random COUNT]
+    python3 tests/run_pairspec.py [--program PATH] [--seed NUMBER] [--random COUNT]
 
 The last line is 'N passed, 0 failed'. Exit status 1 where an output differs.
 """

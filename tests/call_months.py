@@ -1,8 +1,8 @@
 #!/usr/bin/env python3
 """Calls the months of the library, over its C interface, and compares each answer and each month with those of tests/reference.py.
 
-    python3 tests/months.py [--library PATH] [--seed NUMBER]
-    python3 tests/months.py --example FILE..        what the example `months` prints for these pair files, by the reference alone
+    python3 tests/call_months.py [--library PATH] [--seed NUMBER]
+    python3 tests/call_months.py --example FILE..        what the example `months` prints for these pair files, by the reference alone
 
 Builds libmealbis.a and a shared library of it, target/shared/libmealbis.so; or takes another shared library. After every call of
 mealbis_month_begin and mealbis_month_add it compares every word of the month, and of adding also the answer, the record (products, sums,
@@ -13,17 +13,18 @@ The last line is 'N passed, 0 failed'. Exit status 1 where something differs.
 """
 import array
 import collections
-import ctypes
 import itertools
 import struct
 import sys
 from pathlib import Path
 
-from library import BAD_LENGTHS, GUARD, OUT, PAGE, ROOT, Calls, Lent, Mapped, Record, in_memory, lent_samples, run
+from library import (BAD_LENGTHS, FAR_LENGTHS, GUARD, OUT, ROOT, Calls, Lent, Record, every_set, first, held, in_memory, lengths_up_to,
+                     lent_samples, mealbis, run)
 from reference import (COSINE_TIE, DIFFERS_FROM_DIRECT, FIRST_COSINE, FIRST_SINE, LARGEST_SAMPLE, LARGEST_SUM, LENGTHS, MONTH_WORDS, MOST_BLOCKS,
                        MOST_FILE_SAMPLES, SINE_TIE, exact_cosine, exact_month, exact_sine, month_add, month_begin, month_blocks, month_length,
-                       month_sums, read_pair_file, scratch_words, spectrum, spectrum_call, tallied_counts, within_eighths)
-from spectrum_calls import UNBOUNDED, SpectrumCall, broken, conditions, largest_blocks, lend, placed, random_block
+                       month_sums, read_pair_file, scratch_words, spectrum, spectrum_call, within_eighths)
+from spectrum_calls import (UNBOUNDED, Far, SpectrumCall, beyond_edges, broken, conditions, just_enough, largest_blocks, lend, out_of_range,
+                            placed, random_block, roomy)
 
 ORDER = (13, 14, 2, 3, 4, 5, 6)     # in which mealbis_month_add tests
 REFUSED = (13, 2, 3, 4, 5, 6)       # by these before a month is full
@@ -37,15 +38,14 @@ EXAMPLE = ("examples/train_crossing.pair",), "examples/months.txt"
 # --- calls -------------------------------------------------------------------------
 
 class Month(Lent):
-    """The words of a month, lent by their pointer alone; `words` are those that should stand there."""
+    """The words of a month; `words` are those that should stand there."""
+
+    alone = True
 
     def __init__(self, rng, words):
         super().__init__("the month", MONTH_WORDS, in_memory("q", words), (rng.randbytes(GUARD), rng.randbytes(GUARD)))
         self.expected = bytearray(self.expected)
         self.words = words
-
-    def given(self):
-        return [self.pointer()]
 
     def become(self, words):
         self.expect(in_memory("q", words))
@@ -79,8 +79,7 @@ class MonthCalls(Calls):
     def __init__(self, library, rng):
         super().__init__(library, rng)
         self.begin_function, self.add_function, self.sums_function = (self.function("mealbis_month_" + name) for name in ("begin", "add", "sums"))
-        self.length_function = self.function("mealbis_month_length", ctypes.c_uint64)
-        self.blocks_function = self.function("mealbis_month_blocks", ctypes.c_int64)
+        self.length_function, self.blocks_function = self.function("mealbis_month_length"), self.function("mealbis_month_blocks")
         self.spectrum_function = self.function("mealbis_spectrum")
         self.answered = collections.Counter()
 
@@ -116,7 +115,7 @@ class MonthCalls(Calls):
         self.compare(name + ", the block number", self.blocks_function, (month,), month_blocks(month.words))
         for k in places:
             refusal, cosine, sine = month_sums(month.words, k)
-            record = Record(self.rng, {"cosine": cosine, "sine": sine}, "q")
+            record = Record(self.rng, mealbis.SumsAnswer, cosine=cosine, sine=sine)
             self.compare("%s, the sums for k = %d" % (name, k), self.sums_function, (month, k, record), refusal)
 
     def near(self, name, month, blocks, places):
@@ -165,12 +164,11 @@ def possible(numbers, N):
 
 def held_conditions(month, call):
     """The conditions that hold, whatever the others do, in their order."""
-    holds = conditions(call) | {13: month.words[0] not in LENGTHS or call.length != month.words[0], 14: month.words[1] >= 100_000}
-    return tuple(number for number in ORDER if holds[number])
+    return held(ORDER, conditions(call) | {13: month.words[0] not in LENGTHS or call.length != month.words[0], 14: month.words[1] >= 100_000})
 
 
 def held_first(month, call):
-    return (*held_conditions(month, call), 0)[0]
+    return first(held_conditions(month, call))
 
 
 def check_histories(calls):
@@ -292,22 +290,17 @@ def check_last_blocks(calls):
 
 # --- beginning and reading -------------------------------------------------------------
 
-def plain_call(rng, length):
-    """A call with enough of everything for blocks of up to 2,048 samples."""
-    return SpectrumCall(random_block(rng, 2048), 0, length, UNBOUNDED, 1025, 1025, scratch_words(2048))
-
-
 def check_beginnings(calls):
     """Every length and bad ones, begun in memory with anything in it; then blocks of every length and of bad ones: 13 but for the month's own."""
     rng = calls.rng
     bad_blocks = (0, 3, 1023, 2048, 2 ** 32, 2 ** 63, 2 ** 64 - 1)
-    for length in (*LENGTHS, *BAD_LENGTHS, *(length << 32 for length in LENGTHS), *(length + 2 ** 32 for length in LENGTHS), 2 ** 64 - 1024):
+    for length in (*LENGTHS, *BAD_LENGTHS, *FAR_LENGTHS):
         for held in (None, [-1] * MONTH_WORDS, [LARGEST] * MONTH_WORDS, month_words(8, 100_000, [5] * 513, [6] * 513)):
             month = calls.begin("a beginning", length, held)
             calls.add("a beginning for %d" % length, [None if month.now() == [length if length in LENGTHS else 0] + [0] * 1027 else "other words"])
         for other in (*LENGTHS, *bad_blocks, length):
             good = length in LENGTHS and other == length
-            calls.block("after a beginning for %d" % length, month, plain_call(rng, other), 0 if good else 13)
+            calls.block("after a beginning for %d" % length, month, roomy(rng, other), 0 if good else 13)
         if length not in LENGTHS:
             for numbers in ((2,), (3,), (4,), (6,), (2, 3, 4, 6)):
                 calls.block("after a beginning for %d" % length, month, broken(rng, numbers, rng.choice(LENGTHS[1:])), 13)
@@ -326,7 +319,7 @@ def check_empty_after_refusal(calls):
             calls.add("a bad length", [None if month.now() == [0] * MONTH_WORDS else "a word is not 0"])
             calls.block("after a bad length", month, placed(rng, random_block(rng, N)), 13)
             for length in (0, bad):
-                calls.block("after a bad length, a block of another", month, plain_call(rng, length), 13)
+                calls.block("after a bad length, a block of another", month, roomy(rng, length), 13)
             calls.read("after a bad length", month, (0, 1, N // 2, *FAR_K))
 
 
@@ -363,78 +356,62 @@ def check_other_words(calls):
     for held in NO_LENGTHS:
         month = Month(rng, [held, rng.choice((0, 100_000, -1)), *any_words(rng)[2:]])
         for length in (*LENGTHS, 0, held % 2 ** 64, held % 2 ** 32):
-            calls.block("a length of none", month, plain_call(rng, length), 13)
+            calls.block("a length of none", month, roomy(rng, length), 13)
 
 
 # --- refusals ------------------------------------------------------------------------
 
 def check_refusals(calls):
     """Each refusal alone and every set of them together, at many lengths: the earliest wins, and the month stays."""
-    rng, met = calls.rng, set()
-    sets = [numbers for size in range(len(ORDER) + 1) for numbers in itertools.combinations(ORDER, size)]
+    rng, met, sets = calls.rng, set(), every_set(ORDER)
     for numbers in sets:
         for N in LENGTHS[3:] if 5 in numbers else LENGTHS[1:]:
             for length in (3, 6, 2048, rng.choice([other for other in LENGTHS[3:] if other != N])) if 13 in numbers else (N,):
                 blocks = rng.choice((100_000, 100_001) if 14 in numbers else (0, 5, 99_999))
                 month = Month(rng, month_words(N, blocks, [9] * 513, [-9] * 513))
                 call = broken(rng, numbers, length)
-                held = held_conditions(month, call)
-                met.add(held)
-                calls.block("refusals %s" % (held,), month, call, held_first(month, call))
-    for numbers in sets:
-        calls.add("refusals %s together" % (numbers,), [None if numbers in met else "no call met them"])
+                met.add(held_conditions(month, call))
+                calls.block("refusals %s" % (held_conditions(month, call),), month, call, held_first(month, call))
+    calls.require(sets, met)
 
 
 def check_places(calls):
     """A sample out of range at the first, the last and a middle place of the block, and a later one too."""
     rng = calls.rng
-    for N, out in itertools.product(LENGTHS, OUT):
+    for N in LENGTHS:
         month = calls.begin("places", N)
         calls.block("places", month, placed(rng, random_block(rng, N)))
-        for place in sorted({0, N // 2, N - 1}):
-            for later in sorted({place, N - 1}):
-                x = random_block(rng, N)
-                x[place], x[later] = out, out
-                call = placed(rng, x)
-                answer = calls.block("%d at places %d and %d of the block" % (out, place, later), month, call, 6)
-                calls.add("the place", [None if answer.place == call.start + place else "the reference answers place %s" % answer.place])
+        for name, x, place in out_of_range(rng, N):
+            call = placed(rng, x)
+            answer = calls.block(name, month, call, 6)
+            calls.add("the place", [None if answer.place == call.start + place else "the reference answers place %s" % answer.place])
 
 
 def check_edges(calls):
     """Buffers, scratch, allowance and start at their edges and one beyond."""
     for N in LENGTHS:
-        listed, products = N // 2 + 1, tallied_counts(N).spectrum_products
         month = calls.begin("edges", N)
-        call = SpectrumCall([0] * N + [1, 2], 2, N, products, listed, listed, scratch_words(N))
-        changes = [(3, "cosine_len", listed - 1), (3, "cosine_len", 0), (3, "sine_len", listed - 1), (3, "sine_len", 0),
-                   (4, "scratch_len", scratch_words(N) - 1), (4, "scratch_len", 0), (2, "recording", [])]
-        changes += [(2, "start", start) for start in (3, 2 ** 32, 2 ** 64 - N, 2 ** 64 - 1)]
-        changes += [(5, "allowance", products - 1)] if products else []
-        for number, name, value in changes:
-            calls.block("just enough", month, call)
-            calls.block("%s %s" % (name, value), month, call._replace(**{name: value}), number)
+        for name, call, number in beyond_edges(N):
+            calls.block("just enough", month, just_enough(N))
+            calls.block(name, month, call, number)
 
 
 def check_lengths(calls):
     """Blocks of every length up to 130 and of some far ones, in a month of each length: 13 but for its own."""
     for N in LENGTHS:
         month = calls.begin("lengths", N)
-        for length in (*BAD_LENGTHS, *range(131), *LENGTHS[8:], N << 32, N + 2 ** 32, 2 ** 64 - N):
-            calls.block("a length", month, plain_call(calls.rng, length), 0 if length == N else 13)
+        for length in lengths_up_to(130):
+            calls.block("a length", month, roomy(calls.rng, length), 0 if length == N else 13)
 
 
 def check_far(calls):
     """A recording of more than 2^32 words, and a block beyond them: no start and no place is cut to 32 bits."""
-    far = 2 ** 32 + 1024
-    recording = Mapped("the far recording", 4, far + PAGE, 4 * far // PAGE)
-    month = calls.begin("far", 8)
+    far, month = Far(), calls.begin("far", 8)
     for last, number, place in ((-3, 0, None), (-30, 0, None), (OUT[0], 6, 7)):
-        near = SpectrumCall([9, 9, 5, -3, 5, -3, 5, -3, 5, last, 9, 9], 2, 8, UNBOUNDED, 5, 5, scratch_words(8))
-        recording.hold(in_memory("i", near.recording))
-        answer, then = month_add(month.words, *near)
+        near_call, far_call = far.hold([5, -3, 5, -3, 5, -3, 5, last], (9, 9))
+        answer, then = month_add(month.words, *near_call)
         calls.add("near block", [None if (answer.refusal, answer.place) == (number, place and 2 + place) else "%s" % (answer,)])
-        answer = answer._replace(place=place and far + 2 + place)
-        calls.compare_block("far block, last sample %d" % last, month, near._replace(start=far + 2), recording, answer, then)
+        calls.compare_block("far block, last sample %d" % last, month, far_call, far.recording, far.answer(answer), then)
 
 
 def check_met(calls):

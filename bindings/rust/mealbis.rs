@@ -1,61 +1,97 @@
-// The calls of include/mealbis.h for Rust; an example takes those that it needs by `mod mealbis;`.
-// They are safe: a `&mut` slice overlaps nothing, so whatever is passed keeps the header's section "Buffers".
+// The calls of include/mealbis.h for Rust, which says what each does. A program takes this file by
+//     #[path = ".../bindings/rust/mealbis.rs"]
+//     mod mealbis;
+// and is linked with libmealbis.a: rustc -L native=FOLDER. tests/check_declarations.py holds the declarations to the Rattle source.
+//
+// The functions are safe: a `&mut` slice overlaps nothing, so whatever is passed keeps the header's section "Buffers". A count, a start or a
+// length may be any number. What they are built on is in `raw`.
 #![allow(dead_code)]
 
-// mealbis_size: 64 bits on every machine
-type Size = u64;
+// of the header that these declarations belong to; version() is that of the archive
+pub const VERSION: u32 = 30000;
 
-#[link(name = "mealbis", kind = "static")]
-extern "C" {
-    fn mealbis_spectrum(
-        recording: *const i32, recording_words: Size, start: Size, length: Size, allowance: u64,
-        cosine: *mut i32, cosine_words: Size, sine: *mut i32, sine_words: Size, scratch: *mut i64, scratch_words: Size, answer: &mut Answer,
-    ) -> u32;
-    fn mealbis_mark(
-        recording: *const i32, recording_words: Size, start: Size, length: Size, allowance: u64, flat_limit: i32, clip_level: i32,
-        cosine: *mut i32, cosine_words: Size, sine: *mut i32, sine_words: Size, scratch: *mut i64, scratch_words: Size, answer: &mut MarkAnswer,
-    ) -> u32;
-    fn mealbis_month_begin(month: &mut Month, length: Size) -> u32;
-    fn mealbis_month_add(
-        month: &mut Month, recording: *const i32, recording_words: Size, start: Size, length: Size, allowance: u64,
-        cosine: *mut i32, cosine_words: Size, sine: *mut i32, sine_words: Size, scratch: *mut i64, scratch_words: Size, answer: &mut Answer,
-    ) -> u32;
-    fn mealbis_month_length(month: &Month) -> Size;
-    fn mealbis_month_blocks(month: &Month) -> i64;
-    fn mealbis_month_sums(month: &Month, k: Size, sums: &mut Sums) -> u32;
-    fn mealbis_page(
-        cosine: *const i32, cosine_words: Size, sine: *const i32, sine_words: Size, length: Size, page: *mut u8, page_bytes: Size,
-        answer: &mut PageAnswer,
-    ) -> u32;
-    fn mealbis_cosine(
-        recording: *const i32, recording_words: Size, start: Size, length: Size, allowance: u64,
-        coefficients: *mut i32, coefficients_words: Size, scratch: *mut i64, scratch_words: Size, answer: &mut Answer,
-    ) -> u32;
-    fn mealbis_inverse_dct(
-        coefficients: *const i32, coefficients_words: Size, length: Size, values: *mut i32, values_words: Size, answer: &mut InverseAnswer,
-    ) -> u32;
-    fn mealbis_pair(
-        a: *const i32, a_words: Size, b: *const i32, b_words: Size, start: Size, length: Size, allowance: u64,
-        re: *mut i32, re_words: Size, im: *mut i32, im_words: Size, scratch: *mut i64, scratch_words: Size, answer: &mut Answer,
-    ) -> u32;
-    fn mealbis_counts(length: Size, answer: &mut Counts) -> u32;
-    fn mealbis_read(
-        file: *const u8, file_bytes: Size, a: *mut i32, a_words: Size, b: *mut i32, b_words: Size, answer: &mut ReadAnswer,
-    ) -> u32;
-    fn mealbis_write(
-        a: *const i32, a_words: Size, b: *const i32, b_words: Size, length: Size, file: *mut u8, file_bytes: Size, answer: &mut WriteAnswer,
-    ) -> u32;
+// mealbis_size: 64 bits on every machine
+pub type Size = u64;
+
+// The functions as they are exported: pointers and counts, for who keeps the section "Buffers" himself.
+pub mod raw {
+    use super::*;
+
+    #[link(name = "mealbis", kind = "static")]
+    extern "C" {
+        pub fn mealbis_version() -> u32;
+        pub fn mealbis_spectrum(
+            recording: *const i32, recording_words: Size, start: Size, length: Size, allowance: u64,
+            cosine: *mut i32, cosine_words: Size, sine: *mut i32, sine_words: Size, scratch: *mut i64, scratch_words: Size, answer: *mut Answer,
+        ) -> u32;
+        pub fn mealbis_mark(
+            recording: *const i32, recording_words: Size, start: Size, length: Size, allowance: u64, flat_limit: i32, clip_level: i32,
+            cosine: *mut i32, cosine_words: Size, sine: *mut i32, sine_words: Size, scratch: *mut i64, scratch_words: Size, answer: *mut MarkAnswer,
+        ) -> u32;
+        pub fn mealbis_month_begin(month: *mut Month, length: Size) -> u32;
+        pub fn mealbis_month_add(
+            month: *mut Month, recording: *const i32, recording_words: Size, start: Size, length: Size, allowance: u64,
+            cosine: *mut i32, cosine_words: Size, sine: *mut i32, sine_words: Size, scratch: *mut i64, scratch_words: Size, answer: *mut Answer,
+        ) -> u32;
+        pub fn mealbis_month_length(month: *const Month) -> Size;
+        pub fn mealbis_month_blocks(month: *const Month) -> i64;
+        pub fn mealbis_month_sums(month: *const Month, k: Size, sums: *mut Sums) -> u32;
+        pub fn mealbis_page(
+            cosine: *const i32, cosine_words: Size, sine: *const i32, sine_words: Size, length: Size, page: *mut u8, page_bytes: Size,
+            answer: *mut PageAnswer,
+        ) -> u32;
+        pub fn mealbis_cosine(
+            recording: *const i32, recording_words: Size, start: Size, length: Size, allowance: u64,
+            coefficients: *mut i32, coefficients_words: Size, scratch: *mut i64, scratch_words: Size, answer: *mut Answer,
+        ) -> u32;
+        pub fn mealbis_inverse_dct(
+            coefficients: *const i32, coefficients_words: Size, length: Size, values: *mut i32, values_words: Size, answer: *mut InverseAnswer,
+        ) -> u32;
+        pub fn mealbis_pair(
+            a: *const i32, a_words: Size, b: *const i32, b_words: Size, start: Size, length: Size, allowance: u64,
+            re: *mut i32, re_words: Size, im: *mut i32, im_words: Size, scratch: *mut i64, scratch_words: Size, answer: *mut Answer,
+        ) -> u32;
+        pub fn mealbis_counts(length: Size, answer: *mut CountsAnswer) -> u32;
+        pub fn mealbis_read(
+            file: *const u8, file_bytes: Size, a: *mut i32, a_words: Size, b: *mut i32, b_words: Size, answer: *mut ReadAnswer,
+        ) -> u32;
+        pub fn mealbis_write(
+            a: *const i32, a_words: Size, b: *const i32, b_words: Size, length: Size, file: *mut u8, file_bytes: Size, answer: *mut WriteAnswer,
+        ) -> u32;
+    }
 }
 
-// The words of scratch that a block of this length needs.
+use raw::*;
+
+// ---- sizes
+
+pub const LONGEST_BLOCK: usize = 1024;
+pub const MOST_FILE_SAMPLES: usize = 4096;
+pub const MONTH_WORDS: usize = 1028;
+
+// The words of a spectrum, of the cosine and of the sine.
+pub const fn spectrum_words(length: usize) -> usize {
+    length / 2 + 1
+}
+
+// The words of scratch that a block of this length needs; of a length beyond all memory, as many as there can be.
 pub const fn scratch_words(length: usize) -> usize {
-    8 * length + 64
+    length.saturating_mul(8).saturating_add(64)
+}
+
+// The bytes of a page, and of a pair file; saturated in the same way.
+pub const fn page_bytes(length: usize) -> usize {
+    (length / 2).saturating_add(2).saturating_mul(31)
+}
+
+pub const fn file_bytes(samples: usize) -> usize {
+    samples.saturating_mul(8).saturating_add(8)
 }
 
 // ---- the header's records
 
 #[repr(C)]
-#[derive(Default)]
+#[derive(Clone, Copy, Debug, Default, PartialEq)]
 pub struct Answer {
     pub products: u64,
     pub sums: u64,
@@ -64,7 +100,7 @@ pub struct Answer {
 }
 
 #[repr(C)]
-#[derive(Default)]
+#[derive(Clone, Copy, Debug, Default, PartialEq)]
 pub struct MarkAnswer {
     pub products: u64,
     pub sums: u64,
@@ -74,15 +110,15 @@ pub struct MarkAnswer {
 }
 
 #[repr(C)]
-#[derive(Default)]
+#[derive(Clone, Copy, Debug, Default, PartialEq)]
 pub struct Sums {
     pub cosine: i64,
     pub sine: i64,
 }
 
 #[repr(C)]
-#[derive(Default)]
-pub struct Counts {
+#[derive(Clone, Copy, Debug, Default, PartialEq)]
+pub struct CountsAnswer {
     pub dct_products: u64,
     pub dct_sums: u64,
     pub spectrum_products: u64,
@@ -92,33 +128,34 @@ pub struct Counts {
 }
 
 #[repr(C)]
-#[derive(Default)]
-struct PageAnswer {
-    bytes: u64,
+#[derive(Clone, Copy, Debug, Default, PartialEq)]
+pub struct PageAnswer {
+    pub bytes: u64,
 }
 
 #[repr(C)]
-#[derive(Default)]
-struct InverseAnswer {
-    place: u64,
+#[derive(Clone, Copy, Debug, Default, PartialEq)]
+pub struct InverseAnswer {
+    pub place: u64,
 }
 
 #[repr(C)]
-#[derive(Default)]
-struct ReadAnswer {
-    samples: u64,
-    length: u64,
-    place: u64,
+#[derive(Clone, Copy, Debug, Default, PartialEq)]
+pub struct ReadAnswer {
+    pub samples: u64,
+    pub length: u64,
+    pub place: u64,
 }
 
 #[repr(C)]
-#[derive(Default)]
-struct WriteAnswer {
-    bytes: u64,
-    place: u64,
+#[derive(Clone, Copy, Debug, Default, PartialEq)]
+pub struct WriteAnswer {
+    pub bytes: u64,
+    pub place: u64,
 }
 
-// A refusal: its number, and the place of refusals 6 and 10.
+// A refusal: its number, and the place of refusals 6 and 10, 0 after every other.
+#[derive(Clone, Copy, Debug, PartialEq)]
 pub struct Refused(pub u32, pub u64);
 
 fn answered<T>(number: u32, answer: T, place: u64) -> Result<T, Refused> {
@@ -166,6 +203,11 @@ pub struct Figures {
 
 // ---- the calls
 
+// The version of the archive: 10000 major + 100 minor + patch. It is VERSION where these declarations belong to it.
+pub fn version() -> u32 {
+    unsafe { mealbis_version() }
+}
+
 pub fn spectrum(recording: &[i32], start: usize, length: usize, allowance: u64, cosine: &mut [i32], sine: &mut [i32], scratch: &mut [i64]) -> Result<Answer, Refused> {
     let mut answer = Answer::default();
     let number = unsafe {
@@ -197,12 +239,12 @@ pub fn mark(
 #[repr(C)]
 #[derive(Clone)]
 pub struct Month {
-    words: [i64; 1028],
+    words: [i64; MONTH_WORDS],
 }
 
 impl Month {
     pub fn begin(length: usize) -> Result<Month, Refused> {
-        let mut month = Month { words: [0; 1028] };
+        let mut month = Month { words: [0; MONTH_WORDS] };
         let number = unsafe { mealbis_month_begin(&mut month, length as Size) };
         answered(number, month, 0)
     }
@@ -284,8 +326,8 @@ pub fn pair(a: &[i32], b: &[i32], start: usize, length: usize, allowance: u64, r
     answered(number, answer, place)
 }
 
-pub fn counts(length: usize) -> Result<Counts, Refused> {
-    let mut counts = Counts::default();
+pub fn counts(length: usize) -> Result<CountsAnswer, Refused> {
+    let mut counts = CountsAnswer::default();
     let number = unsafe { mealbis_counts(length as Size, &mut counts) };
     answered(number, counts, 0)
 }

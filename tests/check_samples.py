@@ -1,7 +1,7 @@
 #!/usr/bin/env python3
 """Runs the commands that README.md and docs/*.md show with their output, and compares.
 
-    python3 tests/samples.py [FILE..]
+    python3 tests/check_samples.py [FILE..]
 
 A fence marked `console` holds commands, each on a line that begins with `$ `, and below a command what it writes to standard output; a line `..`
 stands for any number of lines left out. Each command is run by sh at the top of the repository and must end with status 0; one with nothing

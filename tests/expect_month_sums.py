@@ -1,7 +1,7 @@
 """Writes what crates/months_test is to write: every month of its src/main.rt, by tests/reference.py. It shares nothing with the product.
 
-    python3 tests/month_sums.py > crates/months_test/stdout
-    python3 tests/month_sums.py --compare crates/months_test/stdout
+    python3 tests/expect_month_sums.py > crates/months_test/stdout
+    python3 tests/expect_month_sums.py --compare crates/months_test/stdout
 
 The second compares, line by line, and changes nothing; its last line is 'N passed, M failed'.
 """

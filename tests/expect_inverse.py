@@ -1,7 +1,7 @@
 """Writes what crates/inverse_test is to write: every case of its src/main.rt, answered by tests/reference.py. It shares nothing with the product.
 
-    python3 tests/inverse.py > crates/inverse_test/stdout
-    python3 tests/inverse.py --compare crates/inverse_test/stdout
+    python3 tests/expect_inverse.py > crates/inverse_test/stdout
+    python3 tests/expect_inverse.py --compare crates/inverse_test/stdout
 
 The second compares, line by line, and changes nothing; its last line is 'N passed, M failed'.
 """

@@ -1,7 +1,7 @@
 """Writes what crates/spectra_test is to write: every case of its src/main.rt, answered by tests/reference.py. It shares nothing with the product.
 
-    python3 tests/spectra.py > crates/spectra_test/stdout
-    python3 tests/spectra.py --compare crates/spectra_test/stdout
+    python3 tests/expect_spectra.py > crates/spectra_test/stdout
+    python3 tests/expect_spectra.py --compare crates/spectra_test/stdout
 
 The second compares, line by line, and changes nothing; its last line is 'N passed, M failed'.
 """

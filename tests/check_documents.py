@@ -2,7 +2,7 @@
 """Holds docs/MAP.md to the documents that it maps and to the files that it names; docs/DECISIONS.md to the names that it has; and every document
 to the files that it names and, with the files of crates/, to a width.
 
-    python3 tests/documents.py [FOLDER]        the repository, where it is not the one that this file is in
+    python3 tests/check_documents.py [FOLDER]        the repository, where it is not the one that this file is in
 
 Sentences. A table of MAP whose first column is headed `document NN` quotes docs/NN-*.md there, in double quotes. Every word of that document,
 but for headings, examples in fences and heads of tables, must stand in a quotation, and every quotation in the document. `..` stands for words
@@ -27,7 +27,7 @@ NARROW = ["README.md"] + ["docs/%s.md" % name for name in "MAP DEMANDS DECISIONS
 WIDTH = 140
 SENTENCE_END = re.compile(r"(?<=[^.][.?!])\s+(?=[^a-z.])")
 FILE = re.compile(r"[\w+]+(?:/[\w+.-]+)+")
-NAMED_FILE = re.compile(r"(?<![\w/.])(?!target/)(?:\w+/(?:specs|proofs|src|must-fail)|(?:bench|crates|docs|examples|include|tests))/[\w+./-]+")
+NAMED_FILE = re.compile(r"(?<![\w/.])(?!target/)(?:\w+/(?:specs|proofs|src|must-fail)|(?:bench|bindings|crates|docs|examples|include|tests))/[\w+./-]+")
 WORD = r"[\w'′₀-₉-]"  # a letter of a name in specs/ and proofs/
 NAME = re.compile(r"(?<!%s)[^\W\d_]%s*" % (WORD, WORD))
 OUTSIDE = {"memcpy", "memset", "before_"}  # of DECISIONS: what the archive calls, and what bench/run puts before names

@@ -1,7 +1,7 @@
 #!/usr/bin/env python3
 """Calls mealbis_mark of the library, over its C interface, and compares each answer with that of tests/reference.py and with mealbis_spectrum's.
 
-    python3 tests/marks.py [--library PATH] [--seed NUMBER]
+    python3 tests/call_marks.py [--library PATH] [--seed NUMBER]
 
 Builds libmealbis.a and a shared library of it, target/shared/libmealbis.so; or takes another shared library. Of every call it compares the
 answer, the record (products, sums, largest_rest, place, mark), both buffers of coefficients, scratch and the recording, with guards before
@@ -10,15 +10,15 @@ and behind each. Each input also goes through mealbis_spectrum, which must answe
 The last line is 'N passed, 0 failed'. Exit status 1 where something differs.
 """
 import collections
-import ctypes
 import itertools
 import sys
 from typing import NamedTuple
 
-from library import BAD_LENGTHS, OUT, PAGE, Calls, Mapped, in_memory, lent_samples, run
+from library import OUT, Calls, every_set, first, held, lengths_up_to, lent_samples, mealbis, run
 from reference import (CLIPPED, COSINE_TIE, FLAT, LARGEST_SAMPLE, LENGTHS, LOOKED_AT, ONE_REST_COSINE, ONE_REST_SINE, PLAIN, SINE_TIE,
-                       mark_call, meets, scratch_words, spectrum, spectrum_call, tallied_counts)
-from spectrum_calls import REACHING, UNBOUNDED, SpectrumCall, broken, conditions, largest_blocks, lend, placed, random_block, wave
+                       mark_call, meets, scratch_words, spectrum, spectrum_call)
+from spectrum_calls import (REACHING, UNBOUNDED, Far, SpectrumCall, beyond_edges, broken, conditions, just_enough, largest_blocks, lend,
+                            out_of_range, placed, random_block, roomy, wave)
 
 ORDER = (1, 2, 3, 4, 5, 6, 12)      # in which mealbis_mark tests
 LARGEST = 2 ** 31 - 1               # flat limit
@@ -78,8 +78,8 @@ class MarkCalls(Calls):
         return answer
 
     def compare_mark(self, name, call, recording, answer):
-        figures = ctypes.c_int32(call.flat_limit), ctypes.c_int32(call.clip_level)
-        given = recording, call.start, call.length, call.allowance, *figures, *lend(self.rng, call, answer, mark=answer.mark or 0)
+        lent = lend(self.rng, call, answer, mealbis.MarkAnswer, mark=answer.mark or 0)
+        given = recording, call.start, call.length, call.allowance, call.flat_limit, call.clip_level, *lent
         self.compare(name, self.mark_function, given, answer.refusal)
 
 
@@ -241,8 +241,7 @@ def check_figures(calls):
 
 def holding(call):
     """The conditions that hold, whatever the others do, in their order."""
-    holds = conditions(call.for_spectrum()) | {12: call.flat_limit < 0 or not 1 <= call.clip_level <= 1_000_000}
-    return tuple(number for number in ORDER if holds[number])
+    return held(ORDER, conditions(call.for_spectrum()) | {12: call.flat_limit < 0 or not 1 <= call.clip_level <= 1_000_000})
 
 
 def broken_marking(rng, numbers, N):
@@ -253,63 +252,47 @@ def broken_marking(rng, numbers, N):
 
 def check_refusals(calls):
     """Each refusal alone and every set of them together, at many lengths: the earliest wins."""
-    met = set()
-    sets = [numbers for size in range(len(ORDER) + 1) for numbers in itertools.combinations(ORDER, size)]
+    met, sets = set(), every_set(ORDER)
     for numbers in sets:
         for N in (3, 6, 12, 1023, 1025, 2048) if 1 in numbers else LENGTHS[3:] if 5 in numbers else LENGTHS[1:]:
             call = broken_marking(calls.rng, numbers, N)
-            held = holding(call)
-            met.add(held)
-            calls.mark("refusals %s" % (held,), call, held[0] if held else 0)
-    for numbers in sets:
-        calls.add("refusals %s together" % (numbers,), [None if numbers in met else "no call met them"])
+            met.add(holding(call))
+            calls.mark("refusals %s" % (holding(call),), call, first(holding(call)))
+    calls.require(sets, met)
 
 
 def check_places(calls):
     """A sample out of range at the first, the last and a middle place of the block, and a later one too; with figures that are good and bad."""
-    for N, out, figures in itertools.product(LENGTHS, OUT, ((3, 3), (-1, 0))):
-        for place in sorted({0, N // 2, N - 1}):
-            for later in sorted({place, N - 1}):
-                x = random_block(calls.rng, N)
-                x[place], x[later] = out, out
-                call = marking(calls.rng, x, *figures)
-                answer = calls.mark("%d at places %d and %d of the block" % (out, place, later), call, 6)
-                calls.add("the place", [None if answer.place == call.start + place else "the reference answers place %s" % answer.place])
+    for N, figures in itertools.product(LENGTHS, ((3, 3), (-1, 0))):
+        for name, x, place in out_of_range(calls.rng, N):
+            call = marking(calls.rng, x, *figures)
+            answer = calls.mark(name, call, 6)
+            calls.add("the place", [None if answer.place == call.start + place else "the reference answers place %s" % answer.place])
 
 
 def check_edges(calls):
     """Buffers, scratch, allowance and start at their edges and one beyond, with good figures and bad ones."""
     for N, flat_limit in itertools.product(LENGTHS, (LARGEST, -1)):
-        listed, products = N // 2 + 1, tallied_counts(N).spectrum_products
-        call = Call([0] * N + [1, 2], 2, N, products, flat_limit, 1, listed, listed, scratch_words(N))
-        calls.mark("just enough", call, 0 if flat_limit == LARGEST else 12)
-        changes = [(3, "cosine_len", listed - 1), (3, "cosine_len", 0), (3, "sine_len", listed - 1), (3, "sine_len", 0),
-                   (4, "scratch_len", scratch_words(N) - 1), (4, "scratch_len", 0), (2, "recording", [])]
-        changes += [(2, "start", start) for start in (3, 2 ** 32, 2 ** 64 - N, 2 ** 64 - 1)]
-        changes += [(5, "allowance", products - 1)] if products else []
-        for number, name, value in changes:
-            calls.mark("%s %s" % (name, value), call._replace(**{name: value}), number)
+        calls.mark("just enough", with_figures(just_enough(N), flat_limit, 1), 0 if flat_limit == LARGEST else 12)
+        for name, call, number in beyond_edges(N):
+            calls.mark(name, with_figures(call, flat_limit, 1), number)
 
 
 def check_lengths(calls):
     """Every length up to 130 and some far ones: the eleven are accepted."""
-    for length in (*BAD_LENGTHS, *range(131), *LENGTHS[8:], *(length << 32 for length in LENGTHS), *(length + 2 ** 32 for length in LENGTHS)):
-        call = Call(random_block(calls.rng, 2048), 0, length, UNBOUNDED, 0, LARGEST_SAMPLE, 1025, 1025, scratch_words(2048))
-        calls.mark("a length", call, 0 if length in LENGTHS else 1)
+    for length in lengths_up_to(130):
+        calls.mark("a length", with_figures(roomy(calls.rng, length), 0, LARGEST_SAMPLE), 0 if length in LENGTHS else 1)
 
 
 def check_far(calls):
     """A recording of more than 2^32 words, and a block beyond them: no start and no place is cut to 32 bits."""
-    far = 2 ** 32 + 1024
-    recording = Mapped("the far recording", 4, far + PAGE, 4 * far // PAGE)
+    far = Far()
     for last, mark, place in ((-3, PLAIN, None), (-30, CLIPPED, None), (OUT[0], None, 7)):
         x = [5, -3, 5, -3, 5, -3, 5, last]
-        near = Call([*REACHING, *x, *REACHING], 2, 8, UNBOUNDED, 7, 30, 5, 5, scratch_words(8))
-        recording.hold(in_memory("i", near.recording))
-        answer = mark_call(*near)
+        near_call, far_call = (with_figures(call, 7, 30) for call in far.hold(x, REACHING))
+        answer = mark_call(*near_call)
         calls.add("near block %s" % x, [None if (answer.mark, answer.place) == (mark, place and 2 + place) else "%s" % (answer,)])
-        answer = answer._replace(place=place and far + 2 + place)
-        calls.compare_mark("far block %s" % x, near._replace(start=far + 2), recording, answer)
+        calls.compare_mark("far block %s" % x, far_call, far.recording, far.answer(answer))
 
 
 CHECKS = (check_known, check_each_coefficient, check_equal_samples, check_largest_coefficients, check_each_sample, check_outside, check_random,

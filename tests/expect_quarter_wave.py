@@ -1,7 +1,7 @@
 #!/usr/bin/env python3
 """The quarter wave by an outside cosine: entry j is the whole number nearest to 2^30 cos(2 pi j / 4096), j = 0 .. 1024.
 
-    python3 tests/quarter_wave.py > crates/quarter_wave_test/stdout
+    python3 tests/expect_quarter_wave.py > crates/quarter_wave_test/stdout
 
 mpmath's multiple-precision cosine, at 60 digits. No value lies near a tie, which is checked.
 """

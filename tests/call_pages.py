@@ -1,8 +1,8 @@
 #!/usr/bin/env python3
 """Calls mealbis_page of the library, over its C interface, and compares each page, byte for byte, with that of tests/reference.py.
 
-    python3 tests/pages.py [--library PATH] [--seed NUMBER]
-    python3 tests/pages.py --example a|b FILE [BLOCK]        what the example `binder_pages` prints for these words, by the reference alone
+    python3 tests/call_pages.py [--library PATH] [--seed NUMBER]
+    python3 tests/call_pages.py --example a|b FILE [BLOCK]        what the example `binder_pages` prints for these words, by the reference alone
 
 Builds libmealbis.a and a shared library of it, target/shared/libmealbis.so; or takes another shared library. Of every call it compares the
 answer, *bytes, the whole buffer of the page and the coefficients, with guards before and behind each. Some pages are of the coefficients
@@ -12,12 +12,12 @@ The last line is 'N passed, 0 failed'. Exit status 1 where something differs.
 """
 import array
 import collections
-import ctypes
 import itertools
 import sys
 from pathlib import Path
 
-from library import BAD_LENGTHS, PAGE, ROOT, Calls, Mapped, Record, in_memory, lent_bytes, lent_samples, run
+from library import (BAD_LENGTHS, PAGE, ROOT, Calls, Mapped, Record, every_set, first, held, in_memory, lengths_up_to, lent_bytes, lent_samples,
+                     mealbis, run)
 from reference import LARGEST_SAMPLE, LENGTHS, MOST_FILE_SAMPLES, page_bytes, page_call, read_pair_file, spectrum, spectrum_call
 from spectrum_calls import largest_blocks, lend, placed, random_block
 
@@ -52,7 +52,7 @@ class PageCalls(Calls):
         self.answered[length, answer.refusal] += 1
         page = lent_bytes(self.rng, "the page", self.rng.randbytes(size))
         page.expect(answer.data)
-        record = Record(self.rng, {"bytes": len(answer.data)})
+        record = Record(self.rng, mealbis.PageAnswer, bytes=len(answer.data))
         self.compare(name, self.page_function, (lent_cosine, lent_sine, length, page, record), answer.refusal)
         return page.front(len(answer.data))
 
@@ -194,10 +194,9 @@ def check_one_row(calls):
         row = numbers(rng, listed(N) + 1)
         lent = lent_samples("both", row)
         answer = page_call(row[:-1], row[1:], N, page_bytes(N))
-        page, record = lent_bytes(rng, "the page", rng.randbytes(page_bytes(N))), Record(rng, {"bytes": page_bytes(N)})
+        page, record = lent_bytes(rng, "the page", rng.randbytes(page_bytes(N))), Record(rng, mealbis.PageAnswer, bytes=page_bytes(N))
         page.expect(answer.data)
-        count = ctypes.c_uint64(listed(N))
-        given = lent.pointer(), count, ctypes.byref(lent.memory, lent.first + 4), count, N, page, record
+        given = lent.pointer(), listed(N), lent.pointer(4), listed(N), N, page, record
         calls.compare("two parts of one array, N %d" % N, calls.page_function, given, 0)
         calls.add("two parts of one array, N %d" % N, [lent.difference()])
 
@@ -218,7 +217,7 @@ def check_far(calls):
     for cosine, sine, number in ((*near, 0), (*far, 0), (lent_samples("no cosine", []), near[1], 2)):
         page.hold(rng.randbytes(PAGE))
         page.expect(b"" if number else page_call(*rows, N, size).data)
-        record = Record(rng, {"bytes": 0 if number else size})
+        record = Record(rng, mealbis.PageAnswer, bytes=0 if number else size)
         calls.compare("a page of %d bytes" % page.count, calls.page_function, (cosine, sine, N, page, record), number)
 
 
@@ -229,8 +228,7 @@ SMALL_BAD = [length for length in BAD_LENGTHS if length <= 2048]
 
 def holding(cosine, sine, length, size):
     """The conditions that hold, whatever the others do, in their order."""
-    holds = {1: length not in LENGTHS, 2: min(len(cosine), len(sine)) < length // 2 + 1, 3: size < 31 * (length // 2 + 2)}
-    return tuple(number for number in ORDER if holds[number])
+    return held(ORDER, {1: length not in LENGTHS, 2: min(len(cosine), len(sine)) < length // 2 + 1, 3: size < 31 * (length // 2 + 2)})
 
 
 def stored_counts(length):
@@ -248,18 +246,16 @@ def page_sizes(length):
 
 def check_refusals(calls):
     """Every mix of counts and sizes, enough and too few, at every length and at bad ones: each refusal alone, and the earliest of several."""
-    met, ways = collections.defaultdict(set), ((), (2,), (3,), (2, 3))
+    met = collections.defaultdict(set)
     for length in (*LENGTHS, *SMALL_BAD):
         row = numbers(calls.rng, 2 * listed(length) + 7), numbers(calls.rng, 2 * listed(length) + 7)
         for counts, size in itertools.product(sorted(stored_counts(length)), sorted(page_sizes(length))):
             cosine, sine = (words[:count] for words, count in zip(row, counts))
-            held = holding(cosine, sine, length, size)
-            met[length].add(held)
-            calls.page("refusals %s" % (held,), cosine, sine, length, size, (*held, 0)[0])
+            together = holding(cosine, sine, length, size)
+            met[length].add(together)
+            calls.page("refusals %s" % (together,), cosine, sine, length, size, first(together))
     for length in (*LENGTHS, *SMALL_BAD):
-        for later in ways:
-            held = later if length in LENGTHS else (1, *later)
-            calls.add("refusals %s together, N %d" % (held, length), [None if held in met[length] else "no call met them"])
+        calls.require([together for together in every_set(ORDER) if (1 in together) == (length not in LENGTHS)], met[length])
 
 
 def check_every_size(calls):
@@ -284,8 +280,7 @@ def check_every_count(calls):
 def check_lengths(calls):
     """Every length up to 2,100 and some far ones, with enough of everything and with nothing: the eleven are no bad ones."""
     rows, size = [numbers(calls.rng, 2049) for _ in range(2)], page_bytes(2100)
-    for length in (*range(2101), *BAD_LENGTHS, *(length << 32 for length in LENGTHS), *(length + 2 ** 32 for length in LENGTHS),
-                   *(2 ** 64 - length for length in LENGTHS)):
+    for length in lengths_up_to(2100):
         good = length in LENGTHS
         calls.page("a length", *rows, length, size, 0 if good else 1)
         calls.page("a length and no coefficients", [], [], length, size, 2 if good else 1)
