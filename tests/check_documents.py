@@ -1,6 +1,7 @@
 #!/usr/bin/env python3
-"""Holds docs/MAP.md to the documents that it maps and to the files that it names; docs/DECISIONS.md to the names that it has; and every document
-to the files that it names and, with the files of crates/, to a width.
+"""Holds docs/MAP.md to the documents that it maps and to the files that it names; docs/DECISIONS.md, CALLS, GUARANTEES and READING to the names that
+they have; and every document, README.md, docs/*.md, examples/README.md and tests/README.md, to the files that it names, to its links and, with the
+files of crates/, to a width. README has at most 150 lines and names every crate of crates.txt.
 
     python3 tests/check_documents.py [FOLDER]        the repository, where it is not the one that this file is in
 
@@ -11,9 +12,12 @@ left out, up to the end of the sentence. `...` leaves out the rest of a paragrap
 Names. `crate/specs/File: `name`` says that the file declares the name; `Other: `name`` is a file of the same folder; a name without a file is in
 the file named last in its column. A name in brackets after another stands somewhere in that file. In the column of functions a name is declared
 in the code of the crate named before it, `crate: `name``, or of any. In the column of edits, `crate: name` is crates/crate/must-fail/name.edit; a
-name without a crate is of the crate named last in the column; a cell without an edit says `none meant: ` and why. Files that README.md and
-docs/*.md name exist. What stands between backticks in DECISIONS and begins with a name, as `name`, `name()` or `name x y`, is a crate, or the
-name stands in the code, the definitions or the proofs of a crate, or in the header, outside of comments, or is an example's.
+name without a crate is of the crate named last in the column; a cell without an edit says `none meant: ` and why. Files that a document names
+exist; a name behind one, as in MAP, is declared in it in GUARANTEES. What stands between backticks in DECISIONS, CALLS, GUARANTEES and READING
+and begins with a name, as `name`, `name()`, `name x y` or `crate::name`, is a crate, or the name stands in the code, the definitions or the proofs of
+a crate, or in the header, outside of comments, or is an example's.
+
+Links. `[..](file#heading)` leads to a file and to a heading in it.
 
 The last line is 'N passed, M failed'.
 """
@@ -23,14 +27,17 @@ from pathlib import Path
 
 ROOT = Path(sys.argv[1] if len(sys.argv) > 1 else Path(__file__).parent.parent)
 MAP = ROOT / "docs/MAP.md"
-NARROW = ["README.md"] + ["docs/%s.md" % name for name in "MAP DEMANDS DECISIONS CHANGES PROVING BENCHMARKS DISTANCES".split()]
+DOCUMENTS = [ROOT / "README.md", *sorted((ROOT / "docs").glob("*.md")), ROOT / "examples/README.md", ROOT / "tests/README.md"]
+NAMING = ["docs/%s.md" % name for name in "DECISIONS CALLS GUARANTEES READING".split()]
 WIDTH = 140
+README_LINES = 150
 SENTENCE_END = re.compile(r"(?<=[^.][.?!])\s+(?=[^a-z.])")
 FILE = re.compile(r"[\w+]+(?:/[\w+.-]+)+")
 NAMED_FILE = re.compile(r"(?<![\w/.])(?!target/)(?:\w+/(?:specs|proofs|src|must-fail)|(?:bench|bindings|crates|docs|examples|include|tests))/[\w+./-]+")
 WORD = r"[\w'′₀-₉-]"  # a letter of a name in specs/ and proofs/
 NAME = re.compile(r"(?<!%s)[^\W\d_]%s*" % (WORD, WORD))
-OUTSIDE = {"memcpy", "memset", "before_"}  # of DECISIONS: what the archive calls, and what bench/run puts before names
+# what the archive calls, what bench/run puts before names, commands and their words, and what is printed
+OUTSIDE = {"memcpy", "memset", "before_", "rt", "rustc", "head", "axioms", "refused", "N"}
 
 
 class Results:
@@ -253,32 +260,67 @@ def check_map(results):
 def check_files(results):
     """The files that any document names."""
     crates = Crates()
-    for path in (ROOT / "README.md", *sorted((ROOT / "docs").glob("*.md"))):
+    for path in DOCUMENTS:
         for number, line in enumerate(path.read_text().splitlines(), 1):
             for word in NAMED_FILE.findall(line):
                 word = word.rstrip(".-")
                 results.add("NAME" in word or crates.files(word), "%s:%d: no file %s" % (path.relative_to(ROOT), number, word))
 
 
-def check_decisions(results):
-    """The names between backticks in docs/DECISIONS.md."""
-    path = ROOT / "docs/DECISIONS.md"
+def check_names(results):
+    """The names between backticks in the documents of NAMING."""
     crates = Crates()
     known = set(crates.names) | OUTSIDE | {program.stem for program in (ROOT / "examples").rglob("*.*")}
     for kind in ("*.rt", "*.antt"):
         for source in (ROOT / "crates").rglob(kind):
             known.update(NAME.findall(without_comments(source)))
     known.update(NAME.findall(re.sub(r"(?s)/\*.*?\*/", "", (ROOT / "include/mealbis.h").read_text())))
+    for path in (ROOT / name for name in NAMING):
+        for number, line in enumerate(path.read_text().splitlines(), 1):
+            for quoted in re.findall(r"`([^`]+)`", line):
+                name = NAME.match(quoted)
+                if name and re.fullmatch(r"(::.*|\(.*\))?( .*)?", quoted[name.end():]):
+                    for part in NAME.findall(re.match(r"[\w:]*", quoted)[0]) if "::" in quoted else [name[0]]:
+                        results.add(part in known, "%s:%d: nothing is called `%s`" % (path.relative_to(ROOT), number, part))
+
+
+def check_guarantees(results):
+    """The names behind a file in docs/GUARANTEES.md are declared in it."""
+    crates, path = Crates(), ROOT / "docs/GUARANTEES.md"
     for number, line in enumerate(path.read_text().splitlines(), 1):
-        for quoted in re.findall(r"`([^`]+)`", line):
-            name = NAME.match(quoted)
-            if name and re.fullmatch(r"(\(\))?( .*)?", quoted[name.end():]):
-                results.add(name[0] in known, "%s:%d: nothing is called `%s`" % (path.relative_to(ROOT), number, name[0]))
+        for place, names in re.findall(r"(\w+/specs/\w+): ((?:`[^`]+`(?:, )?)+)", line):
+            for name in re.findall(r"`([^`]+)`", names):
+                files = crates.files(place)
+                good = files and crates.declares(files[0], name)
+                results.add(good, "docs/GUARANTEES.md:%d: `%s` is not in %s" % (number, name, place))
+
+
+def anchors(path):
+    """The headings of a document, as links name them."""
+    headings = re.findall(r"^#+ (.*)$", re.sub(r"(?ms)^```.*?^```$", "", path.read_text()), re.M)
+    return {re.sub(r"[^\w -]", "", heading.lower()).replace(" ", "-") for heading in headings}
+
+
+def check_links(results):
+    """The links of every document."""
+    for path in DOCUMENTS:
+        for place, heading in re.findall(r"\]\((?!https?:)([^)#\s]*)#?([^)\s]*)\)", re.sub(r"`[^`\n]*`", "", path.read_text())):
+            target = path.parent / place if place else path
+            good = target.exists() and (not heading or heading in anchors(target))
+            results.add(good, "%s: no %s#%s" % (path.relative_to(ROOT), place, heading))
+
+
+def check_readme(results):
+    text = (ROOT / "README.md").read_text()
+    lines = len(text.splitlines())
+    results.add(lines <= README_LINES, "README.md: %d lines, and at most %d are wanted" % (lines, README_LINES))
+    for name in re.findall(r"^(\w+):", (ROOT / "crates.txt").read_text(), re.M):
+        results.add(re.search(r"^ *%s  +\S" % name, text, re.M), "README.md: no line for the crate %s" % name)
 
 
 def check_widths(results):
     """The lines of the documents, outside of tables, and of the files of crates/."""
-    documents = [ROOT / name for name in NARROW]
+    documents = [path for path in DOCUMENTS if not re.match(r"\d\d-", path.name)]
     for path in documents + sorted(p for p in (ROOT / "crates").rglob("*") if p.suffix in (".rt", ".antt")):
         wide = [
             (number, len(line))
@@ -292,7 +334,10 @@ def main():
     results = Results()
     check_map(results)
     check_files(results)
-    check_decisions(results)
+    check_names(results)
+    check_guarantees(results)
+    check_links(results)
+    check_readme(results)
     check_widths(results)
     print("%d passed, %d failed" % (results.passed, results.failed))
     return 1 if results.failed else 0
