@@ -34,6 +34,14 @@
  * last digit. Where only these are wanted, two calls of mealbis_spectrum cost less: the same
  * products and, from N = 4 on, 2 N - 4 sums fewer.
  *
+ * ---- Exact sums and the table
+ *
+ * "Exact sum" below is document 01's: over K, cosines held to 80 bits behind the point, and not over
+ * the table that the library computes with. The table, T, has them to 30 bits, each rounded to the
+ * nearest, a tie going to the larger: T(j) is K(j) / 2^50 + 1/2, rounded down. So the limits that are
+ * said at the functions hold for what the table leaves out and for every rounding together.
+ * mealbis_inverse_dct alone is defined over T itself.
+ *
  * ---- Answers
  *
  * Every function that can refuse returns 0 when it accepts, else the number of the first condition
@@ -337,6 +345,14 @@ MEALBIS_CHECKED uint32_t mealbis_mark(
  * and all others are 0. Each sum is within n * N/8 of the exact one, the sum of document 01's exact
  * sums of the blocks, and far below 2^63 in size.
  *
+ * The sums add coefficients with their signs: a wave that has the same phase in every block adds up,
+ * and one whose phase turns from block to block cancels, however strong it is. For its strength, add
+ * squares of the coefficients yourself.
+ *
+ * Blocks without a gap last N / rate seconds each, so a month is full after 100,000 * N / rate
+ * seconds: with N = 256 at 32 samples a second after 800,000, some 9 days. 30 days fit where a block
+ * lasts 26 seconds or more, as with N = 1,024 at up to 39 samples a second.
+ *
  * In words that these two did not write, nothing overflows either, and nothing outside the month is
  * touched: a number in words[0] that is not one of the eleven lengths is read as 0, a negative block
  * number goes up by 1 as any other, and a sum beyond 2^62 in size stays as it is.
@@ -431,7 +447,8 @@ MEALBIS_CHECKED uint32_t mealbis_cosine(
  *   cosine is T((2n + 1) k 1024 / N) / 2^30, T being document 01's stored quarter wave, taken round
  *   the circle by the symmetries of K.
  * Tests 1, 2, 3, 10. It needs no scratch and no allowance, counts nothing and tells no rest. Every
- * accepted value fits an int32_t.
+ * accepted value fits an int32_t. It is not fast: each value is a sum of its own, so its time grows as
+ * N * N, and at N = 1,024 it takes some hundred times that of mealbis_cosine.
  *
  * A block sent through mealbis_cosine and back is never refused by 10, and each value is within N of
  * its sample: |values[n] - x(n)| <= N. So a value may be beyond the range of a sample by up to N.

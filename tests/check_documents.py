@@ -37,7 +37,7 @@ NAMED_FILE = re.compile(r"(?<![\w/.])(?!target/)(?:\w+/(?:specs|proofs|src|must-
 WORD = r"[\w'′₀-₉-]"  # a letter of a name in specs/ and proofs/
 NAME = re.compile(r"(?<!%s)[^\W\d_]%s*" % (WORD, WORD))
 # what the archive calls, what bench/run puts before names, commands and their words, and what is printed
-OUTSIDE = {"memcpy", "memset", "before_", "rt", "rustc", "head", "axioms", "refused", "N"}
+OUTSIDE = {"memcpy", "memset", "before_", "rt", "rustc", "head", "axioms", "refused", "N", "flock", "setsid", "setpriv", "pipefail"}
 
 
 class Results:

@@ -60,7 +60,7 @@ PROGRAM = """read -r first && echo "$first" && cat
 """
 GOOD = (0, b"block k re im\n0 0 1 2\n")
 BUILDS = "pairspec: the sources are new or have changed; proving and building, some minutes where all are new"
-WAITS = "pairspec: another run is building the program; waiting for it"
+WAITS = "pairspec: another run is building; waiting for it"
 CHANGED = "pairspec: the sources changed while they were built; run it again"
 PROVED = ["pairspec: 2 of 3 crates proved (words)", "pairspec: 3 of 3 crates proved (pairspec)"]
 
@@ -321,7 +321,7 @@ def check_missing(results, copy):
     as_user = {"user": NOBODY, "group": NOBODY, "extra_groups": []} if os.getuid() == 0 else {}
     copy.folder.chmod(0o755)
     kept = copy.top / "target/pairspec"
-    said = "pairspec: the program must be built, and %s cannot be written to\n" % kept
+    said = "pairspec: the program must be built, and %s cannot be written to\n" % kept.parent
     folders = [copy.top, *(path for path in (copy.top / "target", kept) if path.exists())]
     for folder in folders:
         folder.chmod(0o555)

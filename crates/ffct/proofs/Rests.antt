@@ -58,6 +58,6 @@ rest-limits L x = record {
   spectrumSmall = omega (arith, dft-small L x);
   pairSmall = λ y. omega (arith, dft-small L x, dft-small L y);
   dctNone = λ e. rw e (unfold dct dctBy in refl);
-  spectrumNone = λ h. omega (arith, dft-none L x h);
-  pairNone = λ y h. omega (arith, dft-none L x h, dft-none L y h);
+  spectrumNone = λ h. omega (arith, dft-none L x (omega arith));
+  pairNone = λ y h. omega (arith, dft-none L x (omega arith), dft-none L y (omega arith));
 }

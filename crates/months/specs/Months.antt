@@ -15,8 +15,12 @@ use Rattle.ffct.specs.Transforms.{spectrum}
 use Rattle.refusals.specs.Refusals.{Verdict, refused, accepted, atMost}
 use Rattle.refusals.specs.Calls.{Call, testsFromTwo}
 
--- ---- the record of a month, 1,028 words of 64 bits. "A month is begun for one length N": word 0; it is 0 where beginning was refused, and
--- words with a number there that is no length are no month's
+-- ---- the record of a month, 1,028 words of 64 bits:
+--   word 0             the length N
+--   word 1             the block number
+--   words 2 .. 514     the sums of the cosine coefficients, k = 0 .. 512
+--   words 515 .. 1027  the sums of the sine coefficients, k = 0 .. 512
+-- "A month is begun for one length N": it is 0 where beginning was refused, and words with a number there that is no length are no month's
 abbrev pub lengthIn : ℤ → ℕ
 lengthIn (pos n) = cond (isLength n) n 0
 lengthIn (negsuc n) = 0

@@ -56,8 +56,8 @@ pub record InputRead (a b : List ℤ) (N : ℕ) (c d c′ d′ : List ℤ) (answ
   pub wordsOfA : Written 0 (length a) (word a) c c′
   pub wordsOfB : Written 0 (length b) (word b) d d′
 
--- both calls joined: the writer accepted and left buffer′; the reader was called with the file's bytes of it and recordings c and d of m
--- words or more: it has read the input
+-- both calls joined: (1) the writer was called, and (2) accepted and left buffer′; (3) the reader was called with the file's bytes of it and
+-- (4) recordings c and d of m words or more: it has read the input
 abbrev pub WrittenAndRead : Type 0
 WrittenAndRead =
     (a b : List ℤ) (N : ℕ) (buffer buffer′ : List ℕ) (wrote : Filled)
@@ -68,8 +68,9 @@ WrittenAndRead =
     → length a ≤ length c → length a ≤ length d
     → InputRead a b N c d c′ d′ answer
 
--- and the other way round: the reader accepted a file and left a′ and b′; the writer was called with the m words of each that were read,
--- the N that was returned, and a buffer as long as the file or longer: it has written this file
+-- and the other way round: (1) of a file that consists of bytes (2) the reader was called, and (3) accepted it and left a′ and b′; (4) the
+-- writer was called with the m words of each that were read, the N that was returned, and (5) a buffer as long as the file or longer: it
+-- has written this file
 abbrev pub ReadAndWritten : Type 0
 ReadAndWritten =
     (file : List ℕ) (a b a′ b′ : List ℤ) (answer : ReadAnswer) → AreBytes file

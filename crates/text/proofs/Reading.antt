@@ -5,9 +5,9 @@ use Prim.Native.Nat.{ℕ, zero, suc, _+_, _-_, _≤_}
 use native.Mathlib.Omega.{arith}
 use lib.IntN.{ℤ, pos, negsuc, natAbs}
 use lib.ListN.{length, drop, getD}
-use Rattle.text.specs.Decimal.{number, decimal}
+use Rattle.text.specs.Decimal.{number, decimal, value}
 use Rattle.text.specs.Alignment.{spaces, rightAligned}
-use Rattle.text.proofs.Spelling.{value, number-value}
+use Rattle.text.proofs.Spelling.{number-value}
 
 -- ---- its size: neither a space nor the minus sign has a value
 spaces-value : (n : ℕ) (text : List ℕ) → value (spaces n ++ text) ≡ value text

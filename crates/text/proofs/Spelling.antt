@@ -16,7 +16,7 @@ use mir.Syntax.{w32}
 use mir.Val.{SFits}
 use Rattle.whole.proofs.Cases.{le-or-lt}
 use Rattle.io.specs.Digits.{digits, glyph, Fewest}
-use Rattle.text.specs.Decimal.{digit, spelled, number, decimal}
+use Rattle.text.specs.Decimal.{digit, spelled, number, decimal, readOn, value, InDecimal}
 
 -- ---- the digits of a number below 10, and of a larger one
 
@@ -96,14 +96,6 @@ decimal-length (negsuc n) f = omega (arith, number-length 9 (suc n) (omega (arit
 
 -- ---- a number is read back from its digits
 
--- the number that digits spell, with the value v of those in front of them
-abbrev pub readOn : ℕ → List ℕ → ℕ
-readOn v [] = v
-readOn v (c ∷ text) = readOn (10 * v + (c - 48)) text
-
-abbrev pub value : List ℕ → ℕ
-value text = readOn 0 text
-
 read-last : (v : ℕ) (text : List ℕ) (c : ℕ) → readOn v (text ++ (c ∷ [])) ≡ 10 * readOn v text + (c - 48)
 read-last v [] c = refl
 read-last v (b ∷ text) c = read-last (10 * v + (b - 48)) text c
@@ -153,3 +145,6 @@ spelled-first (suc f) n h =
 pub number-first : (n : ℕ) → 0 < n → 48 < getD (number n) 0 0
 unfolding number
 number-first n h = spelled-first 19 n h
+
+pub in-decimal : InDecimal
+in-decimal = record { readsBack = number-value; digits = number-digits; noLeadingZero = number-first }

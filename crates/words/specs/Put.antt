@@ -4,7 +4,8 @@ use mathlib.Core.Path.{_≡_}
 use Prim.Native.Nat.{ℕ, zero, suc, _+_, _≤_}
 use lib.ListN.{length, take, drop}
 
--- the bytes now stand from `at` on; those before and those behind are as they were, and `next` is the place behind them
+-- the bytes now stand from `at` on; those before and those behind are as they were, and `next` is the place behind them. (The last two
+-- fields follow from the others where `at` is within the buffer; they are there for who lends what was put.)
 pub record Put (before : List ℕ) (at : ℕ) (bytes : List ℕ) (next : ℕ) (after : List ℕ) : Type 0 where
   pub next-is : next ≡ at + length bytes
   pub front : take next after ≡ take at before ++ bytes

@@ -37,7 +37,7 @@ rotate-pair-requires c κs =
     let p = start c .pre in
     rw (cosine c, sine c, entry c, mirror c) (
       (p .2 .cosine-small, p .2 .sine-small),
-      (within-size (entry-within _ (p .1)), within-size (entry-within _ (omega arith))),
+      (within-size (entry-within _ (omega arith)), within-size (entry-within _ (omega arith))),
     )
 
 returns : tie.Need-returns
