@@ -1,17 +1,19 @@
 /*
- * Holds the library, as linked, to include/mealbis.h: its version, each answer of each call, the records that are written in every answer, buffers
- * and months that stay, what the coefficients mean, pages, NULL with count 0, and the stack. Prints each check that fails, and 'N passed, M failed'.
+ * What only C can see of the library, as linked, and of include/mealbis.h: the versions, the sizes and numbers of the macros, records without a gap,
+ * each field of each record, a reason for each number, pointers aligned as their type asks and no more, NULL with count 0, and the stack. What the
+ * calls answer is compared by the other tests. Prints each check that fails, and 'N passed, M failed'; with --stack also the stack of each call.
  */
 #define _XOPEN_SOURCE 700
 #include <inttypes.h>
+#include <stddef.h>
 #include <stdio.h>
+#include <stdlib.h>
 #include <string.h>
 #include <ucontext.h>
 #include "mealbis.h"
 
 #define LONGEST MEALBIS_LONGEST_BLOCK
 #define STACK_PROMISED 8192
-#define BOTH MEALBIS_FLAT /* the mark of a block that meets both rules */
 #define WORK(n) scratch, MEALBIS_SCRATCH_WORDS(n) /* just enough scratch for n samples, as two parameters */
 
 static int32_t x[LONGEST + 8], y[LONGEST + 8], one[LONGEST + 8], two[LONGEST + 8], kept[LONGEST + 8], stored[LONGEST + 8];
@@ -58,510 +60,52 @@ static void fill(void)
     memset(&month_sums, 0x55, sizeof month_sums);
 }
 
-/* Whether the words of scratch that n samples need are 0, and those beyond as they were; of 0, whether all are as they were. */
-static int cleared(mealbis_size n)
+/* A call refused with this number leaves 0 in the record and the buffers as they were. */
+static void refused(uint32_t expected, const char *what)
 {
-    mealbis_size i, words = n == 0 ? 0 : MEALBIS_SCRATCH_WORDS(n);
+    mealbis_size i;
+    int stays = !memcmp(one, kept, sizeof one) && !memcmp(two, kept, sizeof two);
     int64_t word;
-    int good = 1;
     memset(&word, 0x55, sizeof word);
     for (i = 0; i < MEALBIS_WORDS(scratch); i++)
-        good = good && scratch[i] == (i < words ? 0 : word);
-    return good;
-}
-
-/* A call refused with this number (and place) leaves 0 in the record and the buffers as they were. */
-static void refused(uint32_t expected, mealbis_size at, const char *what)
-{
+        stays = stays && scratch[i] == word;
     check(number == expected, what, number);
-    check(answer.place == at, what, answer.place);
-    check(answer.products == 0 && answer.sums == 0 && answer.largest_rest == 0, what, expected);
-    check(cleared(0) && !memcmp(one, kept, sizeof one) && !memcmp(two, kept, sizeof two), what, expected);
+    check(answer.place == 0 && answer.products == 0 && answer.sums == 0 && answer.largest_rest == 0, what, expected);
+    check(stays, what, expected);
 }
 
-/* A call accepted: what it spent, and no place. */
-static int spent(uint64_t products, uint64_t sums)
-{
-    return number == 0 && answer.products == products && answer.sums == sums && answer.place == 0;
-}
-
-/* Takes from the record of mealbis_mark what that of mealbis_spectrum has, too. */
-static void without_mark(void)
+static void mark_refused(uint32_t expected, const char *what)
 {
     answer.products = mark_answer.products;
     answer.sums = mark_answer.sums;
     answer.largest_rest = mark_answer.largest_rest;
     answer.place = mark_answer.place;
-}
-
-#define SPECTRUM(...) (fill(), number = mealbis_spectrum(__VA_ARGS__, &answer))
-#define MARK(...) (fill(), number = mealbis_mark(__VA_ARGS__, &mark_answer), without_mark())
-#define ADD(...) (fill(), kept_month = month, number = mealbis_month_add(&month, __VA_ARGS__, &answer))
-#define COSINE(...) (fill(), number = mealbis_cosine(__VA_ARGS__, &answer))
-#define PAIR(...) (fill(), number = mealbis_pair(__VA_ARGS__, &answer))
-#define INVERSE(...) (fill(), number = mealbis_inverse_dct(__VA_ARGS__, &inverse_answer))
-#define READ(...) (fill(), number = mealbis_read(__VA_ARGS__, &read_answer))
-#define WRITE(...) (fill(), number = mealbis_write(__VA_ARGS__, &write_answer))
-#define PRINT(...) (fill(), number = mealbis_page(__VA_ARGS__, &page_answer))
-
-static void calls(void)
-{
-    SPECTRUM(x, 16, 0, 3, 99, one, 5, two, 5, WORK(8)), refused(1, 0, "Spectrum, length 3");
-    SPECTRUM(x, 16, 9, 8, 99, one, 5, two, 5, WORK(8)), refused(2, 0, "Spectrum beyond the recording");
-    SPECTRUM(x, 16, UINT64_MAX, 8, 99, one, 5, two, 5, WORK(8)), refused(2, 0, "Spectrum, start + length overflows");
-    SPECTRUM(x, 16, 8, 8, 99, one, 4, two, 5, WORK(8)), refused(3, 0, "Spectrum, cosine too short");
-    SPECTRUM(x, 16, 8, 8, 99, one, 5, two, 4, WORK(8)), refused(3, 0, "Spectrum, sine too short");
-    SPECTRUM(x, 16, 8, 8, 99, one, 5, two, 5, WORK(8) - 1), refused(4, 0, "Spectrum, scratch too short");
-    SPECTRUM(x, 16, 8, 8, 1, one, 5, two, 5, WORK(8)), refused(5, 0, "Spectrum, allowance 1");
-    x[9] = 1000001;
-    SPECTRUM(x, 16, 8, 8, 99, one, 5, two, 5, WORK(8)), refused(6, 9, "Spectrum, sample 9");
-    COSINE(x, 16, 8, 8, 99, one, 8, WORK(8)), refused(6, 9, "Cosine, sample 9");
-    PAIR(y, 16, x, 16, 8, 8, 99, one, 8, two, 8, WORK(8)), refused(6, 9, "Pair, sample 9 of b");
-    x[9] = -1000000;
-    COSINE(x, 16, 0, 0, 99, one, 8, WORK(8)), refused(1, 0, "Cosine, length 0");
-    COSINE(x, 16, 9, 8, 99, one, 8, WORK(8)), refused(2, 0, "Cosine beyond the recording");
-    COSINE(x, 16, 8, 8, 99, one, 7, WORK(8)), refused(3, 0, "Cosine, coefficients too short");
-    COSINE(x, 16, 8, 8, 99, one, 8, WORK(8) - 1), refused(4, 0, "Cosine, scratch too short");
-    COSINE(x, 16, 8, 8, 11, one, 8, WORK(8)), refused(5, 0, "Cosine, allowance 11");
-    PAIR(x, 16, y, 16, 0, 2048, 99, one, 8, two, 8, WORK(8)), refused(1, 0, "Pair, length 2048");
-    PAIR(x, 16, y, 15, 8, 8, 99, one, 8, two, 8, WORK(8)), refused(2, 0, "Pair beyond b");
-    PAIR(x, 16, y, 16, 8, 8, 99, one, 8, two, 7, WORK(8)), refused(3, 0, "Pair, im too short");
-    PAIR(x, 16, y, 16, 8, 8, 99, one, 8, two, 8, WORK(8) - 1), refused(4, 0, "Pair, scratch too short");
-    PAIR(x, 16, y, 16, 8, 8, 3, one, 8, two, 8, WORK(8)), refused(5, 0, "Pair, allowance 3");
-
-    COSINE(x, 16, 8, 8, 12, one, 8, WORK(8) + 2);
-    check(spent(12, 29), "Cosine of 8 samples spends 12 and 29", answer.products);
-    check(one[8] == kept[8] && cleared(8), "Cosine writes 8 words and clears scratch", 8);
-}
-
-/* The largest rest of a call on n samples of x: one is rounded from a first length on. */
-static void rest_from(mealbis_size first, mealbis_size n, const char *what)
-{
-    check(answer.largest_rest <= MEALBIS_LARGEST_REST && (answer.largest_rest > 0) == (n >= first), what, n);
-}
-
-/* The costs of n samples by the query: just that allowance is accepted and is spent, one product less is refused. */
-static void costs(mealbis_size n)
-{
-    mealbis_counts_answer cost = six; /* not `six`, which is filled before each call */
-    COSINE(x, LONGEST, 0, n, cost.dct_products, one, LONGEST, scratch, MEALBIS_WORDS(scratch));
-    check(spent(cost.dct_products, cost.dct_sums), "Cosine with just its products", n);
-    rest_from(2, n, "Cosine's largest rest");
-    SPECTRUM(x, LONGEST, 0, n, cost.spectrum_products, one, LONGEST, two, LONGEST, scratch, MEALBIS_WORDS(scratch));
-    check(spent(cost.spectrum_products, cost.spectrum_sums), "Spectrum with just its products", n);
-    rest_from(8, n, "Spectrum's largest rest");
-    PAIR(x, LONGEST, x, LONGEST, 0, n, cost.pair_products, one, LONGEST, two, LONGEST, scratch, MEALBIS_WORDS(scratch));
-    check(spent(cost.pair_products, cost.pair_sums), "Pair, both recordings one, with just its products", n);
-    rest_from(8, n, "Pair's largest rest");
-    if (cost.dct_products > 0)
-        COSINE(x, LONGEST, 0, n, cost.dct_products - 1, one, LONGEST, scratch, MEALBIS_WORDS(scratch)), refused(5, 0, "Cosine, a product less");
-    if (cost.spectrum_products > 0)
-        SPECTRUM(x, LONGEST, 0, n, cost.spectrum_products - 1, one, LONGEST, two, LONGEST, scratch, MEALBIS_WORDS(scratch)), refused(5, 0, "Spectrum, a product less");
-    if (cost.pair_products > 0)
-        PAIR(x, LONGEST, x, LONGEST, 0, n, cost.pair_products - 1, one, LONGEST, two, LONGEST, scratch, MEALBIS_WORDS(scratch)), refused(5, 0, "Pair, a product less");
-}
-
-static void counts(void)
-{
-    static const mealbis_counts_answer none = {0, 0, 0, 0, 0, 0};
-    mealbis_size n;
-    for (n = 0; n <= 2049; n++) {
-        int a_length = n && n <= 1024 && !(n & (n - 1));
-        fill();
-        number = mealbis_counts(n, &six);
-        if (a_length) {
-            check(number == 0, "counts of a length", n);
-            costs(n);
-        } else
-            check(number == 1 && !memcmp(&six, &none, sizeof six), "counts of no length", n);
-    }
-}
-
-/* What the header says of the coefficients: the sign of the sine, and how Pair's result has the spectra of a and b. */
-static void meaning(void)
-{
-    static const int32_t wave[8] = {0, 707107, 1000000, 707107, 0, -707107, -1000000, -707107}; /* cos(2 pi n / 8 - pi / 2) */
-    static int32_t cosine[2][LONGEST], sine[2][LONGEST];
-    uint64_t of_a, of_b; /* the largest rests */
-    mealbis_size n, k;
-    SPECTRUM(wave, 8, 0, 8, UINT64_MAX, one, 8, two, 8, scratch, MEALBIS_WORDS(scratch));
-    check(number == 0 && one[1] == 0 && two[1] >= 3999999 && two[1] <= 4000002, "a wave that lags by a quarter", 8);
-    for (n = 4; n <= LONGEST; n *= 2) {
-        int same = 1;
-        SPECTRUM(x, LONGEST, 0, n, UINT64_MAX, cosine[0], LONGEST, sine[0], LONGEST, scratch, MEALBIS_WORDS(scratch));
-        of_a = answer.largest_rest;
-        SPECTRUM(y + 1, LONGEST, 0, n, UINT64_MAX, cosine[1], LONGEST, sine[1], LONGEST, scratch, MEALBIS_WORDS(scratch));
-        of_b = answer.largest_rest;
-        PAIR(x, LONGEST, y + 1, LONGEST, 0, n, UINT64_MAX, one, LONGEST, two, LONGEST, scratch, MEALBIS_WORDS(scratch));
-        for (k = 1; k < n / 2; k++)
-            same = same && cosine[0][k] == (one[k] + one[n - k]) / 2 && sine[0][k] == (two[n - k] - two[k]) / 2
-                && cosine[1][k] == (two[k] + two[n - k]) / 2 && sine[1][k] == (one[k] - one[n - k]) / 2;
-        for (k = 0; k < n; k += n / 2)
-            same = same && cosine[0][k] == one[k] && cosine[1][k] == two[k] && sine[0][k] == 0 && sine[1][k] == 0;
-        check(same, "the spectra of a and b from Pair's", n);
-        check(answer.largest_rest == (of_a > of_b ? of_a : of_b), "Pair's largest rest from those of a and b", n);
-    }
-}
-
-static void rest_is(uint64_t size, const char *what)
-{
-    check(number == 0 && answer.largest_rest == size, what, answer.largest_rest);
-}
-
-/* The largest rest of blocks worked by hand. A tie leaves the largest that there is, in the cosine-DFT alone or in the sine-DFT alone. */
-static void rests(void)
-{
-    static const int32_t two_samples[2] = {3, 1}, tie[4] = {13726, 0, 11996, 0}, silence[16] = {0};
-    static const int32_t cosine_tie[16] = {0, 6863, 0, 0, 0, 5998, 0, 0, 0, 0, 0, 5998, 0, 0, 0, 6863};
-    static const int32_t sine_tie[16] = {0, 6863, 0, 0, 0, 5998, 0, 0, 0, 0, 0, -5998, 0, 0, 0, -6863};
-    static const int32_t impulse[8] = {0, 1000000, 0, 0, 0, 0, 0, 0};
-    COSINE(two_samples, 2, 0, 2, 1, one, 2, WORK(2)), rest_is(444758426, "the rest of DCT(1)");
-    COSINE(tie, 4, 0, 4, 4, one, 4, WORK(4)), rest_is(MEALBIS_LARGEST_REST, "the rest of a tie, Cosine");
-    SPECTRUM(impulse, 8, 0, 8, 2, one, 5, two, 5, WORK(8)), rest_is(234943168, "the rests of P8");
-    SPECTRUM(cosine_tie, 16, 0, 16, 10, one, 9, two, 9, WORK(16)), rest_is(MEALBIS_LARGEST_REST, "a tie in the cosine");
-    SPECTRUM(sine_tie, 16, 0, 16, 10, one, 9, two, 9, WORK(16)), rest_is(MEALBIS_LARGEST_REST, "a tie in the sine");
-    SPECTRUM(silence, 16, 0, 16, 10, one, 9, two, 9, WORK(16)), rest_is(0, "the rests of silence");
-    PAIR(sine_tie, 16, silence, 16, 0, 16, 20, one, 16, two, 16, WORK(16)), rest_is(MEALBIS_LARGEST_REST, "a tie in a");
-    PAIR(silence, 16, sine_tie, 16, 0, 16, 20, one, 16, two, 16, WORK(16)), rest_is(MEALBIS_LARGEST_REST, "a tie in b");
-}
-
-static void mark_refused(uint32_t expected, mealbis_size at, const char *what)
-{
-    refused(expected, at, what);
+    refused(expected, what);
     check(mark_answer.mark == MEALBIS_NO_MARK, what, mark_answer.mark);
 }
 
-/* The mark, by these figures, of the block of 8 from start on, which has a sample behind it; words beyond the coefficients and scratch stay. */
-static void marked(const int32_t *recording, mealbis_size start, int32_t flat_limit, int32_t clip_level, uint64_t mark, const char *what)
+static void month_refused(uint32_t expected, const char *what)
 {
-    MARK(recording, start + 9, start, 8, 2, flat_limit, clip_level, one, 6, two, 6, WORK(8) + 2);
-    check(number == 0 && mark_answer.mark == mark, what, mark_answer.mark);
-    check(spent(2, 20), what, answer.products);
-    check(one[5] == kept[5] && two[5] == kept[5] && cleared(8), what, 8);
-}
-
-/* What mealbis_mark leaves of n samples is what mealbis_spectrum leaves. */
-static void marked_as_spectrum(mealbis_size n)
-{
-    static int32_t cosine[MEALBIS_WORDS(one)], sine[MEALBIS_WORDS(two)];
-    mealbis_answer of_spectrum;
-    SPECTRUM(x, LONGEST, 0, n, UINT64_MAX, one, LONGEST, two, LONGEST, scratch, MEALBIS_WORDS(scratch));
-    memcpy(cosine, one, sizeof one);
-    memcpy(sine, two, sizeof two);
-    of_spectrum = answer;
-    MARK(x, LONGEST, 0, n, of_spectrum.products, INT32_MAX, 1000000, one, LONGEST, two, LONGEST, scratch, MEALBIS_WORDS(scratch));
-    check(spent(of_spectrum.products, of_spectrum.sums), "mark, the counts of Spectrum", n);
-    check(answer.largest_rest == of_spectrum.largest_rest, "mark, the largest rest of Spectrum", n);
-    check(!memcmp(cosine, one, sizeof one) && !memcmp(sine, two, sizeof two), "mark, the coefficients of Spectrum", n);
-    check(mark_answer.mark == BOTH, "mark, the largest flat limit", n); /* x[0] is -1000000 */
-    check(cleared(n), "mark, scratch cleared", n);
-}
-
-static void marks(void)
-{
-    /* The sizes of -1,000,000 at place 1 are at most 1,000,000 from k = 1 on: at cosine[4] and sine[2]. The last sample is behind the block. */
-    static const int32_t impulse[9] = {0, -1000000, 0, 0, 0, 0, 0, 0, 5}, stuck[9] = {7, 7, 7, 7, 7, 7, 7, 7, 1000000};
-    static const int32_t alternating[9] = {3, -3, 3, -3, 3, -3, 3, -3, 1000000}; /* cosine[4] is 24, all else 0 */
-    mealbis_size n;
-    for (n = 1; n <= LONGEST; n *= 2)
-        marked_as_spectrum(n);
-    marked(impulse, 0, 999999, 1000000, MEALBIS_CLIPPED, "mark, a sample at the clip level");
-    marked(impulse, 0, 1000000, 1000000, BOTH, "mark, a coefficient at the flat limit");
-    marked(alternating, 0, 24, 4, MEALBIS_FLAT, "mark, the last coefficient at the flat limit");
-    marked(alternating, 0, 23, 4, MEALBIS_PLAIN, "mark, the last coefficient beyond the flat limit");
-    marked(stuck, 0, 0, 8, MEALBIS_FLAT, "mark, the mean does not count");
-    marked(x, 0, 0, 1000000, MEALBIS_CLIPPED, "mark, the first sample at the clip level");
-    marked(x, 1, 0, 1000000, MEALBIS_PLAIN, "mark, samples before and behind the block"); /* x[0] and x[9] are -1000000 */
-    MARK(x, 16, 0, 1, 0, 0, 1000000, one, 1, two, 1, WORK(1)), check(number == 0 && mark_answer.mark == BOTH, "mark, one sample", number);
-    MARK(x, 16, 8, 8, 99, 0, 1, one, 5, two, 5, WORK(8)), check(number == 0 && mark_answer.mark == MEALBIS_CLIPPED, "mark, the least figures", number);
-}
-
-static void mark_refusals(void)
-{
-    MARK(x, 16, 0, 3, 99, -1, 0, one, 5, two, 5, WORK(8)), mark_refused(1, 0, "mark, length 3");
-    MARK(x, 16, 9, 8, 99, -1, 0, one, 5, two, 5, WORK(8)), mark_refused(2, 0, "mark beyond the recording");
-    MARK(x, 16, UINT64_MAX, 8, 99, -1, 0, one, 5, two, 5, WORK(8)), mark_refused(2, 0, "mark, start + length overflows");
-    MARK(x, 16, 8, 8, 99, -1, 0, one, 4, two, 5, WORK(8)), mark_refused(3, 0, "mark, cosine too short");
-    MARK(x, 16, 8, 8, 99, -1, 0, one, 5, two, 4, WORK(8)), mark_refused(3, 0, "mark, sine too short");
-    MARK(x, 16, 8, 8, 99, -1, 0, one, 5, two, 5, WORK(8) - 1), mark_refused(4, 0, "mark, scratch too short");
-    MARK(x, 16, 8, 8, 1, -1, 0, one, 5, two, 5, WORK(8)), mark_refused(5, 0, "mark, allowance 1");
-    stored[9] = -1000001;
-    MARK(stored, 16, 8, 8, 99, -1, 0, one, 5, two, 5, WORK(8)), mark_refused(6, 9, "mark, sample 9");
-    MARK(x, 16, 8, 8, 99, -1, 1, one, 5, two, 5, WORK(8)), mark_refused(12, 0, "mark, flat limit -1");
-    MARK(x, 16, 8, 8, 99, INT32_MIN, 1, one, 5, two, 5, WORK(8)), mark_refused(12, 0, "mark, the least flat limit");
-    MARK(x, 16, 8, 8, 99, 0, 0, one, 5, two, 5, WORK(8)), mark_refused(12, 0, "mark, clip level 0");
-    MARK(x, 16, 8, 8, 99, 0, 1000001, one, 5, two, 5, WORK(8)), mark_refused(12, 0, "mark, clip level 1000001");
-}
-
-/* A month of no blocks for n, or for 0 after the refusal, whatever stood in its words. */
-static void begun(mealbis_size n, uint32_t expected, const char *what)
-{
-    mealbis_size i;
-    int zeros = 1;
-    memset(&month, 0x55, sizeof month);
-    check(mealbis_month_begin(&month, n) == expected, what, n);
-    for (i = 1; i < MEALBIS_MONTH_WORDS; i++)
-        zeros = zeros && month.words[i] == 0;
-    check(zeros && month.words[0] == (expected ? 0 : (int64_t)n), what, n);
-    check(mealbis_month_length(&month) == (expected ? 0 : n) && mealbis_month_blocks(&month) == 0, what, n);
-}
-
-static void month_refused(uint32_t expected, mealbis_size at, const char *what)
-{
-    refused(expected, at, what);
+    refused(expected, what);
     check(!memcmp(&month, &kept_month, sizeof month), what, expected);
 }
 
-/* The sums of the month for k. */
-static void sums_are(mealbis_size k, uint32_t expected, int64_t cosine, int64_t sine, const char *what)
+static void inverse_refused(uint32_t expected, const char *what)
 {
-    fill();
-    kept_month = month;
-    check(mealbis_month_sums(&month, k, &month_sums) == expected, what, k);
-    check(month_sums.cosine == cosine && month_sums.sine == sine, what, k);
-    check(!memcmp(&month, &kept_month, sizeof month), what, k);
-}
-
-/* Two blocks of n samples added, from x(0) on and from y(1) on: each call leaves what mealbis_spectrum leaves, and the month has the sums. */
-static void added_as_spectrum(mealbis_size n)
-{
-    static int32_t cosine[2][MEALBIS_WORDS(one)], sine[2][MEALBIS_WORDS(two)];
-    static mealbis_month expected;
-    const int32_t *const recordings[2] = {x, y};
-    mealbis_size i, k;
-    begun(n, 0, "a month");
-    expected = month;
-    for (i = 0; i < 2; i++) {
-        mealbis_answer of_spectrum;
-        SPECTRUM(recordings[i], LONGEST + 1, i, n, UINT64_MAX, one, LONGEST, two, LONGEST, scratch, MEALBIS_WORDS(scratch));
-        memcpy(cosine[i], one, sizeof one);
-        memcpy(sine[i], two, sizeof two);
-        of_spectrum = answer;
-        ADD(recordings[i], LONGEST + 1, i, n, of_spectrum.products, one, LONGEST, two, LONGEST, scratch, MEALBIS_WORDS(scratch));
-        check(spent(of_spectrum.products, of_spectrum.sums), "month, the counts of Spectrum", n);
-        check(answer.largest_rest == of_spectrum.largest_rest, "month, the largest rest of Spectrum", n);
-        check(!memcmp(cosine[i], one, sizeof one) && !memcmp(sine[i], two, sizeof two), "month, the coefficients of Spectrum", n);
-        check(cleared(n), "month, scratch cleared", n);
-        for (k = 0; k < MEALBIS_SPECTRUM_WORDS(n); k++) {
-            expected.words[2 + k] += cosine[i][k];
-            expected.words[515 + k] += sine[i][k];
-        }
-        expected.words[1]++;
-        check(!memcmp(&month, &expected, sizeof month), "month, the sums", n);
-    }
-    for (k = 0; k < MEALBIS_SPECTRUM_WORDS(n); k++)
-        sums_are(k, 0, (int64_t)cosine[0][k] + cosine[1][k], (int64_t)sine[0][k] + sine[1][k], "month, the sums for k");
-    sums_are(MEALBIS_SPECTRUM_WORDS(n), 16, 0, 0, "month, no sums beyond N/2");
-    sums_are(UINT64_MAX, 16, 0, 0, "month, no sums for UINT64_MAX");
-    check(mealbis_month_length(&month) == n && mealbis_month_blocks(&month) == 2, "month, its length and block number", n);
-    ADD(x, LONGEST, 0, n == 1 ? 2 : n / 2, UINT64_MAX, one, LONGEST, two, LONGEST, scratch, MEALBIS_WORDS(scratch));
-    month_refused(13, 0, "month, another length");
-}
-
-static void months(void)
-{
-    /* cosine 10, -2, -2 and -5, 0, 5; sine 0, -2, 0 and 0, -9, 0 */
-    static const int32_t first[4] = {1, 2, 3, 4}, second[4] = {0, -7, 0, 2}, three[1] = {3}, top[2] = {1000000, 1000000};
-    mealbis_size n;
-    for (n = 1; n <= LONGEST; n *= 2)
-        added_as_spectrum(n);
-    begun(4, 0, "a month of 4");
-    ADD(first, 4, 0, 4, 0, one, 3, two, 3, WORK(4)), check(spent(0, 6), "month, 1, 2, 3, 4", answer.sums);
-    ADD(second, 4, 0, 4, 0, one, 3, two, 3, WORK(4)), check(number == 0 && one[3] == kept[3] && two[3] == kept[3], "month, 0, -7, 0, 2", number);
-    check(mealbis_month_blocks(&month) == 2, "month, two blocks", 2);
-    sums_are(0, 0, 5, 0, "month, k 0");
-    sums_are(1, 0, -2, -11, "month, k 1");
-    sums_are(2, 0, 3, 0, "month, k 2");
-    sums_are(3, 16, 0, 0, "month, k 3");
-    /* the last block, and one more */
-    begun(2, 0, "a month of 2");
-    for (n = 0; n < MEALBIS_MOST_BLOCKS; n++) {
-        number = mealbis_month_add(&month, top, 2, 0, 2, 0, one, 2, two, 2, WORK(2), &answer);
-        if (number != 0)
-            break;
-    }
-    check(n == 100000 && mealbis_month_blocks(&month) == 100000, "month, 100,000 blocks", n);
-    sums_are(0, 0, INT64_C(200000000000), 0, "month, a sum of 100,000 blocks");
-    ADD(top, 2, 0, 2, 0, one, 2, two, 2, WORK(2)), month_refused(14, 0, "month, one more");
-    ADD(top, 2, 1, 2, 0, NULL, 0, NULL, 0, NULL, 0), month_refused(14, 0, "month, one more with nothing lent");
-    ADD(top, 2, 0, 1, 0, one, 2, two, 2, WORK(2)), month_refused(13, 0, "month, full, another length");
-    /* a sum beyond 2^62 in size, which no month has, stays */
-    begun(1, 0, "a month of 1");
-    month.words[2] = INT64_MAX;
-    month.words[3] = INT64_MIN;
-    ADD(three, 1, 0, 1, 0, one, 1, two, 1, WORK(1)), check(number == 0 && month.words[2] == INT64_MAX, "month, a sum beyond 2^62", number);
-    check(month.words[1] == 1 && month.words[3] == INT64_MIN, "month, words beyond", 3);
-    month.words[2] = -(INT64_C(1) << 62);
-    ADD(three, 1, 0, 1, 0, one, 1, two, 1, WORK(1));
-    check(number == 0 && month.words[2] == 3 - (INT64_C(1) << 62), "month, a sum of -2^62", number);
-}
-
-static void month_refusals(void)
-{
-    static const mealbis_size bad[] = {0, 3, 1023, 1025, 2048, UINT64_MAX};
-    mealbis_size i;
-    for (i = 0; i < MEALBIS_WORDS(bad); i++) {
-        begun(bad[i], 1, "a month of a bad length");
-        ADD(x, 16, 0, bad[i], 99, one, 5, two, 5, WORK(8)), month_refused(13, 0, "month refused, the same length");
-        ADD(x, 16, 0, 8, 99, one, 5, two, 5, WORK(8)), month_refused(13, 0, "month refused, length 8");
-        ADD(x, 16, 0, 0, 99, one, 5, two, 5, WORK(8)), month_refused(13, 0, "month refused, length 0");
-        sums_are(0, 16, 0, 0, "month refused, k 0");
-    }
-    month.words[0] = -8;
-    check(mealbis_month_length(&month) == 0, "month, length -8", mealbis_month_length(&month));
-    begun(8, 0, "a month of 8");
-    ADD(x, 16, 0, 8, 2, one, 5, two, 5, WORK(8)), check(number == 0, "month, a block before the refused ones", number);
-    ADD(x, 16, 0, 3, 99, one, 5, two, 5, WORK(8)), month_refused(13, 0, "month, length 3");
-    ADD(x, 16, 9, 4, 0, one, 2, two, 5, WORK(8) - 1), month_refused(13, 0, "month, length 4");
-    ADD(x, 16, 9, 8, 99, one, 5, two, 5, WORK(8)), month_refused(2, 0, "month, beyond the recording");
-    ADD(x, 16, UINT64_MAX, 8, 99, one, 5, two, 5, WORK(8)), month_refused(2, 0, "month, start + length overflows");
-    ADD(x, 16, 8, 8, 99, one, 4, two, 5, WORK(8)), month_refused(3, 0, "month, cosine too short");
-    ADD(x, 16, 8, 8, 99, one, 5, two, 4, WORK(8)), month_refused(3, 0, "month, sine too short");
-    ADD(x, 16, 8, 8, 99, one, 5, two, 5, WORK(8) - 1), month_refused(4, 0, "month, scratch too short");
-    ADD(x, 16, 8, 8, 1, one, 5, two, 5, WORK(8)), month_refused(5, 0, "month, allowance 1");
-    stored[9] = 1000001;
-    ADD(stored, 16, 8, 8, 99, one, 5, two, 5, WORK(8)), month_refused(6, 9, "month, sample 9");
-}
-
-static void inverse_refused(uint32_t expected, mealbis_size at, const char *what)
-{
-    check(number == expected, what, number);
-    check(inverse_answer.place == at, what, inverse_answer.place);
+    check(number == expected && inverse_answer.place == 0, what, number);
     check(!memcmp(one, kept, sizeof one), what, expected);
 }
 
-/* A stored coefficient at its limit, on either side, is accepted, and one beyond it is refused with its place. */
-static void limits(mealbis_size n, mealbis_size k)
+static void file_refused(uint32_t expected, const char *what)
 {
-    int32_t limit = MEALBIS_LARGEST_COEFFICIENT(n), side;
-    for (side = -1; side <= 1; side += 2) {
-        memset(stored, 0, sizeof stored);
-        stored[k] = side * limit;
-        INVERSE(stored, n, n, one, n), check(number == 0 && inverse_answer.place == 0, "inverse DCT, a coefficient at its limit", k);
-        stored[k] += side;
-        stored[n - 1] = stored[k];
-        INVERSE(stored, n, n, one, n), inverse_refused(10, k, "inverse DCT, a coefficient beyond its limit");
-    }
-}
-
-/* A block through Cosine and back: accepted, each value within n of its sample, the words beyond as they were. */
-static void round_trip(mealbis_size n)
-{
-    mealbis_size i;
-    int near = 1;
-    COSINE(x, LONGEST, 0, n, UINT64_MAX, stored, LONGEST, scratch, MEALBIS_WORDS(scratch));
-    stored[n] = INT32_MIN; /* not examined */
-    INVERSE(stored, n + 1, n, one, n + 1);
-    for (i = 0; i < n; i++)
-        near = near && (int64_t)one[i] - x[i] <= (int64_t)n && (int64_t)x[i] - one[i] <= (int64_t)n;
-    check(number == 0 && inverse_answer.place == 0 && near, "a block through Cosine and back", n);
-    check(!memcmp(one + n, kept + n, sizeof one - n * sizeof one[0]), "inverse DCT writes n words", n);
-}
-
-static void inverses(void)
-{
-    static const int32_t four[4] = {10, -3, 0, 0}, tie[2] = {-3, 0};
-    mealbis_size n;
-    for (n = 1; n <= LONGEST; n *= 2) {
-        round_trip(n);
-        limits(n, 0);
-        limits(n, n / 2);
-        limits(n, n - 1);
-    }
-    INVERSE(four, 4, 4, one, 4);
-    check(number == 0 && one[0] == 1 && one[1] == 2 && one[2] == 3 && one[3] == 4, "1, 2, 3, 4 back from 10, -3, 0, 0", 4);
-    INVERSE(tie, 2, 2, one, 2);
-    check(number == 0 && one[0] == -1 && one[1] == -1, "a tie goes to the larger", 2);
-    for (n = 0; n < LONGEST; n++)
-        stored[n] = MEALBIS_LARGEST_COEFFICIENT(LONGEST);
-    INVERSE(stored, LONGEST, LONGEST, one, LONGEST);
-    check(number == 0 && one[0] == 1303798342 && one[LONGEST - 1] == -767, "sums beyond 64 bits", LONGEST);
-    stored[0] = INT32_MAX;
-    INVERSE(stored, 7, 6, one, 5), inverse_refused(1, 0, "inverse DCT, length 6");
-    INVERSE(stored, 8, 0, one, 8), inverse_refused(1, 0, "inverse DCT, length 0");
-    INVERSE(stored, 8, UINT64_MAX, one, 8), inverse_refused(1, 0, "inverse DCT, length UINT64_MAX");
-    INVERSE(stored, 7, 8, one, 7), inverse_refused(2, 0, "inverse DCT, too few coefficients");
-    INVERSE(stored, 8, 8, one, 7), inverse_refused(3, 0, "inverse DCT, values too short");
-}
-
-static void file_refused(uint32_t expected, mealbis_size at, const char *what)
-{
-    check(number == expected && read_answer.samples == 0 && read_answer.length == 0, what, number);
-    check(read_answer.place == at, what, read_answer.place);
+    check(number == expected && read_answer.samples == 0 && read_answer.length == 0 && read_answer.place == 0, what, number);
     check(!memcmp(one, kept, sizeof one) && !memcmp(two, kept, sizeof two), what, expected);
 }
 
-/* A file accepted: its sizes, and no place. */
-static int was_read(mealbis_size samples, mealbis_size length)
+static void write_refused(uint32_t expected, const char *what)
 {
-    return number == 0 && read_answer.samples == samples && read_answer.length == length && read_answer.place == 0;
-}
-
-static void files(void)
-{
-    static const uint8_t header[8] = {8, 0, 0, 0, 4, 0, 0, 0};
-    memset(file, 0, sizeof file);
-    memcpy(file, header, sizeof header);
-    file[8 + 4 * 8] = 7; /* b(0) */
-    READ(file, 7, one, 8, two, 8), file_refused(7, 0, "a file of 7 bytes");
-    file[0] = 0;
-    READ(file, sizeof file, one, 8, two, 8), file_refused(8, 0, "no samples");
-    file[0] = 8;
-    READ(file, sizeof file - 1, one, 8, two, 8), file_refused(9, 0, "a byte missing");
-    file[4] = 5;
-    READ(file, sizeof file, one, 8, two, 8), file_refused(1, 0, "blocks of 5");
-    file[4] = 4;
-    READ(file, sizeof file, one, 8, two, 7), file_refused(3, 0, "a short recording");
-    file[8 + 4 * 13 + 3] = 0x7f;
-    READ(file, sizeof file, one, 8, two, 8), file_refused(6, 5, "sample 5 of b");
-    file[8 + 4 * 13 + 3] = 0;
-    READ(file, sizeof file, one, MEALBIS_WORDS(one), two, MEALBIS_WORDS(two));
-    check(was_read(8, 4), "a file is read", number);
-    check(one[0] == 0 && two[0] == 7 && one[8] == kept[8] && two[8] == kept[8], "its samples, and no more", 8);
-}
-
-static void write_refused(uint32_t expected, mealbis_size at, const char *what)
-{
-    check(number == expected && write_answer.bytes == 0, what, number);
-    check(write_answer.place == at, what, write_answer.place);
+    check(number == expected && write_answer.bytes == 0 && write_answer.place == 0, what, number);
     check(!memcmp(made, kept_bytes, sizeof made), what, expected);
-}
-
-/* n samples of x and of y written and read again: the same, and the bytes and words beyond them as they were. */
-static void written_and_read(mealbis_size n)
-{
-    static uint8_t written[sizeof made];
-    mealbis_size of_file = MEALBIS_FILE_BYTES(n);
-    WRITE(x, n, y, n, 256, made, sizeof made);
-    check(number == 0 && write_answer.bytes == of_file && write_answer.place == 0, "a file is written", n);
-    check(!memcmp(made + of_file, kept_bytes + of_file, sizeof made - of_file), "and not a byte more", n);
-    memcpy(written, made, of_file); /* not `made`, which is filled before each call */
-    READ(written, of_file, one, MEALBIS_WORDS(one), two, MEALBIS_WORDS(two));
-    check(was_read(n, 256), "the file is read", n);
-    check(!memcmp(one, x, n * sizeof x[0]) && !memcmp(two, y, n * sizeof y[0]), "it has the samples", n);
-    check(!memcmp(one + n, kept + n, sizeof one - n * sizeof one[0]) && !memcmp(two + n, kept + n, sizeof two - n * sizeof two[0]), "and no more", n);
-}
-
-static void written_files(void)
-{
-    static const int32_t a[2] = {3, 1}, b[2] = {0, 2}, ends[2] = {-1000000, 1000000};
-    static const uint8_t example[24] = {2, 0, 0, 0, 2, 0, 0, 0, 3, 0, 0, 0, 1, 0, 0, 0, 0, 0, 0, 0, 2, 0, 0, 0};
-    static const uint8_t of_ends[24] = {2, 0, 0, 0, 0, 4, 0, 0, 0xc0, 0xbd, 0xf0, 0xff, 0x40, 0x42, 0x0f, 0, 0xc0, 0xbd, 0xf0, 0xff, 0x40, 0x42, 0x0f, 0};
-    static int32_t long_one[MEALBIS_MOST_FILE_SAMPLES + 1];
-    mealbis_size n;
-    WRITE(a, 2, b, 2, 2, made, 24), check(number == 0 && write_answer.bytes == 24 && write_answer.place == 0, "document 01's file", number);
-    check(!memcmp(made, example, 24) && made[24] == kept_bytes[24], "just its bytes", 24);
-    WRITE(ends, 2, ends, 2, 1024, made, 30), check(number == 0 && write_answer.bytes == 24 && !memcmp(made, of_ends, 24), "both recordings one", number);
-    for (n = 1; n <= LONGEST; n = n < 8 ? n + 1 : 2 * n)
-        written_and_read(n);
-    long_one[5] = INT32_MIN;
-    WRITE(long_one, 4097, long_one, 4096, 3, made, 24), write_refused(8, 0, "write, 4097 samples");
-    WRITE(long_one, 4096, long_one, 4097, 3, made, 24), write_refused(11, 0, "write, recordings of two lengths");
-    WRITE(long_one, 4096, long_one, 4096, 3, made, 24), write_refused(1, 0, "write, blocks of 3");
-    WRITE(long_one, 4096, long_one, 4096, UINT64_MAX, made, 24), write_refused(1, 0, "write, blocks of UINT64_MAX");
-    WRITE(long_one, 4096, long_one, 4096, 4, made, 24), write_refused(6, 5, "write, sample 5");
-    WRITE(x, 8, long_one, 8, 4, made, 24), write_refused(6, 5, "write, sample 5 of b");
-    WRITE(x, 8, y, 8, 4, made, 71), write_refused(3, 0, "write, a byte too few");
 }
 
 static void page_refused(uint32_t expected, const char *what)
@@ -570,53 +114,149 @@ static void page_refused(uint32_t expected, const char *what)
     check(!memcmp(made, kept_bytes, sizeof made), what, expected);
 }
 
-/* The page is this text, and the bytes behind it are as they were. */
-static void page_is(const char *text, const char *what)
+#define SPECTRUM(...) (fill(), number = mealbis_spectrum(__VA_ARGS__, &answer))
+#define MARK(...) (fill(), number = mealbis_mark(__VA_ARGS__, &mark_answer))
+#define ADD(...) (fill(), kept_month = month, number = mealbis_month_add(&month, __VA_ARGS__, &answer))
+#define COSINE(...) (fill(), number = mealbis_cosine(__VA_ARGS__, &answer))
+#define PAIR(...) (fill(), number = mealbis_pair(__VA_ARGS__, &answer))
+#define INVERSE(...) (fill(), number = mealbis_inverse_dct(__VA_ARGS__, &inverse_answer))
+#define READ(...) (fill(), number = mealbis_read(__VA_ARGS__, &read_answer))
+#define WRITE(...) (fill(), number = mealbis_write(__VA_ARGS__, &write_answer))
+#define PRINT(...) (fill(), number = mealbis_page(__VA_ARGS__, &page_answer))
+
+/* ---- records */
+
+#define FIELD(kind, field, place) check(offsetof(kind, field) == 8 * (place) && sizeof ((kind *)0)->field == 8, #kind "." #field, place)
+#define RECORD(kind, words) check(sizeof(kind) == 8 * (words) && sizeof(struct { char c; kind r; }) - sizeof(kind) == 8, #kind, words)
+
+/* Words of 64 bits without a gap, in the order of the library, aligned to 8 bytes. */
+static void layouts(void)
 {
-    size_t size = strlen(text);
-    check(number == 0 && page_answer.bytes == size && !memcmp(made, text, size), what, page_answer.bytes);
-    check(!memcmp(made + size, kept_bytes + size, sizeof made - size), what, size);
+    RECORD(mealbis_answer, 4);
+    FIELD(mealbis_answer, products, 0), FIELD(mealbis_answer, sums, 1), FIELD(mealbis_answer, largest_rest, 2), FIELD(mealbis_answer, place, 3);
+    RECORD(mealbis_mark_answer, 5);
+    FIELD(mealbis_mark_answer, products, 0), FIELD(mealbis_mark_answer, sums, 1), FIELD(mealbis_mark_answer, largest_rest, 2);
+    FIELD(mealbis_mark_answer, place, 3), FIELD(mealbis_mark_answer, mark, 4);
+    RECORD(mealbis_sums, 2);
+    FIELD(mealbis_sums, cosine, 0), FIELD(mealbis_sums, sine, 1);
+    RECORD(mealbis_page_answer, 1);
+    FIELD(mealbis_page_answer, bytes, 0);
+    RECORD(mealbis_inverse_answer, 1);
+    FIELD(mealbis_inverse_answer, place, 0);
+    RECORD(mealbis_counts_answer, 6);
+    FIELD(mealbis_counts_answer, dct_products, 0), FIELD(mealbis_counts_answer, dct_sums, 1), FIELD(mealbis_counts_answer, spectrum_products, 2);
+    FIELD(mealbis_counts_answer, spectrum_sums, 3), FIELD(mealbis_counts_answer, pair_products, 4), FIELD(mealbis_counts_answer, pair_sums, 5);
+    RECORD(mealbis_read_answer, 3);
+    FIELD(mealbis_read_answer, samples, 0), FIELD(mealbis_read_answer, length, 1), FIELD(mealbis_read_answer, place, 2);
+    RECORD(mealbis_write_answer, 2);
+    FIELD(mealbis_write_answer, bytes, 0), FIELD(mealbis_write_answer, place, 1);
+    RECORD(mealbis_month, MEALBIS_MONTH_WORDS);
+    check(sizeof(mealbis_size) == 8 && (mealbis_size)-1 > 0, "mealbis_size", sizeof(mealbis_size));
 }
 
-/* The page of n samples of x, as printf has its lines; the same with just enough of everything, and refused with a little less. */
-static void page_of_spectrum(mealbis_size n)
+/* Each field of each record, on blocks worked by hand, so that none is exchanged with another. */
+static void fields(void)
 {
-    static int32_t cosine[LONGEST], sine[LONGEST];
-    static char text[sizeof made];
-    mealbis_size k, words = MEALBIS_SPECTRUM_WORDS(n), size = MEALBIS_PAGE_BYTES(n);
-    SPECTRUM(x, LONGEST, 0, n, UINT64_MAX, cosine, LONGEST, sine, LONGEST, scratch, MEALBIS_WORDS(scratch));
-    sprintf(text, "%4s %12s %12s\n", "k", "cosine", "sine");
-    for (k = 0; k < words; k++)
-        sprintf(text + MEALBIS_PAGE_LINE_BYTES * (k + 1), "%4d %12d %12d\n", (int)k, (int)cosine[k], (int)sine[k]);
-    check(strlen(text) == size, "MEALBIS_PAGE_BYTES", n);
-    PRINT(cosine, LONGEST, sine, LONGEST, n, made, sizeof made), page_is(text, "page, of a spectrum");
-    PRINT(cosine, words, sine, words, n, made, size), page_is(text, "page, just enough of everything");
-    PRINT(cosine, words - 1, sine, LONGEST, n, made, size), page_refused(2, "page, a cosine too few");
-    PRINT(cosine, LONGEST, sine, words - 1, n, made, size), page_refused(2, "page, a sine too few");
-    PRINT(cosine, words, sine, words, n, made, size - 1), page_refused(3, "page, a byte too few");
-    PRINT(cosine, words, sine, words, n, made, size - MEALBIS_PAGE_LINE_BYTES), page_refused(3, "page, a line too few");
+    static const int32_t impulse[8] = {0, 1000000, 0, 0, 0, 0, 0, 0}, bad[4] = {0, 0, 0, 1000001}, first[4] = {1, 2, 3, 4}, far[2] = {0, 2000003};
+    static const uint8_t two_samples[24] = {2, 0, 0, 0, 8, 0, 0, 0, 3, 0, 0, 0, 1, 0, 0, 0, 0, 0, 0, 0, 2, 0, 0, 0};
+    uint8_t spoilt[24];
+    SPECTRUM(impulse, 8, 0, 8, 99, one, 5, two, 5, WORK(8));
+    check(number == 0 && answer.products == 2 && answer.sums == 20 && answer.largest_rest == 234943168 && answer.place == 0, "fields of Spectrum", number);
+    check(one[1] == 707107 && one[4] == -1000000 && two[2] == 1000000 && two[4] == 0, "cosine and sine", 8);
+    SPECTRUM(bad, 4, 2, 2, 99, one, 2, two, 2, WORK(2));
+    check(number == 6 && answer.place == 3 && answer.products == 0 && answer.sums == 0 && answer.largest_rest == 0, "place of Spectrum", answer.place);
+    MARK(impulse, 8, 0, 8, 99, 999999, 1000000, one, 5, two, 5, WORK(8));
+    check(number == 0 && mark_answer.products == 2 && mark_answer.sums == 20 && mark_answer.largest_rest == 234943168, "fields of mark", number);
+    check(mark_answer.place == 0 && mark_answer.mark == MEALBIS_CLIPPED && one[1] == 707107 && two[2] == 1000000, "the mark", mark_answer.mark);
+    MARK(impulse, 8, 0, 8, 99, 1000000, 1000000, one, 5, two, 5, WORK(8)), check(mark_answer.mark == MEALBIS_FLAT, "flat", mark_answer.mark);
+    MARK(first, 4, 0, 4, 99, 1, 5, one, 3, two, 3, WORK(4)), check(mark_answer.mark == MEALBIS_PLAIN, "plain", mark_answer.mark);
+    MARK(bad, 4, 2, 2, 99, 1, 5, one, 2, two, 2, WORK(2)), check(number == 6 && mark_answer.place == 3, "place of mark", mark_answer.place);
+    number = mealbis_month_begin(&month, 4);
+    check(number == 0 && mealbis_month_length(&month) == 4 && mealbis_month_blocks(&month) == 0, "a month", number);
+    ADD(first, 4, 0, 4, 0, one, 3, two, 3, WORK(4)), check(number == 0 && answer.sums == 6 && mealbis_month_blocks(&month) == 1, "a block", number);
+    number = mealbis_month_sums(&month, 1, &month_sums);
+    check(number == 0 && month_sums.cosine == -2 && month_sums.sine == -2, "sums for 1", number);
+    number = mealbis_month_sums(&month, 0, &month_sums);
+    check(number == 0 && month_sums.cosine == 10 && month_sums.sine == 0, "sums for 0", number);
+    PRINT(first, 4, first, 4, 4, made, sizeof made), check(number == 0 && page_answer.bytes == 124, "bytes of a page", page_answer.bytes);
+    INVERSE(far, 2, 2, one, 2), check(number == 10 && inverse_answer.place == 1, "place of the inverse DCT", inverse_answer.place);
+    fill();
+    number = mealbis_counts(8, &six);
+    check(number == 0 && six.dct_products == 12 && six.dct_sums == 29 && six.spectrum_products == 2 && six.spectrum_sums == 20
+        && six.pair_products == 4 && six.pair_sums == 52, "counts of 8", number);
+    READ(two_samples, 24, one, 2, two, 2), check(number == 0 && read_answer.samples == 2 && read_answer.length == 8 && read_answer.place == 0, "fields of read", number);
+    check(one[0] == 3 && one[1] == 1 && two[0] == 0 && two[1] == 2, "a and b", 2);
+    memcpy(spoilt, two_samples, 24);
+    spoilt[23] = 0x7f;
+    READ(spoilt, 24, one, 2, two, 2), check(number == 6 && read_answer.place == 1 && read_answer.samples == 0 && read_answer.length == 0, "place of read", number);
+    WRITE(first, 4, first, 4, 8, made, sizeof made), check(number == 0 && write_answer.bytes == 40 && write_answer.place == 0, "fields of write", number);
+    WRITE(first, 4, bad, 4, 8, made, sizeof made), check(number == 6 && write_answer.bytes == 0 && write_answer.place == 3, "place of write", number);
 }
 
-static void pages(void)
+/* ---- macros */
+
+/* With just the sizes of the macros each call is accepted, and with one word or byte less refused by the number of its macro. */
+static void sizes(mealbis_size n)
 {
-    static const int32_t widest[3] = {INT32_MIN, 0, -1}, other[3] = {INT32_MAX, 1000000000, -99};
-    mealbis_size n;
-    PRINT(widest, 3, other, 3, 4, made, sizeof made);
-    page_is("   k       cosine         sine\n"
-            "   0  -2147483648   2147483647\n"
-            "   1            0   1000000000\n"
-            "   2           -1          -99\n", "page, written by hand");
-    PRINT(widest, 1, widest, 1, 1, made, 62);
-    page_is("   k       cosine         sine\n"
-            "   0  -2147483648  -2147483648\n", "page, cosine and sine one array");
-    for (n = 1; n <= LONGEST; n *= 2)
-        page_of_spectrum(n);
-    PRINT(widest, 2, other, 3, 6, made, 100), page_refused(1, "page, length 6");
-    PRINT(x, LONGEST, y, LONGEST, 0, made, sizeof made), page_refused(1, "page, length 0");
-    PRINT(x, LONGEST, y, LONGEST, 2048, made, sizeof made), page_refused(1, "page, length 2048");
-    PRINT(x, LONGEST, y, LONGEST, UINT64_MAX, made, sizeof made), page_refused(1, "page, length UINT64_MAX");
-    PRINT(widest, 2, other, 3, 4, made, 100), page_refused(2, "page, a cosine too few, and a short page");
-    PRINT(widest, 3, other, 2, 4, made, 100), page_refused(2, "page, a sine too few, and a short page");
+    mealbis_size words = MEALBIS_SPECTRUM_WORDS(n), work = MEALBIS_SCRATCH_WORDS(n), page = MEALBIS_PAGE_BYTES(n), bytes = MEALBIS_FILE_BYTES(n);
+    SPECTRUM(x, n, 0, n, UINT64_MAX, one, words, two, words, scratch, work), check(number == MEALBIS_ACCEPTED, "sizes of Spectrum", n);
+    SPECTRUM(x, n, 0, n, UINT64_MAX, one, words - 1, two, words, scratch, work), refused(MEALBIS_RESULT_TOO_SHORT, "MEALBIS_SPECTRUM_WORDS");
+    SPECTRUM(x, n, 0, n, UINT64_MAX, one, words, two, words, scratch, work - 1), refused(MEALBIS_SCRATCH_TOO_SHORT, "MEALBIS_SCRATCH_WORDS");
+    SPECTRUM(x, n, 1, n, UINT64_MAX, one, words, two, words, scratch, work), refused(MEALBIS_BEYOND_RECORDING, "MEALBIS_BEYOND_RECORDING");
+    COSINE(x, n, 0, n, UINT64_MAX, one, n, scratch, work), check(number == MEALBIS_ACCEPTED, "sizes of Cosine", n);
+    PAIR(x, n, y, n, 0, n, UINT64_MAX, one, n, two, n, scratch, work), check(number == MEALBIS_ACCEPTED, "sizes of Pair", n);
+    PRINT(x, words, y, words, n, made, page), check(number == MEALBIS_ACCEPTED && page_answer.bytes == page, "sizes of a page", n);
+    check(page == MEALBIS_PAGE_LINE_BYTES * (words + 1), "MEALBIS_PAGE_LINE_BYTES", n);
+    PRINT(x, words, y, words, n, made, page - 1), page_refused(MEALBIS_RESULT_TOO_SHORT, "MEALBIS_PAGE_BYTES");
+    WRITE(x, n, y, n, n, made, bytes), check(number == MEALBIS_ACCEPTED && write_answer.bytes == bytes, "sizes of a file", n);
+    WRITE(x, n, y, n, n, made, bytes - 1), write_refused(MEALBIS_RESULT_TOO_SHORT, "MEALBIS_FILE_BYTES");
+    memset(stored, 0, sizeof stored);
+    stored[n - 1] = -MEALBIS_LARGEST_COEFFICIENT(n);
+    INVERSE(stored, n, n, one, n), check(number == MEALBIS_ACCEPTED, "MEALBIS_LARGEST_COEFFICIENT", n);
+    stored[n - 1]--;
+    INVERSE(stored, n, n, one, n), check(number == MEALBIS_COEFFICIENT_BEYOND_LIMIT && inverse_answer.place == n - 1, "beyond MEALBIS_LARGEST_COEFFICIENT", n);
+}
+
+/* The other numbers of the header, each at its edge, and each refusal by its name. */
+static void numbers(void)
+{
+    static const int32_t top[1] = {MEALBIS_LARGEST_SAMPLE}, above[1] = {MEALBIS_LARGEST_SAMPLE + 1}, tie[4] = {13726, 0, 11996, 0};
+    static int32_t long_one[MEALBIS_MOST_FILE_SAMPLES + 1];
+    static uint8_t long_file[MEALBIS_FILE_BYTES(MEALBIS_MOST_FILE_SAMPLES) + 8];
+    static struct { int64_t before; mealbis_month month; int64_t behind; } guarded;
+    static const uint8_t none[8] = {0}, odd[16] = {1, 0, 0, 0, 3};
+    mealbis_size i;
+    int zeros = 1;
+    for (i = 1; i <= LONGEST; i *= 2)
+        sizes(i);
+    check(i == 2 * LONGEST && MEALBIS_WORDS(tie) == 4, "MEALBIS_LONGEST_BLOCK, MEALBIS_WORDS", i);
+    SPECTRUM(x, MEALBIS_WORDS(x), 0, 2 * LONGEST, 99, one, 5, two, 5, WORK(8)), refused(MEALBIS_BAD_LENGTH, "twice MEALBIS_LONGEST_BLOCK");
+    SPECTRUM(x, 8, 0, 8, 1, one, 5, two, 5, WORK(8)), refused(MEALBIS_ALLOWANCE_TOO_SMALL, "MEALBIS_ALLOWANCE_TOO_SMALL");
+    SPECTRUM(top, 1, 0, 1, 0, one, 1, two, 1, WORK(1)), check(number == MEALBIS_ACCEPTED && one[0] == top[0], "MEALBIS_LARGEST_SAMPLE", number);
+    SPECTRUM(above, 1, 0, 1, 0, one, 1, two, 1, WORK(1)), refused(MEALBIS_OUT_OF_RANGE, "above MEALBIS_LARGEST_SAMPLE");
+    COSINE(tie, 4, 0, 4, 4, one, 4, WORK(4)), check(answer.largest_rest == MEALBIS_LARGEST_REST, "MEALBIS_LARGEST_REST", answer.largest_rest);
+    MARK(x, 8, 0, 8, 99, -1, 1, one, 5, two, 5, WORK(8)), mark_refused(MEALBIS_BAD_FIGURES, "MEALBIS_BAD_FIGURES");
+    READ(none, 7, one, 8, two, 8), file_refused(MEALBIS_FILE_BELOW_HEADER, "MEALBIS_FILE_BELOW_HEADER");
+    READ(none, 8, one, 8, two, 8), file_refused(MEALBIS_BAD_SAMPLE_COUNT, "MEALBIS_BAD_SAMPLE_COUNT");
+    READ(odd, 15, one, 8, two, 8), file_refused(MEALBIS_BAD_FILE_LENGTH, "MEALBIS_BAD_FILE_LENGTH");
+    READ(odd, 16, one, 8, two, 8), file_refused(MEALBIS_BAD_LENGTH, "a file in blocks of 3");
+    WRITE(x, 8, y, 7, 4, made, sizeof made), write_refused(MEALBIS_RECORDINGS_DIFFER, "MEALBIS_RECORDINGS_DIFFER");
+    WRITE(long_one, MEALBIS_MOST_FILE_SAMPLES + 1, long_one, 1, 4, made, sizeof made), write_refused(MEALBIS_BAD_SAMPLE_COUNT, "above MEALBIS_MOST_FILE_SAMPLES");
+    number = mealbis_write(long_one, MEALBIS_MOST_FILE_SAMPLES, long_one, MEALBIS_MOST_FILE_SAMPLES, 4, long_file, sizeof long_file, &write_answer);
+    check(number == MEALBIS_ACCEPTED && write_answer.bytes == sizeof long_file - 8, "MEALBIS_MOST_FILE_SAMPLES", number);
+    /* a month: its words and no more, its last block, and one more */
+    memset(&guarded, 0x55, sizeof guarded);
+    number = mealbis_month_begin(&guarded.month, LONGEST);
+    for (i = 1; i < MEALBIS_MONTH_WORDS; i++)
+        zeros = zeros && guarded.month.words[i] == 0;
+    check(number == MEALBIS_ACCEPTED && zeros && guarded.month.words[0] == LONGEST && guarded.before == guarded.behind, "MEALBIS_MONTH_WORDS", number);
+    number = mealbis_month_begin(&month, 1);
+    for (i = 0; i < MEALBIS_MOST_BLOCKS && number == 0; i++)
+        number = mealbis_month_add(&month, top, 1, 0, 1, 0, one, 1, two, 1, WORK(1), &answer);
+    check(i == MEALBIS_MOST_BLOCKS && mealbis_month_blocks(&month) == MEALBIS_MOST_BLOCKS, "MEALBIS_MOST_BLOCKS", i);
+    ADD(top, 1, 0, 1, 0, one, 1, two, 1, WORK(1)), month_refused(MEALBIS_MONTH_FULL, "above MEALBIS_MOST_BLOCKS");
+    ADD(top, 1, 0, 2, 0, one, 1, two, 1, WORK(1)), month_refused(MEALBIS_OTHER_LENGTH, "MEALBIS_OTHER_LENGTH");
+    check(mealbis_month_sums(&month, 1, &month_sums) == MEALBIS_NOT_YIELDED, "MEALBIS_NOT_YIELDED", 1);
 }
 
 /* Each number that a call gives has a reason of its own. */
@@ -631,51 +271,127 @@ static void reasons(void)
     check(!strcmp(mealbis_reason(MEALBIS_SCRATCH_TOO_SHORT), "scratch is too short"), "the reason of 4", 4);
 }
 
+/* ---- alignment: the same at each place that the types allow */
+
+static void *placed(unsigned char *memory, size_t at, const void *held, size_t size)
+{
+    if (held)
+        memcpy(memory + at, held, size);
+    return memory + at;
+}
+
+/* All calls on n samples, with words of 32 bits at `at` words from 16 bytes, of 64 bits at at % 2 words, and bytes at `at` bytes. */
+static void at_place(mealbis_size n, size_t at)
+{
+    static int32_t cosine[2][LONGEST], sine[2][LONGEST];
+    static mealbis_answer told[2];
+    size_t room = sizeof scratch + 64;
+    unsigned char *memory[8];
+    int32_t *recording, *first, *second;
+    int64_t *work;
+    mealbis_answer *record;
+    mealbis_month *lent_month;
+    uint8_t *bytes;
+    size_t i, words = (size_t)MEALBIS_SPECTRUM_WORDS(n) * 4;
+    for (i = 0; i < MEALBIS_WORDS(memory); i++)
+        if (!(memory[i] = malloc(room)))
+            exit(2);
+    recording = placed(memory[0], 4 * at, x, (size_t)n * 4);
+    first = placed(memory[1], 4 * ((at + 1) % 4), NULL, 0);
+    second = placed(memory[2], 4 * ((at + 2) % 4), NULL, 0);
+    work = placed(memory[3], 8 * (at % 2), NULL, 0);
+    record = placed(memory[4], 8 * ((at + 1) % 2), NULL, 0);
+    lent_month = placed(memory[5], 8 * (at % 2), NULL, 0);
+    bytes = placed(memory[6], at, NULL, 0);
+    SPECTRUM(x, n, 0, n, UINT64_MAX, cosine[0], n, sine[0], n, scratch, MEALBIS_WORDS(scratch));
+    told[0] = answer;
+    number = mealbis_spectrum(recording, n, 0, n, UINT64_MAX, first, n, second, n, work, MEALBIS_SCRATCH_WORDS(n), record);
+    check(number == 0 && !memcmp(record, told, sizeof *record) && !memcmp(first, cosine[0], words) && !memcmp(second, sine[0], words), "Spectrum, aligned", at);
+    number = mealbis_mark(recording, n, 0, n, UINT64_MAX, 0, 1, first, n, second, n, work, MEALBIS_SCRATCH_WORDS(n), (mealbis_mark_answer *)record);
+    check(number == 0 && !memcmp(record, told, sizeof *record) && !memcmp(first, cosine[0], words) && !memcmp(second, sine[0], words), "mark, aligned", at);
+    number = mealbis_month_begin(lent_month, n);
+    check(number == 0 && mealbis_month_length(lent_month) == n, "a month, aligned", at);
+    number = mealbis_month_add(lent_month, recording, n, 0, n, UINT64_MAX, first, n, second, n, work, MEALBIS_SCRATCH_WORDS(n), record);
+    check(number == 0 && !memcmp(record, told, sizeof *record) && mealbis_month_blocks(lent_month) == 1, "a block, aligned", at);
+    number = mealbis_month_sums(lent_month, n / 2, (mealbis_sums *)record);
+    check(number == 0 && ((mealbis_sums *)record)->cosine == cosine[0][n / 2] && ((mealbis_sums *)record)->sine == sine[0][n / 2], "sums, aligned", at);
+    number = mealbis_page(first, n, second, n, n, bytes, MEALBIS_PAGE_BYTES(n), (mealbis_page_answer *)record);
+    PRINT(cosine[0], n, sine[0], n, n, made, sizeof made), check(!memcmp(bytes, made, (size_t)page_answer.bytes), "a page, aligned", at);
+    COSINE(x, n, 0, n, UINT64_MAX, cosine[1], n, scratch, MEALBIS_WORDS(scratch));
+    told[1] = answer;
+    number = mealbis_cosine(recording, n, 0, n, UINT64_MAX, first, n, work, MEALBIS_SCRATCH_WORDS(n), record);
+    check(number == 0 && !memcmp(record, told + 1, sizeof *record) && !memcmp(first, cosine[1], (size_t)n * 4), "Cosine, aligned", at);
+    number = mealbis_inverse_dct(first, n, n, second, n, (mealbis_inverse_answer *)record);
+    INVERSE(cosine[1], n, n, one, n), check(!memcmp(second, one, (size_t)n * 4), "the inverse DCT, aligned", at);
+    PAIR(x, n, x, n, 0, n, UINT64_MAX, cosine[0], n, sine[0], n, scratch, MEALBIS_WORDS(scratch));
+    number = mealbis_pair(recording, n, recording, n, 0, n, UINT64_MAX, first, n, second, n, work, MEALBIS_SCRATCH_WORDS(n), record);
+    check(number == 0 && !memcmp(first, cosine[0], (size_t)n * 4) && !memcmp(second, sine[0], (size_t)n * 4), "Pair, aligned", at);
+    number = mealbis_counts(n, (mealbis_counts_answer *)record);
+    check(number == 0 && ((mealbis_counts_answer *)record)->pair_products == answer.products, "counts, aligned", at);
+    number = mealbis_write(recording, n, recording, n, n, bytes, MEALBIS_FILE_BYTES(n), (mealbis_write_answer *)record);
+    check(number == 0 && ((mealbis_write_answer *)record)->bytes == MEALBIS_FILE_BYTES(n), "write, aligned", at);
+    number = mealbis_read(bytes, MEALBIS_FILE_BYTES(n), first, n, second, n, (mealbis_read_answer *)record);
+    check(number == 0 && !memcmp(first, x, (size_t)n * 4) && !memcmp(second, x, (size_t)n * 4), "read, aligned", at);
+    for (i = 0; i < MEALBIS_WORDS(memory); i++)
+        free(memory[i]);
+}
+
+static void alignment(void)
+{
+    mealbis_size n;
+    size_t at;
+    for (n = 1; n <= LONGEST; n *= 2)
+        for (at = 0; at < 4; at++)
+            at_place(n, at);
+}
+
 /* NULL with count 0, for each buffer and for all. */
 static void empty_buffers(void)
 {
-    SPECTRUM(NULL, 0, 0, 8, 99, one, 5, two, 5, WORK(8)), refused(2, 0, "Spectrum, no recording");
-    SPECTRUM(NULL, 0, 0, 7, 99, one, 5, two, 5, WORK(8)), refused(1, 0, "Spectrum, no recording, length 7");
-    SPECTRUM(x, 16, 8, 8, 99, NULL, 0, two, 5, WORK(8)), refused(3, 0, "Spectrum, no cosine");
-    SPECTRUM(x, 16, 8, 8, 99, one, 5, NULL, 0, WORK(8)), refused(3, 0, "Spectrum, no sine");
-    SPECTRUM(x, 16, 8, 8, 99, one, 5, two, 5, NULL, 0), refused(4, 0, "Spectrum, no scratch");
-    SPECTRUM(NULL, 0, 0, 1, 0, NULL, 0, NULL, 0, NULL, 0), refused(2, 0, "Spectrum, nothing");
-    MARK(NULL, 0, 0, 8, 99, -1, 0, one, 5, two, 5, WORK(8)), mark_refused(2, 0, "mark, no recording");
-    MARK(NULL, 0, 0, 7, 99, 0, 1, one, 5, two, 5, WORK(8)), mark_refused(1, 0, "mark, no recording, length 7");
-    MARK(x, 16, 8, 8, 99, 0, 1, NULL, 0, two, 5, WORK(8)), mark_refused(3, 0, "mark, no cosine");
-    MARK(x, 16, 8, 8, 99, 0, 1, one, 5, NULL, 0, WORK(8)), mark_refused(3, 0, "mark, no sine");
-    MARK(x, 16, 8, 8, 99, 0, 1, one, 5, two, 5, NULL, 0), mark_refused(4, 0, "mark, no scratch");
-    MARK(NULL, 0, 0, 1, 0, 0, 1, NULL, 0, NULL, 0, NULL, 0), mark_refused(2, 0, "mark, nothing");
-    begun(8, 0, "a month for empty buffers");
-    ADD(NULL, 0, 0, 8, 99, one, 5, two, 5, WORK(8)), month_refused(2, 0, "month, no recording");
-    ADD(NULL, 0, 0, 7, 99, one, 5, two, 5, WORK(8)), month_refused(13, 0, "month, no recording, length 7");
-    ADD(x, 16, 8, 8, 99, NULL, 0, two, 5, WORK(8)), month_refused(3, 0, "month, no cosine");
-    ADD(x, 16, 8, 8, 99, one, 5, NULL, 0, WORK(8)), month_refused(3, 0, "month, no sine");
-    ADD(x, 16, 8, 8, 99, one, 5, two, 5, NULL, 0), month_refused(4, 0, "month, no scratch");
-    ADD(NULL, 0, 0, 8, 0, NULL, 0, NULL, 0, NULL, 0), month_refused(2, 0, "month, nothing");
-    COSINE(NULL, 0, 0, 1, 0, one, 8, WORK(8)), refused(2, 0, "Cosine, no recording");
-    COSINE(x, 16, 8, 1, 0, NULL, 0, WORK(8)), refused(3, 0, "Cosine, no coefficients");
-    COSINE(x, 16, 8, 1, 0, one, 8, NULL, 0), refused(4, 0, "Cosine, no scratch");
-    COSINE(NULL, 0, 0, 1, 0, NULL, 0, NULL, 0), refused(2, 0, "Cosine, nothing");
-    PAIR(NULL, 0, y, 16, 0, 1, 0, one, 8, two, 8, WORK(8)), refused(2, 0, "Pair, no a");
-    PAIR(x, 16, NULL, 0, 0, 1, 0, one, 8, two, 8, WORK(8)), refused(2, 0, "Pair, no b");
-    PAIR(x, 16, y, 16, 0, 1, 0, NULL, 0, two, 8, WORK(8)), refused(3, 0, "Pair, no re");
-    PAIR(x, 16, y, 16, 0, 1, 0, one, 8, NULL, 0, WORK(8)), refused(3, 0, "Pair, no im");
-    PAIR(x, 16, y, 16, 0, 1, 0, one, 8, two, 8, NULL, 0), refused(4, 0, "Pair, no scratch");
-    PAIR(NULL, 0, NULL, 0, 0, 1, 0, NULL, 0, NULL, 0, NULL, 0), refused(2, 0, "Pair, nothing");
-    INVERSE(NULL, 0, 8, one, 8), inverse_refused(2, 0, "inverse DCT, no coefficients");
-    INVERSE(NULL, 0, 7, one, 8), inverse_refused(1, 0, "inverse DCT, no coefficients, length 7");
-    INVERSE(stored, 8, 8, NULL, 0), inverse_refused(3, 0, "inverse DCT, no values");
-    INVERSE(NULL, 0, 1, NULL, 0), inverse_refused(2, 0, "inverse DCT, nothing");
-    READ(NULL, 0, one, 8, two, 8), file_refused(7, 0, "no file");
-    READ(file, sizeof file, NULL, 0, two, 8), file_refused(3, 0, "no recording a");
-    READ(file, sizeof file, one, 8, NULL, 0), file_refused(3, 0, "no recording b");
-    READ(NULL, 0, NULL, 0, NULL, 0), file_refused(7, 0, "no file and no recordings");
-    WRITE(NULL, 0, y, 8, 4, made, 72), write_refused(8, 0, "write, no a");
-    WRITE(x, 8, NULL, 0, 4, made, 72), write_refused(11, 0, "write, no b");
-    WRITE(x, 8, y, 8, 4, NULL, 0), write_refused(3, 0, "write, no file");
-    WRITE(x, 8, y, 8, 7, NULL, 0), write_refused(1, 0, "write, no file, blocks of 7");
-    WRITE(NULL, 0, NULL, 0, 4, NULL, 0), write_refused(8, 0, "write, nothing");
+    static const uint8_t header[8] = {8, 0, 0, 0, 4, 0, 0, 0};
+    memcpy(file, header, sizeof header); /* and all samples 0 */
+    SPECTRUM(NULL, 0, 0, 8, 99, one, 5, two, 5, WORK(8)), refused(2, "Spectrum, no recording");
+    SPECTRUM(NULL, 0, 0, 7, 99, one, 5, two, 5, WORK(8)), refused(1, "Spectrum, no recording, length 7");
+    SPECTRUM(x, 16, 8, 8, 99, NULL, 0, two, 5, WORK(8)), refused(3, "Spectrum, no cosine");
+    SPECTRUM(x, 16, 8, 8, 99, one, 5, NULL, 0, WORK(8)), refused(3, "Spectrum, no sine");
+    SPECTRUM(x, 16, 8, 8, 99, one, 5, two, 5, NULL, 0), refused(4, "Spectrum, no scratch");
+    SPECTRUM(NULL, 0, 0, 1, 0, NULL, 0, NULL, 0, NULL, 0), refused(2, "Spectrum, nothing");
+    MARK(NULL, 0, 0, 8, 99, -1, 0, one, 5, two, 5, WORK(8)), mark_refused(2, "mark, no recording");
+    MARK(NULL, 0, 0, 7, 99, 0, 1, one, 5, two, 5, WORK(8)), mark_refused(1, "mark, no recording, length 7");
+    MARK(x, 16, 8, 8, 99, 0, 1, NULL, 0, two, 5, WORK(8)), mark_refused(3, "mark, no cosine");
+    MARK(x, 16, 8, 8, 99, 0, 1, one, 5, NULL, 0, WORK(8)), mark_refused(3, "mark, no sine");
+    MARK(x, 16, 8, 8, 99, 0, 1, one, 5, two, 5, NULL, 0), mark_refused(4, "mark, no scratch");
+    MARK(NULL, 0, 0, 1, 0, 0, 1, NULL, 0, NULL, 0, NULL, 0), mark_refused(2, "mark, nothing");
+    check(mealbis_month_begin(&month, 8) == 0, "a month for empty buffers", 8);
+    ADD(NULL, 0, 0, 8, 99, one, 5, two, 5, WORK(8)), month_refused(2, "month, no recording");
+    ADD(NULL, 0, 0, 7, 99, one, 5, two, 5, WORK(8)), month_refused(13, "month, no recording, length 7");
+    ADD(x, 16, 8, 8, 99, NULL, 0, two, 5, WORK(8)), month_refused(3, "month, no cosine");
+    ADD(x, 16, 8, 8, 99, one, 5, NULL, 0, WORK(8)), month_refused(3, "month, no sine");
+    ADD(x, 16, 8, 8, 99, one, 5, two, 5, NULL, 0), month_refused(4, "month, no scratch");
+    ADD(NULL, 0, 0, 8, 0, NULL, 0, NULL, 0, NULL, 0), month_refused(2, "month, nothing");
+    COSINE(NULL, 0, 0, 1, 0, one, 8, WORK(8)), refused(2, "Cosine, no recording");
+    COSINE(x, 16, 8, 1, 0, NULL, 0, WORK(8)), refused(3, "Cosine, no coefficients");
+    COSINE(x, 16, 8, 1, 0, one, 8, NULL, 0), refused(4, "Cosine, no scratch");
+    COSINE(NULL, 0, 0, 1, 0, NULL, 0, NULL, 0), refused(2, "Cosine, nothing");
+    PAIR(NULL, 0, y, 16, 0, 1, 0, one, 8, two, 8, WORK(8)), refused(2, "Pair, no a");
+    PAIR(x, 16, NULL, 0, 0, 1, 0, one, 8, two, 8, WORK(8)), refused(2, "Pair, no b");
+    PAIR(x, 16, y, 16, 0, 1, 0, NULL, 0, two, 8, WORK(8)), refused(3, "Pair, no re");
+    PAIR(x, 16, y, 16, 0, 1, 0, one, 8, NULL, 0, WORK(8)), refused(3, "Pair, no im");
+    PAIR(x, 16, y, 16, 0, 1, 0, one, 8, two, 8, NULL, 0), refused(4, "Pair, no scratch");
+    PAIR(NULL, 0, NULL, 0, 0, 1, 0, NULL, 0, NULL, 0, NULL, 0), refused(2, "Pair, nothing");
+    INVERSE(NULL, 0, 8, one, 8), inverse_refused(2, "inverse DCT, no coefficients");
+    INVERSE(NULL, 0, 7, one, 8), inverse_refused(1, "inverse DCT, no coefficients, length 7");
+    INVERSE(stored, 8, 8, NULL, 0), inverse_refused(3, "inverse DCT, no values");
+    INVERSE(NULL, 0, 1, NULL, 0), inverse_refused(2, "inverse DCT, nothing");
+    READ(NULL, 0, one, 8, two, 8), file_refused(7, "no file");
+    READ(file, sizeof file, NULL, 0, two, 8), file_refused(3, "no recording a");
+    READ(file, sizeof file, one, 8, NULL, 0), file_refused(3, "no recording b");
+    READ(NULL, 0, NULL, 0, NULL, 0), file_refused(7, "no file and no recordings");
+    WRITE(NULL, 0, y, 8, 4, made, 72), write_refused(8, "write, no a");
+    WRITE(x, 8, NULL, 0, 4, made, 72), write_refused(11, "write, no b");
+    WRITE(x, 8, y, 8, 4, NULL, 0), write_refused(3, "write, no file");
+    WRITE(x, 8, y, 8, 7, NULL, 0), write_refused(1, "write, no file, blocks of 7");
+    WRITE(NULL, 0, NULL, 0, 4, NULL, 0), write_refused(8, "write, nothing");
     PRINT(NULL, 0, y, 8, 8, made, 200), page_refused(2, "page, no cosine");
     PRINT(x, 8, NULL, 0, 8, made, 200), page_refused(2, "page, no sine");
     PRINT(x, 8, y, 8, 8, NULL, 0), page_refused(3, "page, no page");
@@ -735,19 +451,11 @@ int main(int argc, char **argv)
         y[i] = -x[i];
     }
     check(mealbis_version() == MEALBIS_VERSION, "the versions of header and archive", mealbis_version());
-    calls();
-    counts();
-    meaning();
-    rests();
-    marks();
-    mark_refusals();
-    months();
-    month_refusals();
-    inverses();
-    files();
-    written_files();
-    pages();
+    layouts();
+    fields();
+    numbers();
     reasons();
+    alignment();
     empty_buffers();
     own = stack_used(0); /* what on_stack takes itself */
     for (i = 1; i < MEALBIS_WORDS(names); i++) {
