@@ -115,7 +115,7 @@
  *     8 * length + 64 words of scratch are 0.
  *   - An empty buffer (count 0) is refused, by 2, 3, 4, 7, 8 or 11 where no earlier condition holds,
  *     and nothing is read or written through its pointer. NULL with count 0 is answered in the same
- *     way: so it is in the library as it is built today, and examples/c/self_check.c tries it for
+ *     way: so it is in the library as it is built today, and tests/c/self_check.c tries it for
  *     each buffer. But it is not promised: the proof is about slices of memory and does not know a
  *     null pointer. Pass the address of any object with count 0 to rely on nothing but the proof.
  *   - NULL with another count, or for a record or a month, is the caller's error and is not tested.
@@ -133,11 +133,11 @@
  *     alone or runs on another stack.
  *
  * Stack: a copy of the cosine table, 4,100 bytes, and frames whose number depends on the length
- * alone. Measured at length 1,024, in bytes: mealbis_cosine 7,376, mealbis_mark 7,264,
- * mealbis_month_add 7,248, mealbis_spectrum 7,216, mealbis_pair 7,136, mealbis_inverse_dct 4,168,
- * mealbis_page 168, mealbis_write 128, mealbis_counts 112, mealbis_read 96, the other calls on a month
- * 24 at most; shorter blocks take no more.
- * The proof does not speak of the stack: allow 8 KiB. `self_check --stack` measures it.
+ * alone. Measured at length 1,024, in bytes: mealbis_cosine 7,344, mealbis_mark 7,232,
+ * mealbis_month_add 7,232, mealbis_spectrum 7,168, mealbis_pair 7,088, mealbis_inverse_dct 4,184,
+ * mealbis_page 168, mealbis_write 112, mealbis_counts 56, mealbis_read 56, the other calls on a month
+ * 40 at most; shorter blocks take no more.
+ * The proof does not speak of the stack: allow 8 KiB. tests/run_self_check.py measures it.
  */
 #ifndef MEALBIS_H
 #define MEALBIS_H

@@ -182,7 +182,7 @@ def check_counts(calls):
 
 # --- refusals ------------------------------------------------------------------------
 
-def on_a_block(N, month):
+def on_a_block(month):
     """The calls that take the block of a recording, as functions of recording, start, length and allowance."""
     return {"Spectrum": mealbis.spectrum, "Cosine": mealbis.cosine, "the month": month.add,
             "the mark": lambda recording, start, length, allowance=UNBOUNDED: mealbis.mark(recording, start, length, 0, 1, allowance),
@@ -196,7 +196,7 @@ def check_refusals(calls):
         month = mealbis.Month(N)
         month.add([1] * N, 0)
         held, enough = month.tobytes(), just_enough(N)
-        for name, call in on_a_block(N, month).items():
+        for name, call in on_a_block(month).items():
             for start in (3, 2 ** 32, 2 ** 64 - N, UNBOUNDED):
                 calls.refused("%s from %d on" % (name, start), 2, None, lambda: call(enough.recording, start, N))
             calls.refused(name + " of nothing", 2, None, lambda: call([], 0, N))
@@ -333,6 +333,46 @@ def check_numpy(calls):
     calls.equal("a file", mealbis.read(numpy.frombuffer(mealbis.write([5], [6], 1), dtype="uint8")).b[0], 6)
 
 
+class Watched:
+    """Stands before the library, and keeps what a function was given as a count of words or bytes."""
+
+    def __init__(self, library):
+        self.library, self.counts = library, {}
+
+    def __getattr__(self, name):
+        def called(*arguments):
+            names = [parameter for parameter, _ in mealbis.DECLARATIONS[name][1]]
+            counts = {parameter: given for parameter, given in zip(names, arguments) if parameter.endswith(("_words", "_bytes"))}
+            self.counts[name] = {parameter.rsplit("_", 1)[0]: given for parameter, given in counts.items()}
+            return getattr(self.library, name)(*arguments)
+
+        return called
+
+
+def check_counts_lent(calls):
+    """The counts beside the pointers: what the recordings have, and just what each call needs of everything else."""
+    watched = Watched(calls.library)
+    try:
+        mealbis._loaded = watched
+        for N, kind in itertools.product(LENGTHS, (list, lambda words: array.array("i", words), lambda words: array.array("q", words))):
+            a, b, row = kind([1] * (N + 3)), kind([2] * (N + 3)), kind([3] * (N // 2 + 1))
+            mealbis.spectrum(a, 1, N), mealbis.mark(a, 1, N, 0, 1), mealbis.cosine(a, 1, N), mealbis.pair(a, b, 1, N), mealbis.Month(N).add(a, 1)
+            mealbis.inverse_dct(a, N), mealbis.page(row, row, N), mealbis.read(mealbis.write(a, b, N))
+            rows, whole, work, file = {"cosine": N // 2 + 1, "sine": N // 2 + 1}, N + 3, scratch_words(N), 8 + 8 * (N + 3)
+            of_spectrum = {"recording": whole, **rows, "scratch": work}
+            calls.equal("what is lent, N %d" % N, {name: given for name, given in watched.counts.items() if given}, {
+                "mealbis_spectrum": of_spectrum, "mealbis_mark": of_spectrum, "mealbis_month_add": of_spectrum,
+                "mealbis_cosine": {"recording": whole, "coefficients": N, "scratch": work},
+                "mealbis_pair": {"a": whole, "b": whole, "re": N, "im": N, "scratch": work},
+                "mealbis_inverse_dct": {"coefficients": whole, "values": N}, "mealbis_page": {**rows, "page": page_bytes(N)},
+                "mealbis_write": {"a": whole, "b": whole, "file": file}, "mealbis_read": {"file": file, "a": 4096, "b": 4096}})
+    finally:
+        mealbis._loaded = calls.library
+    for words, size in ((bytearray(24), 8), (array.array("i", [1, 2, 3]), 4), (memoryview(array.array("q", [1, 2])), 8), (bytearray(5), 1)):
+        word = {1: ctypes.c_uint8, 4: ctypes.c_int32, 8: ctypes.c_int64}[size]
+        calls.equal("a count of words of %d bytes" % size, mealbis._Lent(word, words).given[1] * size, memoryview(words).nbytes)
+
+
 def check_months(calls):
     """A month stored and taken up again, and begun again."""
     rng = calls.rng
@@ -397,7 +437,7 @@ def check_finding(calls):
 
 
 CHECKS = (check_known, check_spectra, check_of_pair, check_stored, check_counts, check_refusals, check_other_refusals, check_numbers, check_rows,
-          check_numpy, check_months, check_finding)
+          check_numpy, check_counts_lent, check_months, check_finding)
 
 
 if __name__ == "__main__":

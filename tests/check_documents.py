@@ -15,7 +15,7 @@ in the code of the crate named before it, `crate: `name``, or of any. In the col
 name without a crate is of the crate named last in the column; a cell without an edit says `none meant: ` and why. Files that a document names
 exist; a name behind one, as in MAP, is declared in it in GUARANTEES. What stands between backticks in DECISIONS, CALLS, GUARANTEES and READING
 and begins with a name, as `name`, `name()`, `name x y` or `crate::name`, is a crate, or the name stands in the code, the definitions or the proofs of
-a crate, or in the header, outside of comments, or is an example's.
+a crate, or in a header or a binding, outside of comments, or is an example's.
 
 Links. `[..](file#heading)` leads to a file and to a heading in it.
 
@@ -36,8 +36,9 @@ FILE = re.compile(r"[\w+]+(?:/[\w+.-]+)+")
 NAMED_FILE = re.compile(r"(?<![\w/.])(?!target/)(?:\w+/(?:specs|proofs|src|must-fail)|(?:bench|bindings|crates|docs|examples|include|tests))/[\w+./-]+")
 WORD = r"[\w'′₀-₉-]"  # a letter of a name in specs/ and proofs/
 NAME = re.compile(r"(?<!%s)[^\W\d_]%s*" % (WORD, WORD))
-# what the archive calls, what bench/run puts before names, commands and their words, and what is printed
-OUTSIDE = {"memcpy", "memset", "before_", "rt", "rustc", "head", "axioms", "refused", "N", "flock", "setsid", "setpriv", "pipefail"}
+# what the archive calls; what bench/run puts before names, and what names of tests begin with; commands and their words; what is printed
+OUTSIDE = {"memcpy", "memset", "before_", "expect_", "call_", "run_", "check_", "rt", "rustc", "head", "flock", "setsid", "setpriv", "pipefail",
+           "axioms", "refused", "N"}
 
 
 class Results:
@@ -274,7 +275,10 @@ def check_names(results):
     for kind in ("*.rt", "*.antt"):
         for source in (ROOT / "crates").rglob(kind):
             known.update(NAME.findall(without_comments(source)))
-    known.update(NAME.findall(re.sub(r"(?s)/\*.*?\*/", "", (ROOT / "include/mealbis.h").read_text())))
+    for header in (ROOT / "include").glob("*.h"):
+        known.update(NAME.findall(re.sub(r"(?s)/\*.*?\*/", "", header.read_text())))
+    for binding, comments in (("rust/mealbis.rs", r"//.*"), ("python/mealbis.py", r'(?s)""".*?"""|#[^\n]*')):
+        known.update(NAME.findall(re.sub(comments, "", (ROOT / "bindings" / binding).read_text())))
     for path in (ROOT / name for name in NAMING):
         for number, line in enumerate(path.read_text().splitlines(), 1):
             for quoted in re.findall(r"`([^`]+)`", line):

@@ -1,5 +1,8 @@
 """What the scripts have in common that call the library over its C interface: the shared library, memory that is lent, calls that are compared,
-sets of refusals and lengths that every call is tried with. What the functions take and return is declared in bindings/python/mealbis.py."""
+sets of refusals and lengths that every call is tried with. What the functions take and return is declared in bindings/python/mealbis.py.
+
+    python3 tests/library.py        builds libmealbis.a and target/shared/libmealbis.so, which the scripts then take by --library
+"""
 
 import argparse
 import array
@@ -27,15 +30,23 @@ PAGE = 4096
 MOST_SHOWN = 20                     # failures
 
 
+def build(*words):
+    done = subprocess.run(words, cwd=ROOT, stdin=subprocess.DEVNULL, stdout=subprocess.PIPE, stderr=subprocess.STDOUT, text=True)
+    if done.returncode:
+        sys.exit("%s\n0 passed, 1 failed" % done.stdout)
+
+
+def static_library():
+    """The library as it is built now."""
+    build("rt", "staticlib", "mealbis")
+    return ROOT / "target/staticlib/libmealbis.a"
+
+
 def shared_library():
-    """The library as it is built now, as a shared one."""
+    """The same, as a shared one."""
     BUILT.mkdir(parents=True, exist_ok=True)
-    made, archive = BUILT / "libmealbis.so", "target/staticlib/libmealbis.a"
-    for words in (["rt", "staticlib", "mealbis"],
-                  ["cc", "-shared", "-o", made, "-Wl,--whole-archive", archive, "-Wl,--no-whole-archive"]):
-        done = subprocess.run(words, cwd=ROOT, stdin=subprocess.DEVNULL, stdout=subprocess.PIPE, stderr=subprocess.STDOUT, text=True)
-        if done.returncode:
-            sys.exit("%s\n0 passed, 1 failed" % done.stdout)
+    made = BUILT / "libmealbis.so"
+    build("cc", "-shared", "-o", made, "-Wl,--whole-archive", static_library(), "-Wl,--no-whole-archive")
     return made
 
 
@@ -216,3 +227,7 @@ def run(kind, checks, description):
         print("%5d passed: %s" % (calls.passed - before, check.__doc__))
     print("%d passed, %d failed" % (calls.passed, calls.failed))
     return 1 if calls.failed else 0
+
+
+if __name__ == "__main__":
+    print("%s\n1 passed, 0 failed" % shared_library().relative_to(ROOT))

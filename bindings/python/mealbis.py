@@ -227,10 +227,10 @@ def version():
 # --- what is lent -----------------------------------------------------------------------------------
 
 class _Lent:
-    """Words for a call: `given` are a pointer and a count."""
+    """Memory for a call, of words of this type: `given` are a pointer and the count of words that it has."""
 
     def __init__(self, word, words):
-        self.words, count = words, len(words)
+        self.words, count = words, memoryview(words).nbytes // ctypes.sizeof(word)
         self.first = word.from_buffer(words) if count else word()
         self.given = ctypes.byref(self.first), count
 

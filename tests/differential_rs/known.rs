@@ -1,6 +1,6 @@
 // Document 01's own numbers. This program's transforms are held to them before anything else, and the library by the same calls.
 use crate::calls::{Call, Counts, Kind, Rules, LARGEST, LENGTHS};
-use crate::mealbis::scratch_words;
+use crate::mealbis::{self, scratch_words};
 use crate::random::Random;
 use crate::run::Run;
 use crate::transforms::{round, Tally};
@@ -26,6 +26,7 @@ pub fn item(run: &mut Run, index: u64, random: &mut Random) {
 }
 
 pub fn self_check(rules: &Rules) {
+    assert_eq!(mealbis::version(), mealbis::VERSION, "the archive and bindings/rust belong together");
     check_circle(rules);
     check_rounding();
     check_counts(rules);

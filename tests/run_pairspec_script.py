@@ -1,7 +1,7 @@
 #!/usr/bin/env python3
 """Runs the script ./pairspec: when it builds and what it says then, two runs at once, signals, its arguments, reasons, and its exit status.
 
-    python3 tests/pairspec_script.py [SCRIPT]        another script than ./pairspec
+    python3 tests/run_pairspec_script.py
 
 Most runs are of a copy in a folder of its own, with a stand-in for `rt` that builds a stand-in for the program; the last are of the script itself,
 which builds the program where that is not done. The last line is 'N passed, M failed'.
