@@ -198,10 +198,15 @@ def check_functions(results, crates, where, cell):
 def check_edits(results, crates, where, cell, last):
     """A cell of edits; the crates that it names last."""
     if not cell or cell.startswith("none"):
-        results.add(re.match(r"none meant: \S", cell), "%s: no must-fail edit, and not said why (none meant: ..)" % where)
+        results.add(re.match(r"none meant: \S", cell), "%s: no edit and no law of exclusion, and not said why (none meant: ..)" % where)
         return last
-    edits = 0
+    edits, files = 0, []
     for kind, word in tokens(cell):
+        if is_place(kind, word, files):
+            files = check_place(results, crates, where, kind, word, files)
+        elif kind == "name":
+            edits += 1
+            results.add(any(crates.declares(path, word) for path in files), "%s: no law of exclusion `%s`" % (where, word))
         named = [crate for crate in re.split(", ", word) if crate in crates.names] if kind == "place" else []
         if named:
             last = named
@@ -210,7 +215,7 @@ def check_edits(results, crates, where, cell, last):
             for crate in last or ["?"]:
                 path = "crates/%s/must-fail/%s.edit" % (crate, word)
                 results.add((ROOT / path).is_file(), "%s: no file %s" % (where, path))
-    results.add(edits, "%s: names no must-fail edit" % where)
+    results.add(edits, "%s: names neither an edit nor a law of exclusion" % where)
     return last
 
 
@@ -253,7 +258,7 @@ def check_map(results):
             for column in ("definition", "law"):
                 last[column] = check_statements(results, crates, where, row.get(column, ""), last.get(column, []))
             check_functions(results, crates, where, row.get("function", ""))
-            last["edit"] = check_edits(results, crates, where, row.get("must-fail edit", "none meant: no such column"), last.get("edit"))
+            last["edit"] = check_edits(results, crates, where, row.get("edit or exclusion", "none meant: no such column"), last.get("edit"))
     for path in sorted((ROOT / "docs").glob("[0-9][0-9]-*.md")):
         check_sentences(results, path, quotations.get(path.name[:2], []))
 

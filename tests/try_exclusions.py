@@ -40,7 +40,7 @@ RIGHT = {
         "firstTwice": "pos 1", "halfLeftOut": "pos 1", "roundedTwice": "pos 0", "beyondCleared": "pos 9", "limitAMillion": "0",
         "placeFromOne": "0", "placeLost": "1", "threeFirst": "2", "toldAsSix": "10"}),
     "pairfile": ("Excluded", {
-        "bFirst": "pos 3", "sizesExchanged": "1", "bUnchecked": "6", "aWritten": "pos 9", "oneBeforeNine": "9", "mostRefused": "false",
+        "bFirst": "pos 3", "sizesExchanged": "1", "bUnchecked": "6", "aWritten": "pos 9", "oneBeforeNine": "9", "mostRefused": "4097",
         "lengthFirst": "1", "bFirst 2": "3", "byteBehind": "9", "elevenFirst": "8", "oneFirst": "11", "threeFirst": "6",
         "bUnchecked 2": "6", "placeLost": "1", "aByteShort": "3"}),
     "pages": ("Excluded", {
@@ -63,6 +63,8 @@ def with_right(line, right):
     """The statement with the right value: the last word of a law, or what stands before → ⊥."""
     if right.startswith("At"):
         return re.sub(r"\((At \d \d|None 2)\)", "(%s)" % right, line)
+    if "badCount" in line:
+        return line.replace("4096", right)
     if line.rstrip().endswith("→ ⊥"):
         if "OnePass" in line:
             return line.replace("pos 1000000", right)

@@ -56,8 +56,8 @@ pub record InputRead (a b : List ℤ) (N : ℕ) (c d c′ d′ : List ℤ) (answ
   pub wordsOfA : Written 0 (length a) (word a) c c′
   pub wordsOfB : Written 0 (length b) (word b) d d′
 
--- both calls joined: (1) the writer was called, and (2) accepted and left buffer′; (3) the reader was called with the file's bytes of it and
--- (4) recordings c and d of m words or more: it has read the input
+-- both calls joined: (1) the writer was called, and (2) accepted and left buffer′; (3) the reader was called with the file's bytes of it
+-- and (4) recordings c and d of m words or more: it has read the input
 abbrev pub WrittenAndRead : Type 0
 WrittenAndRead =
     (a b : List ℤ) (N : ℕ) (buffer buffer′ : List ℕ) (wrote : Filled)

@@ -1,5 +1,5 @@
-// Writes the stored quarter wave, an entry to a line. The file stdout beside src/ was made by tests/expect_quarter_wave.py, which shares nothing
-// with the product.
+// Writes the stored quarter wave, an entry to a line. The file stdout beside src/ was made by tests/expect_quarter_wave.py, which
+// shares nothing with the product.
 use libc::STDOUT_FILENO;
 
 fn write_entry(value: i64) {

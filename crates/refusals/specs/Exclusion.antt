@@ -1,5 +1,5 @@
--- Laws of exclusion: with a wrong outcome at one named input, a call's promise is absurd. Each crate of calls has its own in specs/Excluded;
--- here are those of the pass over numbers.
+-- Laws of exclusion: with a wrong outcome at one named input, a call's promise is absurd. Each crate of calls has its own in
+-- specs/Excluded; here are those of the pass over numbers.
 use mathlib.Core.List.{List, [], _∷_}
 use mathlib.Core.Path.{_≡_}
 use Prim.Native.Nat.{ℕ}

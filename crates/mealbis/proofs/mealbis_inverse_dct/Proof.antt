@@ -16,7 +16,7 @@ mealbis-inverse-dct-spec =
     (λ c. search needs)  -- enum-told
     (λ c. search needs)  -- same-length
     (λ c. let w = c .before .before .before .before in
-    told
-    (w .before .before .before .inverse-dct .ensures) (w .refusal .given .1) (c .number-of .ensures) (rw (c .before .before .place-of .ensures)))  -- returns
+    told (w .before .before .before .inverse-dct .ensures) (w .refusal .given .1)
+    (c .number-of .ensures) (rw (c .before .before .place-of .ensures)))  -- returns
     (λ c. search needs)  -- same-length-2
     (λ c. let w = c .before in told (w .before .before .before .inverse-dct .ensures) (w .enum-told .given .1) refl refl))  -- returns-2

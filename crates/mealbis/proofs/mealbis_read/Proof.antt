@@ -17,8 +17,8 @@ mealbis-read-spec =
     (λ c. search needs)  -- same-length
     (λ c. search needs)  -- same-length-2
     (λ c. let w = c .before .before .before .before in
-    told
-    (w .before .before .before .before .read .ensures) (w .refusal .given .1) (c .number-of .ensures) (rw (c .before .before .place-of .ensures)))  -- returns
+    told (w .before .before .before .before .read .ensures) (w .refusal .given .1)
+    (c .number-of .ensures) (rw (c .before .before .place-of .ensures)))  -- returns
     (λ c. search needs)  -- same-length-3
     (λ c. search needs)  -- same-length-4
     (λ c. let w = c .before .before in

@@ -16,8 +16,8 @@ mealbis-write-spec =
     (λ c. search needs)  -- enum-known-bytes
     (λ c. search needs)  -- same-length
     (λ c. let w = c .before .before .before .before in
-    told
-    (w .before .before .before .before .write .ensures) (w .refusal .given .1) (c .number-of .ensures) (rw (c .before .before .place-of .ensures)))  -- returns
+    told (w .before .before .before .before .write .ensures) (w .refusal .given .1)
+    (c .number-of .ensures) (rw (c .before .before .place-of .ensures)))  -- returns
     (λ c. search needs)  -- same-length-2
     (λ c. let w = c .before .before in
     told (w .before .before .before .before .write .ensures) (w .bytes .given .1) refl refl))  -- returns-2
