@@ -15,7 +15,8 @@ use Rattle.refusals.specs.Answers.{outcome}
 use Rattle.inverse.specs.Promises.{InversePromise}
 
 -- (1) Cosine was called on the block at `start`, and (2) accepted it and left coefficients′; (3) the inverse DCT was called with these, N
--- and (4) a buffer of at least N words, and left values′: it is accepted, and each of its N words is within N of the sample that it came from
+-- and (4) a buffer of at least N words, and left values′: it is accepted, and each of its N words is within N of the sample that it
+-- came from
 abbrev pub CosineAndBack : Type 0
 CosineAndBack =
     (recording : List ℤ) (start N allowance : ℕ) (coefficients scratch coefficients′ scratch′ : List ℤ) (cosine : Answer)
