@@ -4,8 +4,8 @@
     python3 tests/run_install.py
 
 examples/c/logger.c is linked by what pkg-config says, with the shared library and with the archive, and must print examples/logger.txt; the struct
-header is tried by tests/c/struct_header.c; the Python module, where the tree has one, is imported. Where pkg-config is missing it says so and counts
-nothing for it. The last line is 'N passed, M failed'.
+header is tried by tests/c/struct_header.c; the Python module, where the tree has one, makes README.md's call and must print what README.md shows. Where
+pkg-config is missing it says so and counts nothing for it. The last line is 'N passed, M failed'.
 """
 import os
 import re
@@ -99,6 +99,23 @@ def check_pkg_config(results, folder, prefix, version):
         (folder / library).rename(prefix / "lib" / library)
 
 
+MODULE = """
+import mealbis
+print(mealbis.__file__)
+answer = mealbis.spectrum([1, 2, 3, 4], 0, 4)
+for k, (cosine, sine) in enumerate(zip(answer.cosine, answer.sine)):
+    print(k, cosine, sine)
+"""
+
+
+def check_module(results, folder, prefix):
+    """The module finds the library in the folder above its own."""
+    module = prefix / "lib/python3/mealbis.py"
+    shown = re.search(r"It prints k, cosine and sine:\n\n```text\n(.*?)```", (ROOT / "README.md").read_text(), re.S)[1]
+    results.add("the Python module", run("python3", "-c", MODULE, cwd=folder, PYTHONPATH=str(module.parent), MEALBIS_LIBRARY=""),
+                (0, "%s\n%s" % (module, shown)))
+
+
 def main():
     results = Results()
     number = int(re.search(r"^#define MEALBIS_VERSION (\d+)u$", (ROOT / "include/mealbis.h").read_text(), re.M)[1])
@@ -118,7 +135,7 @@ def main():
             else:
                 print("not run: there is no pkg-config, so nothing is linked by it")
             if (prefix / "lib/python3/mealbis.py").exists():
-                results.add("the Python module", run("python3", "-c", "import mealbis", cwd=folder, PYTHONPATH=str(prefix / "lib/python3")), (0, ""))
+                check_module(results, folder, prefix)
     print("%d passed, %d failed" % (results.passed, results.failed))
     return 1 if results.failed else 0
 
