@@ -9,10 +9,11 @@ use native.Mathlib.Nat.{pow-succ'}
 use native.Mathlib.Omega.{arith}
 use lib.Count.{onesIn, ones, ones-step, trailingZeros}
 use lib.Dec.{T, eqb, leb, ltb, eqb→eq, leb→le}
+use lib.ListN.{length}
 use lib.Pow.{pow-pos, pow-mono}
 use borrow.Author.Tests.{eqb-true, le-ltb}
 use Rattle.whole.proofs.Cases.{both, both-left, both-right, below, below-at, le-or-lt}
-use Rattle.lengths.specs.Block.{lengths, topLevel, oneOf, isLength, level}
+use Rattle.lengths.specs.Block.{lengths, topLevel, oneOf, isLength, placeIn, level}
 use Rattle.lengths.proofs.Lengths.{len, pow-len, len-pos, per, len-per, quotient}
 
 -- ---- a test of every number of a list, and what it says of one of them
@@ -47,6 +48,20 @@ is-power N h = eqb→eq _ _ (both-left _ _ (levelled-at N h))
 pub level-le : (N : ℕ) → isLength N ≡ true → level N ≤ topLevel
 unfolding levelled
 level-le N h = leb→le _ _ (both-left _ _ (both-right _ _ (levelled-at N h)))
+
+-- and only a length has such a level
+placed : (N : ℕ) (ms : List ℕ) → placeIn N ms < length ms → oneOf N ms ≡ true
+placed N [] h = absurd (omega arith)
+placed N (m ∷ ms) h = by (eqb N m) h (placed N ms)
+  where
+    by : (b : Bool) → cond b 0 (suc (placeIn N ms)) < suc (length ms) → (placeIn N ms < length ms → oneOf N ms ≡ true)
+        → (b || oneOf N ms) ≡ true
+    by true l further = refl
+    by false l further = further (omega arith)
+
+pub has-level : (N : ℕ) → level N ≤ topLevel → isLength N ≡ true
+unfolding isLength level
+has-level N h = placed N lengths (omega arith)
 
 pub trailing : (N : ℕ) → isLength N ≡ true → trailingZeros 64 N ≡ level N
 unfolding levelled

@@ -13,9 +13,8 @@ use Rattle.spectra.specs.declared.CountsAnswer.{CountsAnswer}
 use Rattle.spectra.specs.declared.marks.MarkAnswer.{MarkAnswer}
 use Rattle.spectra.specs.Answers.{verdictOf, spent, verdictOfCounts, countsOf, verdictOfMark, spentMarking, markNumber}
 use Rattle.spectra.specs.Promises.{Buffers, PairBuffers, SpectrumPromise, CosinePromise, PairPromise, MarkPromise, CountsPromise}
-use Rattle.months.specs.declared.record.SumsAnswer.{SumsAnswer}
-use Rattle.months.specs.Answers.{verdictOfSums, sumsOf}
-use Rattle.months.specs.Promises.{BeginPromise, AddPromise, SumsPromise}
+use Rattle.months.specs.Answers.{verdictOfNumber, blocksOf, verdictOfSums, sumsOf}
+use Rattle.months.specs.Promises.{Given, BeginPromise, AddPromise, NumberPromise, SumsPromise}
 use Rattle.inverse.specs.Promises.{InversePromise}
 use Rattle.pairfile.specs.declared.reader.ReadAnswer.{ReadAnswer}
 use Rattle.pairfile.specs.Answers as file
@@ -55,17 +54,19 @@ abbrev pub MarkTold : List ℤ → (start N allowance : ℕ) → (flatLimit clip
 MarkTold recording start N allowance flatLimit clipLevel lent lent′ =
     Told (MarkPromise recording start N allowance flatLimit clipLevel lent lent′) verdictOfMark markedAndPlace
 
--- ---- a month, in words that C lends. Beginning tells its number alone, adding what Spectrum tells, reading the two sums for k, which are
--- 0 in a refusal
+-- ---- a month, in words that C lends. Beginning tells its number alone, adding what Spectrum tells, reading a party's block number, or its
+-- two sums for k, which are 0 in a refusal
 abbrev pub BeginTold : ℕ → (month′ : List ℤ) → ℕ → Type 0
 BeginTold N month′ = Told {A = ℕ} (BeginPromise N month′) outcome (λ answer. []) []
 
-abbrev pub AddTold : (month recording : List ℤ) → (start N allowance : ℕ) → Buffers → (month′ : List ℤ) → Buffers → List ℕ → ℕ → Type 0
-AddTold month recording start N allowance lent month′ lent′ =
-    Told (AddPromise month recording start N allowance lent month′ lent′) verdictOf spentAndPlace
+abbrev pub AddTold : ℕ → Given → (month month′ : List ℤ) → Buffers → List ℕ → ℕ → Type 0
+AddTold p g month month′ lent′ = Told (AddPromise p g month month′ lent′) verdictOf spentAndPlace
 
-abbrev pub SumsTold : (month : List ℤ) → (k : ℕ) → List ℤ → ℕ → Type 0
-SumsTold month k = Told (SumsPromise month k) verdictOfSums (λ a. sumsOf a .cosine ∷ sumsOf a .sine ∷ [])
+abbrev pub NumberTold : ℕ → (month : List ℤ) → List ℤ → ℕ → Type 0
+NumberTold p month = Told (NumberPromise p month) verdictOfNumber (λ a. blocksOf a ∷ [])
+
+abbrev pub SumsTold : ℕ → (month : List ℤ) → (k : ℕ) → List ℤ → ℕ → Type 0
+SumsTold p month k = Told (SumsPromise p month k) verdictOfSums (λ a. sumsOf a .cosine ∷ sumsOf a .sine ∷ [])
 
 -- ---- the count query tells the six counts, products and sums of the DCT, of Spectrum and of Pair; they are 0 in refusal 1
 abbrev pub sixCounts : CountsAnswer → List ℕ

@@ -5,6 +5,7 @@
 pub mod version;
 
 use months::record;
+use months::record::NumberAnswer;
 use months::record::Record;
 use months::record::SumsAnswer;
 use pairfile::reader;
@@ -23,9 +24,10 @@ ghost use mathlib.Core.Path.{_≡_};
 ghost use Rattle.refusals.specs.Refusals.{number};
 ghost use Rattle.spectra.specs.Answers.{verdictOf, numberOfMark};
 ghost use Rattle.spectra.specs.Promises.{buffers, pairBuffers};
-ghost use Rattle.months.specs.Months.{lengthOf, blockNumber};
+ghost use Rattle.months.specs.Months.{lengthOf};
+ghost use Rattle.months.specs.Promises.{given};
 ghost use Rattle.mealbis.specs.Promises.{spentAndPlace, SpectrumTold, CosineTold, PairTold, MarkTold, CountsTold};
-ghost use Rattle.mealbis.specs.Promises.{BeginTold, AddTold, SumsTold, InverseTold, PageTold, ReadTold, WriteTold};
+ghost use Rattle.mealbis.specs.Promises.{BeginTold, AddTold, NumberTold, SumsTold, InverseTold, PageTold, ReadTold, WriteTold};
 
 // What C is told of a call on recordings: products, sums, the largest rest and the place.
 fn tell(answer: Answer, told: &mut [u64; 4]) -> u32
@@ -161,7 +163,7 @@ pub extern "C" fn mealbis_mark(
 
 // ---- months, in lent words
 
-// A month for one length.
+// A month for one length, of no blocks of either party.
 #[no_mangle]
 pub extern "C" fn mealbis_month_begin(month: &mut Record, length: usize) -> u32
     ensures { λ r. ⌜ BeginTold length (now (month .exit)) r ⌝ }
@@ -172,10 +174,11 @@ pub extern "C" fn mealbis_month_begin(month: &mut Record, length: usize) -> u32
     }
 }
 
-// Spectrum, and its coefficients added to a month; it tells what Spectrum tells.
+// Spectrum, and its coefficients added to a month for the party; it tells what Spectrum tells.
 #[no_mangle]
 pub extern "C" fn mealbis_month_add(
     month: &mut Record,
+    party: usize,
     recording: &[i32],
     start: usize,
     length: usize,
@@ -185,12 +188,13 @@ pub extern "C" fn mealbis_month_add(
     scratch: &mut [i64],
     told: &mut [u64; 4],
 ) -> u32
-    ensures { λ r. ⌜ AddTold (now (month .entry)) (now (recording .entry)) start length allowance
-        (buffers (now (cosine .entry)) (now (sine .entry)) (now (scratch .entry)))
-        (now (month .exit)) (buffers (now (cosine .exit)) (now (sine .exit)) (now (scratch .exit))) (now (told .exit)) r ⌝ }
+    ensures { λ r. ⌜ AddTold party (given (now (recording .entry)) start length allowance
+        (buffers (now (cosine .entry)) (now (sine .entry)) (now (scratch .entry))))
+        (now (month .entry)) (now (month .exit)) (buffers (now (cosine .exit)) (now (sine .exit)) (now (scratch .exit))) (now (told .exit)) r ⌝ }
 {
     let answer = record::add_to(
         month,
+        party,
         recording,
         start,
         length,
@@ -210,20 +214,34 @@ pub extern "C" fn mealbis_month_length(month: &Record) -> usize
     record::length_of(month)
 }
 
-// The number of blocks that were added to a month.
+// The number of blocks that the party has added to a month.
 #[no_mangle]
-pub extern "C" fn mealbis_month_blocks(month: &Record) -> i64
-    ensures { λ r. ⌜ r ≡ blockNumber (now (month .entry)) ⌝ }
+pub extern "C" fn mealbis_month_blocks(month: &Record, party: usize, told: &mut [i64; 1]) -> u32
+    ensures { λ r. ⌜ NumberTold party (now (month .entry)) (now (told .exit)) r ⌝ }
 {
-    record::block_number(month)
+    match record::block_number(month, party) {
+        NumberAnswer::Refused(refusal) => {
+            *told = [0];
+            number_of(refusal)
+        }
+        NumberAnswer::Blocks(blocks) => {
+            *told = [blocks];
+            0
+        }
+    }
 }
 
-// Both sums of a month for k, of the cosine and of the sine.
+// Both sums of the party for k, of the cosine and of the sine.
 #[no_mangle]
-pub extern "C" fn mealbis_month_sums(month: &Record, k: usize, told: &mut [i64; 2]) -> u32
-    ensures { λ r. ⌜ SumsTold (now (month .entry)) k (now (told .exit)) r ⌝ }
+pub extern "C" fn mealbis_month_sums(
+    month: &Record,
+    party: usize,
+    k: usize,
+    told: &mut [i64; 2],
+) -> u32
+    ensures { λ r. ⌜ SumsTold party (now (month .entry)) k (now (told .exit)) r ⌝ }
 {
-    match record::sums_at(month, k) {
+    match record::sums_at(month, party, k) {
         SumsAnswer::Refused(refusal) => {
             *told = [0, 0];
             number_of(refusal)

@@ -1,98 +1,63 @@
--- A run of adding: the promise at each of its ends.
+-- A run of adding to a month: the promise at each of its ends.
 -- Assumes nothing.
-use mathlib.Core.Path.{_≡_, refl, sym, ap, subst, _∙_}
-use mathlib.Core.Bool.{true, false}
+use mathlib.Core.Path.{_≡_, refl, sym, ap, _∙_}
+use mathlib.Core.Bool.{true, false, cond}
 use mathlib.Core.List.{List}
-use Prim.Native.Nat.{ℕ, _+_, _/_, _≤_}
-use native.Mathlib.Omega.{arith}
+use mathlib.Core.Logic.{⊎-elim}
+use Prim.Native.Nat.{ℕ}
 use lib.Dec.{eqb}
 use lib.IntN.{ℤ}
 use lib.ListN.{length}
 use borrow.Author.Tests.{eqb-true, eqb-false, not-false}
-use Rattle.words.specs.Words.{Samples, word}
-use Rattle.words.proofs.Writing.{front}
+use Rattle.whole.proofs.Cases.{same-or-not}
 use Rattle.lengths.specs.Block.{isLength}
-use Rattle.lengths.proofs.ElevenLengths.{length-le}
-use Rattle.counts.specs.declared.tally.Tally.{Tally}
-use Rattle.refusals.specs.Calls.{Call, tests, verdict}
-use Rattle.refusals.specs.declared.refusal.Refusal.{Refusal}
-use Rattle.refusals.specs.declared.refusal.Refusal.the-variants.{OtherLength, MonthFull}
+use Rattle.refusals.specs.Calls.{tests, verdict}
+use Rattle.refusals.specs.declared.refusal.Refusal.the-variants.{UnknownParty, OtherLength}
+use Rattle.refusals.specs.Refusals.{refused}
 use Rattle.refusals.proofs.Conditions.{none-of}
-use Rattle.refusals.proofs.Promises.{refuses, turned-down, carried-out}
-use Rattle.refusals.proofs.Calls.{passes}
+use Rattle.refusals.proofs.Promises.{turned-down}
 use Rattle.spectra.specs.declared.Answer.{Answer}
-use Rattle.spectra.specs.declared.Answer.the-variants.{Refused, Done}
-use Rattle.spectra.specs.Promises.{Buffers, spectrumCall, SpectrumPromise}
-use Rattle.months.specs.Months.{lengthOf, otherLength, full, addVerdict, plus, BlockAdded}
-use Rattle.months.specs.Promises.{AddPromise}
+use Rattle.spectra.specs.declared.Answer.the-variants.{Refused}
+use Rattle.spectra.specs.Promises.{Buffers}
+use Rattle.months.specs.Accounts.{full}
+use Rattle.months.specs.Months.{monthWords, lengthOf, unknownParty, account, otherLength, addVerdict, OthersStay}
+use Rattle.months.specs.Promises.{Given, callOf, ForParty, AddPromise}
 use Rattle.months.proofs.Lengths.{length-some}
-use Rattle.months.proofs.Months.{one-more}
-
--- ---- a block added by its coefficients as they stand in their buffers
-block-same : {N : ℕ} {c s d e : Samples} {month month′ : List ℤ} → ((k : ℕ) → k ≤ N / 2 → c k ≡ d k) → ((k : ℕ) → k ≤ N / 2 → s k ≡ e k)
-    → BlockAdded N c s month month′ → BlockAdded N d e month month′
-block-same cosines sines added = record {
-  length = added .length;
-  number = added .number;
-  cosine = λ k h. added .cosine k h ∙ ap (plus _) (cosines k h);
-  sine = λ k h. added .sine k h ∙ ap (plus _) (sines k h);
-  beyond = added .beyond;
-}
+use Rattle.months.proofs.Parties.{whole}
 
 -- ---- the block's length is the month's
-own-length : (month : List ℤ) (N : ℕ) → otherLength month N ≡ false → (lengthOf month ≡ N) × (isLength N ≡ true)
+pub own-length : (month : List ℤ) (N : ℕ) → otherLength month N ≡ false → (lengthOf month ≡ N) × (isLength N ≡ true)
 own-length month N e =
     let (some, same) = none-of (eqb (lengthOf month) 0) _ e in
     let is = eqb-true (lengthOf month) N (not-false _ same) in
     (is, rw is at (length-some month (eqb-false (lengthOf month) 0 some)))
 
+-- ---- where the account stays, the month does
+unchanged : (p : ℕ) {month month′ : List ℤ} → length month ≡ monthWords → OthersStay p month month′
+    → account p month′ ≡ account p month → month′ ≡ month
+unchanged p {month} {month′} long others own =
+    whole month month′ (others .len) (others .mark)
+    (λ q g. ⊎-elim (λ e. rw e own) (λ ne. others .accounts q g ne) (same-or-not q p)) long
+
 -- ---- a run
-module _ (month r : List ℤ) (start N allowance : ℕ) (lent : Buffers) where
-  abbrev call : Call
-  call = spectrumCall r start N allowance lent
+module _ (p : ℕ) (g : Given) (month : List ℤ) where
+  pub unknown-party : unknownParty p ≡ true → AddPromise p g month month (g .lent) (Refused UnknownParty)
+  unknown-party e = turned-down UnknownParty (refl, refl) (rw e refl)
 
-  pub other-length : otherLength month N ≡ true → AddPromise month r start N allowance lent month lent (Refused OtherLength)
-  other-length e = turned-down OtherLength (refl, refl) (rw e refl)
+  module _ (known : unknownParty p ≡ false) where
+    pub other-length : otherLength month (g .N) ≡ true → AddPromise p g month month (g .lent) (Refused OtherLength)
+    other-length e = turned-down OtherLength (refl, refl) (rw (known, e) refl)
 
-  module _ (own : otherLength month N ≡ false) where
-    pub is-full : full month ≡ true → AddPromise month r start N allowance lent month lent (Refused MonthFull)
-    is-full e = turned-down MonthFull (refl, refl) (rw (own, e) refl)
+    module _ (own : otherLength month (g .N) ≡ false) where
+      by-account : addVerdict p month (callOf g) ≡ cond (full (account p month)) (refused 14) (verdict (callOf g))
+      unfolding tests
+      by-account = rw (known, own, own-length month (g .N) own .1) refl
 
-    as-spectrum : full month ≡ false → addVerdict month call ≡ verdict call
-    unfolding tests
-    as-spectrum room = rw (own, room, own-length month N own .1) refl
-
-    module _ (room : full month ≡ false) {lent′ : Buffers} {answer : Answer}
-        (p : SpectrumPromise r start N allowance lent lent′ answer) where
-      with-answer : {a : Answer} → answer ≡ a → SpectrumPromise r start N allowance lent lent′ a
-      with-answer e = subst (λ a. SpectrumPromise r start N allowance lent lent′ a) e p
-
-      pub spectrum-refused : {refusal : Refusal} → answer ≡ Refused refusal
-          → AddPromise month r start N allowance lent month lent′ answer
-      spectrum-refused {refusal} e =
-          let q = with-answer e in
-          rw e (turned-down refusal (refl, q .unchanged (refuses refusal)) (as-spectrum room ∙ sym (q .verdict)))
-
-      module _ {tally : Tally} (e : answer ≡ Done tally) where
-        pub add-ready : (N ≤ 1024) × (N / 2 + 1 ≤ length (lent′ .cosine)) × (N / 2 + 1 ≤ length (lent′ .sine))
-        add-ready =
-            let q = with-answer e in
-            let passed = passes call (sym (q .verdict)) in
-            let done = q .done refl in (
-              length-le N (passed .length-ok),
-              omega (arith, passed .results .0, done .cosineWords .len),
-              omega (arith, passed .results .1 .0, done .sineWords .len),
-            )
-
-        pub block-held : {month′ : List ℤ} → BlockAdded N (word (lent′ .cosine)) (word (lent′ .sine)) month month′
-            → AddPromise month r start N allowance lent month′ lent′ answer
-        block-held {month′} b =
-            let q = with-answer e in
-            let done = q .done refl in
-            let added = block-same (λ k h. front (done .cosineWords) k (omega arith)) (λ k h. front (done .sineWords) k (omega arith)) b in
-            let (is, _) = own-length month N own in
-            rw e (carried-out refl (as-spectrum room ∙ sym (q .verdict)) (record {
-              spectrum = done;
-              words = added;
-              holds = λ history held. one-more held room (rw is (done .block)) (rw is added);
-            }))
+      pub added-for : (month′ : List ℤ) (lent′ : Buffers) (answer : Answer) → length month ≡ monthWords
+          → ForParty p g month month′ lent′ answer → AddPromise p g month month′ lent′ answer
+      added-for month′ lent′ answer long q = record {
+        verdict = q .own .verdict ∙ sym by-account;
+        unchanged = λ e. let (account-stays, buffers-stay) = q .own .unchanged e in
+            (unchanged p long (q .others) account-stays, buffers-stay);
+        done = λ e. record { own = q .own .done e; others = q .others };
+      }

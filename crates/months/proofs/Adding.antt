@@ -13,7 +13,7 @@ use Rattle.whole.proofs.Size.{size-within, within-add, within-fits}
 use Rattle.whole.proofs.Words as Words
 use Rattle.whole.proofs.Operations.{Computes, computes}
 use Rattle.refusals.specs.Refusals.{atMost}
-use Rattle.months.specs.Months.{plus}
+use Rattle.months.specs.Accounts.{plus}
 
 -- ---- a sum that has room, and one that has none
 pub plus-is : (s c : ℤ) → atMost (2 ^ 62) s ≡ true → plus s c ≡ s +ℤ c

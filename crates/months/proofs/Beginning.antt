@@ -1,14 +1,15 @@
--- A month that is begun holds the empty history; so does one whose beginning is refused.
+-- In a month that is begun each party's account holds the empty history; so it does where beginning is refused.
 -- Assumes nothing.
-use mathlib.Core.Path.{_≡_, refl}
-use mathlib.Core.Bool.{Bool, true, false, not, cond}
-use mathlib.Core.List.{[], _∷_}
-use Prim.Native.Nat.{ℕ, zero, suc, _+_, _<_}
+use mathlib.Core.Path.{_≡_, refl, subst, _∙_}
+use mathlib.Core.Bool.{true, false, not, cond}
+use mathlib.Core.List.{List, [], _∷_}
+use Prim.Native.Nat.{ℕ, zero, suc, _+_, _*_, _≤_, _<_}
 use native.Mathlib.Omega.{arith}
-use lib.IntN.{pos}
+use lib.IntN.{pos, _+ℤ_}
 use lib.ListN.{replicate}
 use mir.Syntax.{w64}
-use mir.Val.{toZ}
+use mir.Val.{SFits, toZ, ofZ}
+use mir.Facts.{toZ-ofZ}
 use Rattle.whole.proofs.Difference.{int}
 use Rattle.whole.proofs.Operations.{natural}
 use Rattle.words.specs.Words.{word}
@@ -19,10 +20,12 @@ use Rattle.refusals.specs.declared.refusal.Outcome.{Outcome}
 use Rattle.refusals.specs.declared.refusal.Outcome.the-variants.{Refused, Accepted}
 use Rattle.refusals.specs.Refusals.{refused, accepted}
 use Rattle.refusals.specs.Answers.{outcome}
-use Rattle.months.specs.Months.{lengthOf, newMonth, Holds, sumOver, AllAccepted}
+use Rattle.months.specs.Accounts.{accountWords, Holds, sumOver, AllAccepted}
+use Rattle.months.specs.Months.{marked, lengthOf, unknownParty, account, accountAt, newMonth, otherLength}
 use Rattle.months.specs.Laws.{AlwaysOther}
 use Rattle.months.specs.Promises.{BeginPromise}
-use Rattle.months.proofs.Lengths.{length-begun}
+use Rattle.months.proofs.Lengths.{length-begun, length-small}
+use Rattle.months.proofs.Parties.{account-word}
 
 zeros : (n k : ℕ) → word (replicate n (pos 0)) k ≡ pos 0
 zeros zero k = refl
@@ -31,37 +34,54 @@ zeros (suc n) (suc k) = zeros n k
 
 new-word : (N k : ℕ) → 0 < k → word (newMonth N) k ≡ pos 0
 new-word N zero h = absurd (omega arith)
-new-word N (suc k) h = zeros 1027 k
+new-word N (suc k) h = zeros (2 * accountWords) k
 
-pub empty : (N : ℕ) → Holds (newMonth N) []
+new-account : (N p k : ℕ) → k < accountWords → word (account p (newMonth N)) k ≡ pos 0
+new-account N p k l = account-word p (newMonth N) k l ∙ new-word N (accountAt p + k) (omega arith)
+
+empty : (N p n : ℕ) → n ≤ 1024 → Holds n (account p (newMonth N)) []
 unfolding sumOver AllAccepted
-empty N = record {
+empty N p n small = record {
   blocks = tt;
-  number = refl;
+  number = new-account N p 0 (omega arith);
   atMost = omega arith;
-  cosine = λ k h. new-word N (2 + k) (omega arith);
-  sine = λ k h. new-word N (515 + k) (omega arith);
-  beyond = λ k h l. (new-word N (2 + k) (omega arith), new-word N (515 + k) (omega arith));
+  cosine = λ k h. new-account N p (1 + k) (omega arith);
+  sine = λ k h. new-account N p (514 + k) (omega arith);
+  beyond = λ k h l. (new-account N p (1 + k) (omega arith), new-account N p (514 + k) (omega arith));
 }
 
-promise : (b : Bool) {N : ℕ} {answer : Outcome} → isLength N ≡ b → outcome answer ≡ cond (not b) (refused 1) accepted
-    → BeginPromise N (newMonth (cond b N 0)) answer
-promise b {N} e told = record {
-  verdict = rw e told;
-  words = rw e refl;
-  length = rw e (length-begun b N (newMonth (cond b N 0)) e refl);
-  empty = empty (cond b N 0);
+pub promise : (N : ℕ) {answer : Outcome} → outcome answer ≡ cond (not (isLength N)) (refused 1) accepted → BeginPromise N (newMonth N) answer
+promise N told = record {
+  verdict = told;
+  words = refl;
+  length = length-begun (isLength N) N (newMonth N) refl refl;
+  empty = λ p h. empty N p (lengthOf (newMonth N)) (length-small (newMonth N));
 }
 
-pub not-begun : {N : ℕ} → isLength N ≡ false → BeginPromise N (newMonth 0) (Refused BadLength)
-not-begun e = promise false e refl
+pub not-begun : (N : ℕ) → isLength N ≡ false → BeginPromise N (pos 0 ∷ replicate (2 * accountWords) (pos 0)) (Refused BadLength)
+not-begun N e =
+    subst (λ m. BeginPromise N m (Refused BadLength)) {x = newMonth N} {y = pos 0 ∷ replicate (2 * accountWords) (pos 0)} (rw e refl)
+    (promise N (rw e refl))
 
--- the length as the word that is stored
-pub begun : {N : ℕ} → isLength N ≡ true → BeginPromise N (toZ w64 N ∷ replicate 1027 (pos 0)) Accepted
-unfolding int
-begun {N} e = let is = natural {w = w64} {n = N} (omega (arith, length-le N e)) .is in rw is (promise true e refl)
+-- the mark as the word that is stored
+module _ (N : ℕ) (e : isLength N ≡ true) where
+  read : toZ w64 N ≡ pos N
+  unfolding int
+  read = natural {w = w64} {n = N} (omega (arith, length-le N e)) .is
+
+  pub mark-fits : SFits w64 (pos (marked 0) +ℤ toZ w64 N)
+  mark-fits = rw read (record { sfits = omega (arith, length-le N e) })
+
+  stored : toZ w64 (ofZ w64 (pos (marked 0) +ℤ toZ w64 N)) ≡ pos (marked N)
+  stored = toZ-ofZ mark-fits ∙ rw read refl
+
+  pub begun : BeginPromise N (toZ w64 (ofZ w64 (pos (marked 0) +ℤ toZ w64 N)) ∷ replicate (2 * accountWords) (pos 0)) Accepted
+  begun =
+      rw stored
+      (subst (λ m. BeginPromise N m Accepted) {x = newMonth N} {y = pos (marked N) ∷ replicate (2 * accountWords) (pos 0)} (rw e refl)
+      (promise N (rw e refl)))
 
 -- ---- a month whose beginning was refused
 pub always-other : AlwaysOther
-unfolding lengthOf isLength
-always-other call = refl
+always-other N p call bad known =
+    let none : lengthOf (newMonth N) ≡ 0 = length-begun false N (newMonth N) bad (rw bad refl) in rw (known, none) refl

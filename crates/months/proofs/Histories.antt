@@ -12,7 +12,7 @@ use Rattle.circle.specs.Circle.{B}
 use Rattle.words.specs.Words.{Samples}
 use Rattle.lengths.specs.Block.{AcceptedBlock, level}
 use Rattle.ffct.specs.Exact.{distance, eighth, Within}
-use Rattle.months.specs.Months.{History, sumOver, AllAccepted, eighths}
+use Rattle.months.specs.Accounts.{History, sumOver, AllAccepted, eighths}
 
 -- ---- one block more
 pub sum-more : (f : Samples → ℤ) (history : History) (x : Samples) → sumOver f (history ++ (x ∷ [])) ≡ sumOver f history +ℤ f x

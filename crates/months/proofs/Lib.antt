@@ -1,9 +1,15 @@
 pub mod Lengths
 pub mod Adding
 pub mod Blocks
-pub mod Beginning
 pub mod Histories
-pub mod Months
+pub mod Holding
+pub mod AccountRuns
+pub mod Parties
 pub mod AddRuns
+pub mod Beginning
+pub mod Reading
+pub mod Steps
+pub mod Runs
+pub mod Isolation
 pub mod Held
 pub mod Excluded

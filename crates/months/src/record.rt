@@ -1,79 +1,82 @@
 // The record of a month in words that the caller lends (specs/Months.antt has its places). A program in C keeps its months so.
+use crate::account;
+use crate::account::Sums;
 use lengths::is_length;
 use refusals::refusal::Outcome;
 use refusals::refusal::Refusal;
 use spectra::Answer;
-use spectra::spectrum;
 ghost use mathlib.Core.Bool.{false};
 ghost use mathlib.Core.Path.{_≡_};
-ghost use Prim.Native.Nat.{_+_, _/_, _^_, _≤_};
 ghost use lib.ListN.{length as List·length};
-ghost use Rattle.words.specs.Words.{word, Written};
-ghost use Rattle.refusals.specs.Refusals.{atMost};
-ghost use Rattle.months.specs.Months.{lengthOf, blockNumber, full, otherLength, plus, BlockAdded};
 ghost use Rattle.spectra.specs.Promises.{buffers};
-ghost use Rattle.months.specs.Promises.{BeginPromise, AddPromise, SumsPromise};
+ghost use Rattle.months.specs.Months.{monthWords, lengthIn, lengthOf, unknownParty, accountAt, account, otherLength};
+ghost use Rattle.months.specs.Promises.{given, BeginPromise, ForParty, AddPromise, NumberPromise, SumsPromise};
 
-// The words of a record, and the places in it: of the length, the block number, and the sums for k = 0 of the cosine and of the sine.
-pub type Record = [i64; 1028];
+// The words of a record: a mark with the length, and two accounts.
+pub type Record = [i64; 2055];
 
-const LENGTH: usize = 0;
+const MARK: usize = 0;
 
-const BLOCK_NUMBER: usize = 1;
+// The version of the library from which on months have this layout and rule, and the mark of a month of that edition without its length.
+const EDITION: i64 = 40000;
 
-const COSINE_SUMS: usize = 2;
+const MARKED: i64 = 65536 * EDITION;
 
-const SINE_SUMS: usize = 515;
-
-const MOST_BLOCKS: i64 = 100000;
-
-// The two sums of a month for one k.
-pub struct Sums {
-    pub cosine: i64,
-    pub sine: i64,
+// The answer of reading a party's block number.
+pub enum NumberAnswer {
+    Refused(Refusal),
+    Blocks(i64),
 }
 
-// The answer of reading them.
+// The answer of reading its sums for a k.
 pub enum SumsAnswer {
     Refused(Refusal),
     Yielded(Sums),
 }
 
-// ---- reading
+// ---- the length and the parties
+
+// The length that stands with the mark; 0 where this is no mark.
+fn length_in(mark: i64) -> usize
+    ensures { λ r. ⌜ r ≡ lengthIn mark ⌝ }
+{
+    if mark < MARKED {
+        return 0;
+    }
+    let length = (mark - MARKED) as usize;
+    if is_length(length) { length } else { 0 }
+}
 
 // The length for which the month is begun; 0 where beginning was refused, and of words that are no month's.
 pub fn length_of(month: &Record) -> usize
     ensures { λ r. ⌜ r ≡ lengthOf (now (month .entry)) ⌝ }
 {
-    let first = month[LENGTH];
-    if first < 0 {
-        return 0;
-    }
-    let length = first as usize;
-    if is_length(length) { length } else { 0 }
+    length_in(month[MARK])
 }
 
-// The number of blocks that were added.
-pub fn block_number(month: &Record) -> i64
-    ensures { λ r. ⌜ r ≡ blockNumber (now (month .entry)) ⌝ }
+// Whether the party is neither 1 nor 2.
+fn is_unknown(party: usize) -> bool
+    ensures { λ r. ⌜ r ≡ unknownParty party ⌝ }
 {
-    month[BLOCK_NUMBER]
+    party != 1 && party != 2
 }
 
-// Both sums for k, where Spectrum yields that k.
-pub fn sums_at(month: &Record, k: usize) -> SumsAnswer
-    ensures { λ r. ⌜ SumsPromise (now (month .entry)) k r ⌝ }
+// The place of a party's account.
+fn account_at(party: usize) -> usize
+    requires { ⌜ unknownParty party ≡ false ⌝ }
+    ensures { λ r. ⌜ r ≡ accountAt party ⌝ }
 {
-    let length = length_of(month);
-    if length == 0 {
-        return SumsAnswer::Refused(Refusal::NotYielded);
-    }
-    if length / 2 < k {
-        return SumsAnswer::Refused(Refusal::NotYielded);
-    }
-    let cosine = month[COSINE_SUMS + k];
-    let sine = month[SINE_SUMS + k];
-    SumsAnswer::Yielded(Sums { cosine, sine })
+    1 + account::WORDS * (party - 1)
+}
+
+// A party's account, to be read.
+fn account_of(month: &[i64], party: usize) -> &[i64]
+    requires { ⌜ (List·length (now month) ≡ monthWords) × (unknownParty party ≡ false) ⌝ }
+    ensures { λ r. ⌜ now r ≡ account party (now (month .entry)) ⌝ }
+{
+    let from = account_at(party);
+    let to = from + account::WORDS;
+    &month[from..to]
 }
 
 // ---- beginning
@@ -82,11 +85,11 @@ pub fn sums_at(month: &Record, k: usize) -> SumsAnswer
 pub fn begin_in(month: &mut Record, length: usize) -> Outcome
     ensures { λ r. ⌜ BeginPromise length (now (month .exit)) r ⌝ }
 {
-    *month = [0; 1028];
+    *month = [0; 2055];
     if !is_length(length) {
         return Outcome::Refused(Refusal::BadLength);
     }
-    month[LENGTH] = length as i64;
+    month[MARK] = MARKED + length as i64;
     Outcome::Accepted
 }
 
@@ -103,55 +106,10 @@ fn is_other_length(month: &Record, length: usize) -> bool
     own != length
 }
 
-// -2^62 and 2^62
-const LOW: i64 = -4611686018427387904;
-
-const HIGH: i64 = 4611686018427387904;
-
-// Whether a sum is at most 2^62 in size.
-fn has_room(sum: i64) -> bool
-    ensures { λ r. ⌜ r ≡ atMost (2 ^ 62) sum ⌝ }
-{
-    LOW <= sum && sum <= HIGH
-}
-
-// A sum with a coefficient more. Every sum of a month has room; one that has none, in words that are no month's, stays.
-fn added(sum: i64, coefficient: i32) -> i64
-    ensures { λ r. ⌜ r ≡ plus sum coefficient ⌝ }
-{
-    if has_room(sum) {
-        sum + coefficient as i64
-    } else {
-        sum
-    }
-}
-
-// The first n coefficients added to the sums from word at on.
-fn add_sums(month: &mut [i64], at: usize, coefficients: &[i32], n: usize)
-    requires { ⌜ (at + n ≤ List·length (now month)) × (n ≤ List·length (now coefficients)) ⌝ }
-    ensures { λ _. ⌜ Written at n
-        (λ k. plus (word (now (month .entry)) (at + k)) (word (now (coefficients .entry)) k)) (now (month .entry)) (now (month .exit)) ⌝ }
-{
-    for k in 0..n {
-        month[at + k] = added(month[at + k], coefficients[k]);
-    }
-}
-
-// A block of which Spectrum has yielded the coefficients.
-fn add_block(month: &mut [i64], length: usize, cosine: &[i32], sine: &[i32])
-    requires { ⌜ (List·length (now month) ≡ 1028) × (length ≤ 1024)
-        × (length / 2 + 1 ≤ List·length (now cosine)) × (length / 2 + 1 ≤ List·length (now sine)) × (full (now month) ≡ false) ⌝ }
-    ensures { λ _. ⌜ BlockAdded length (word (now (cosine .entry))) (word (now (sine .entry))) (now (month .entry)) (now (month .exit)) ⌝ }
-{
-    let yields = length / 2 + 1;
-    add_sums(month, COSINE_SUMS, cosine, yields);
-    add_sums(month, SINE_SUMS, sine, yields);
-    month[BLOCK_NUMBER] = month[BLOCK_NUMBER] + 1;
-}
-
-// Spectrum, and its coefficients added to the month.
-pub fn add_to(
-    month: &mut Record,
+// A block added to the account of a party, which alone is lent.
+fn add_for(
+    month: &mut [i64],
+    party: usize,
     recording: &[i32],
     start: usize,
     length: usize,
@@ -160,22 +118,85 @@ pub fn add_to(
     sine: &mut [i32],
     scratch: &mut [i64],
 ) -> Answer
-    ensures { λ r. ⌜ AddPromise (now (month .entry)) (now (recording .entry)) start length allowance
-        (buffers (now (cosine .entry)) (now (sine .entry)) (now (scratch .entry)))
-        (now (month .exit)) (buffers (now (cosine .exit)) (now (sine .exit)) (now (scratch .exit))) r ⌝ }
+    requires { ⌜ (List·length (now month) ≡ monthWords) × (unknownParty party ≡ false) ⌝ }
+    ensures { λ r. ⌜ ForParty party (given (now (recording .entry)) start length allowance
+        (buffers (now (cosine .entry)) (now (sine .entry)) (now (scratch .entry))))
+        (now (month .entry)) (now (month .exit)) (buffers (now (cosine .exit)) (now (sine .exit)) (now (scratch .exit))) r ⌝ }
 {
+    let from = account_at(party);
+    let to = from + account::WORDS;
+    account::add_to(
+        &mut month[from..to],
+        recording,
+        start,
+        length,
+        allowance,
+        cosine,
+        sine,
+        scratch,
+    )
+}
+
+// Spectrum, and its coefficients added to the account of the party.
+pub fn add_to(
+    month: &mut Record,
+    party: usize,
+    recording: &[i32],
+    start: usize,
+    length: usize,
+    allowance: u64,
+    cosine: &mut [i32],
+    sine: &mut [i32],
+    scratch: &mut [i64],
+) -> Answer
+    ensures { λ r. ⌜ AddPromise party (given (now (recording .entry)) start length allowance
+        (buffers (now (cosine .entry)) (now (sine .entry)) (now (scratch .entry))))
+        (now (month .entry)) (now (month .exit)) (buffers (now (cosine .exit)) (now (sine .exit)) (now (scratch .exit))) r ⌝ }
+{
+    if is_unknown(party) {
+        return Answer::Refused(Refusal::UnknownParty);
+    }
     if is_other_length(month, length) {
         return Answer::Refused(Refusal::OtherLength);
     }
-    if MOST_BLOCKS <= month[BLOCK_NUMBER] {
-        return Answer::Refused(Refusal::MonthFull);
+    add_for(
+        month,
+        party,
+        recording,
+        start,
+        length,
+        allowance,
+        cosine,
+        sine,
+        scratch,
+    )
+}
+
+// ---- reading
+
+// The number of blocks that the party has added.
+pub fn block_number(month: &Record, party: usize) -> NumberAnswer
+    ensures { λ r. ⌜ NumberPromise party (now (month .entry)) r ⌝ }
+{
+    if is_unknown(party) {
+        return NumberAnswer::Refused(Refusal::UnknownParty);
     }
-    let answer = spectrum(recording, start, length, allowance, cosine, sine, scratch);
-    match answer {
-        Answer::Refused(_) => answer,
-        Answer::Done(_) => {
-            add_block(month, length, cosine, sine);
-            answer
-        }
+    NumberAnswer::Blocks(account::block_number(account_of(month, party)))
+}
+
+// Both sums of the party for k, where Spectrum yields that k.
+pub fn sums_at(month: &Record, party: usize, k: usize) -> SumsAnswer
+    ensures { λ r. ⌜ SumsPromise party (now (month .entry)) k r ⌝ }
+{
+    if is_unknown(party) {
+        return SumsAnswer::Refused(Refusal::UnknownParty);
     }
+    let length = length_of(month);
+    if length == 0 {
+        return SumsAnswer::Refused(Refusal::NotYielded);
+    }
+    if length / 2 < k {
+        return SumsAnswer::Refused(Refusal::NotYielded);
+    }
+    SumsAnswer::Yielded(account::sums_at(account_of(month, party), k))
 }

@@ -1,11 +1,13 @@
--- The promise of a call that is turned down, and of one that is carried out; what an accepting verdict says of its first test; and that a
--- verdict accepts, or does not.
+-- The promise of a call that is turned down, and of one that is carried out; what an accepting verdict says of its first test; that a
+-- verdict accepts, or does not; and that a refusal is determined by its verdict.
 -- Assumes nothing.
 use mathlib.Core.Bool.{Bool, true, false, cond}
 use mathlib.Core.Logic.{_⊎_, inl, inr}
-use mathlib.Core.Path.{_≡_, refl, sym, _∙_}
-use Prim.Native.Nat.{ℕ}
+use mathlib.Core.List.{[], _∷_}
+use mathlib.Core.Path.{_≡_, refl, sym, ap, _∙_}
+use Prim.Native.Nat.{ℕ, _-_}
 use native.Mathlib.Omega.{arith}
+use lib.ListN.{getD}
 use Rattle.refusals.specs.declared.refusal.Refusal.{Refusal}
 use Rattle.refusals.specs.declared.refusal.Refusal.the-variants.{BadLength, InputTooShort, ResultTooShort, ScratchTooShort}
 use Rattle.refusals.specs.declared.refusal.Refusal.the-variants.{AllowanceTooSmall, OutOfRange, BelowHeader, BadCount}
@@ -52,3 +54,34 @@ past-test n false e = (refl, e)
 pub accepted-or-not : (v : Verdict) → (v ≡ accepted) ⊎ (v ≡ accepted → ⊥)
 accepted-or-not (refusedAt n i) = inr not-both
 accepted-or-not accepted = inl refl
+
+-- ---- the refusal of a verdict
+refusalOf : Verdict → Refusal
+refusalOf (refusedAt n i) =
+    getD
+    (BadLength ∷ InputTooShort ∷ ResultTooShort ∷ ScratchTooShort ∷ AllowanceTooSmall ∷ OutOfRange i
+    ∷ BelowHeader ∷ BadCount ∷ BadFileLength ∷ BeyondLimit i ∷ RecordingsDiffer ∷ BadFigures
+    ∷ OtherLength ∷ MonthFull ∷ UnknownParty ∷ NotYielded ∷ []) (n - 1) BadLength
+refusalOf accepted = BadLength
+
+by-verdict : (refusal : Refusal) → refusalOf (verdictOf refusal) ≡ refusal
+unfolding refusalOf
+by-verdict BadLength = refl
+by-verdict InputTooShort = refl
+by-verdict ResultTooShort = refl
+by-verdict ScratchTooShort = refl
+by-verdict AllowanceTooSmall = refl
+by-verdict (OutOfRange place) = refl
+by-verdict BelowHeader = refl
+by-verdict BadCount = refl
+by-verdict BadFileLength = refl
+by-verdict (BeyondLimit place) = refl
+by-verdict RecordingsDiffer = refl
+by-verdict BadFigures = refl
+by-verdict OtherLength = refl
+by-verdict MonthFull = refl
+by-verdict UnknownParty = refl
+by-verdict NotYielded = refl
+
+pub same-refusal : (r s : Refusal) → verdictOf r ≡ verdictOf s → r ≡ s
+same-refusal r s e = sym (by-verdict r) ∙ ap refusalOf e ∙ by-verdict s

@@ -1,4 +1,5 @@
 pub mod Accepted
+pub mod Determined
 pub mod MarkRules
 pub mod MarkRuns
 pub mod Excluded

@@ -12,6 +12,7 @@
 --     written-one     a run of one element
 --     written-more    one element more behind the run
 --     written-same    the same elements by another name
+--     written-alike   it determines what is left
 -- And of two stores by place:
 --     two-put         what they put
 --     ends-two        when they put the elements 0 and n / 2, and all others are stored
@@ -23,7 +24,7 @@ use Prim.Native.Nat.{ℕ, suc, _+_, _-_, _*_, _/_, _≤_, _<_}
 use native.Mathlib.Omega.{arith}
 use lib.IntN.{ℤ, pos}
 use lib.ListN.{length, getD, set, length-set}
-use lib.Seq.{getD-set-same, getD-set-other}
+use lib.Seq.{getD-set-same, getD-set-other, ext-getD}
 use borrow.Author.Count.{below-none, below-more}
 use Rattle.whole.proofs.Cases.{le-or-lt, same-or-not}
 use Rattle.words.specs.Words.{word, WrittenOf, Written, TwoPut}
@@ -170,6 +171,20 @@ module _ {A : Type 0} {d : A} {b m : ℕ} {f : ℕ → A} {before after : List A
     where
       other : (k : ℕ) → (k ≡ i → ⊥) → getD (set after i x) k d ≡ getD after k d
       other k ne = getD-set-other after i k x d ne
+
+-- what is written, from the same words twice
+pub written-alike : {A : Type 0} {d : A} {b m : ℕ} {f : ℕ → A} {before after other : List A} → WrittenOf d b m f before after
+    → WrittenOf d b m f before other → after ≡ other
+written-alike {d = d} {b = b} {m = m} {before = before} {after = after} {other = other} w v =
+    ext-getD d after other (w .len ∙ sym (v .len)) (λ k h. ⊎-elim (not-below k) (λ l. w .low k l ∙ sym (v .low k l)) (le-or-lt b k))
+  where
+    at : (k : ℕ) → k < m → getD after (b + k) d ≡ getD other (b + k) d
+    at k l = w .new k l ∙ sym (v .new k l)
+
+    not-below : (k : ℕ) → b ≤ k → getD after k d ≡ getD other k d
+    not-below k l =
+        let place : b + (k - b) ≡ k = omega arith in
+        ⊎-elim (λ o. w .high k o ∙ sym (v .high k o)) (λ o. rw place at (at (k - b) (omega arith))) (le-or-lt (b + m) k)
 
 module _ {A : Type 0} {d : A} {m : ℕ} {f : ℕ → A} {before after : List A} (w : WrittenOf d 0 m f before after) where
   pub front : (k : ℕ) → k < m → getD after k d ≡ f k

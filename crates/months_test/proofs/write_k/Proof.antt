@@ -1,4 +1,4 @@
--- `months_test::write_k` meets its contract: the sums of a month that holds a history are small. Assumes nothing.
+-- `months_test::write_k` meets its contract: the sums of an account that holds a history are small. Assumes nothing.
 use mathlib.Core.Path.{subst}
 use mir.Facts.{toZ-ofZ}
 use borrow.Author.Needs.{needs, sfits-of}
@@ -10,7 +10,7 @@ use Rattle.months_test.proofs.write_k.Tie as tie
 small : (c : tie.After-sums) → Small (c .sums .given .0 .0)
 small c =
     let told = c .before .before in
-    sums-small (told .before .before .pre) _ (subst (SumsPromise _ _) (c .sums .given .1) (told .sums-at .ensures))
+    sums-small (told .before .before .pre) (subst (SumsPromise _ _ _) (c .sums .given .1) (told .sums-at .ensures))
 
 pub write-k-spec : {M : Type 1} → statement M
 write-k-spec =

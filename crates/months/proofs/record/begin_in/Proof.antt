@@ -6,7 +6,7 @@ use borrow.Author.Needs.{needs}
 use borrow.Author.Tests.{not-true, not-false}
 use Rattle.lengths.specs.Block.{isLength}
 use Rattle.lengths.proofs.ElevenLengths.{length-le}
-use Rattle.months.proofs.Beginning.{begun, not-begun}
+use Rattle.months.proofs.Beginning.{mark-fits, begun, not-begun}
 use Rattle.months.proofs.record.begin_in.Statement.{statement}
 use Rattle.months.proofs.record.begin_in.Tie as tie
 
@@ -21,7 +21,8 @@ begin-in-spec =
     tie.close
     (tie.spec
     (λ c κs. search needs)  -- is-length-requires
-    (λ c. not-begun (bad c))  -- returns
+    (λ c. not-begun _ (bad c))  -- returns
     (λ c. record { sfits = omega (arith, length-le _ (good c)) })  -- cast-month
+    (λ c. mark-fits _ (good c))  -- add-month
     (λ c. search needs)  -- element-set-from-month
-    (λ c. begun (good c)))  -- returns-2
+    (λ c. begun _ (good c)))  -- returns-2

@@ -1,4 +1,4 @@
--- `months::record::add_sums` meets its contract. Assumes nothing.
+-- `months::account::add_sums` meets its contract. Assumes nothing.
 use mathlib.Core.Path.{ap₂, _∙_}
 use Prim.Native.Nat.{_+_, _-_, _≤_}
 use native.Mathlib.Omega.{arith}
@@ -8,16 +8,16 @@ use borrow.Author.Needs.{needs, sfits-of}
 use Rattle.whole.proofs.Words.{held}
 use Rattle.words.specs.Words.{word}
 use Rattle.words.proofs.Writing.{Ends, ends-none, ends-front, ends-all}
-use Rattle.months.specs.Months.{plus}
-use Rattle.months.proofs.record.add_sums.Statement.{statement}
-use Rattle.months.proofs.record.add_sums.Tie as tie
+use Rattle.months.specs.Accounts.{plus}
+use Rattle.months.proofs.account.add_sums.Statement.{statement}
+use Rattle.months.proofs.account.add_sums.Tie as tie
 
 abbrev Inv-loop : tie.InvT-loop
-Inv-loop month₀ at coefficients n k₀ month k =
-    (k ≤ n) × Ends (pos 0) at k 0 n (λ j. plus (word month₀ (at + j)) (word coefficients j)) month₀ month
+Inv-loop account₀ at coefficients n k₀ account k =
+    (k ≤ n) × Ends (pos 0) at k 0 n (λ j. plus (word account₀ (at + j)) (word coefficients j)) account₀ account
 
 abbrev μ-loop : tie.MeasureT-loop
-μ-loop month₀ at coefficients n k₀ month k = n - k
+μ-loop account₀ at coefficients n k₀ account k = n - k
 
 loop-again : tie.Need-loop-again Inv-loop μ-loop
 loop-again c =
@@ -46,7 +46,7 @@ add-sums-spec =
     (λ c κs. search needs)  -- added-requires
     (λ c. search needs)  -- add-t16
     (λ c. search needs)  -- mul-t17
-    (λ c. search needs)  -- slice-set-from-month
+    (λ c. search needs)  -- slice-set-from-account
     (λ c. search needs)  -- add-k
     (λ c. search needs)  -- loop-less
     loop-again

@@ -1,10 +1,10 @@
--- `months::record::has_room` meets its contract. Assumes nothing.
+-- `months::account::has_room` meets its contract. Assumes nothing.
 use mathlib.Core.Path.{_∙_}
 use Prim.Native.Nat.{_^_}
 use mir.Facts.{toZ-ofZ}
 use Rattle.refusals.proofs.Ranges.{high-decides, too-low}
-use Rattle.months.proofs.record.has_room.Statement.{statement}
-use Rattle.months.proofs.record.has_room.Tie as tie
+use Rattle.months.proofs.account.has_room.Statement.{statement}
+use Rattle.months.proofs.account.has_room.Tie as tie
 
 pub has-room-spec : {M : Type 1} → statement M
 has-room-spec =

@@ -1,4 +1,4 @@
--- `months::record::added` meets its contract. Assumes nothing.
+-- `months::account::added` meets its contract. Assumes nothing.
 use mathlib.Core.Path.{_≡_, sym, _∙_}
 use mathlib.Core.Bool.{true, false}
 use Prim.Native.Nat.{_^_}
@@ -6,8 +6,8 @@ use mir.Facts.{toZ-ofZ}
 use borrow.Author.Needs.{needs}
 use Rattle.refusals.specs.Refusals.{atMost}
 use Rattle.months.proofs.Adding.{plus-stays, widens, sum-asked, sum-made}
-use Rattle.months.proofs.record.added.Statement.{statement}
-use Rattle.months.proofs.record.added.Tie as tie
+use Rattle.months.proofs.account.added.Statement.{statement}
+use Rattle.months.proofs.account.added.Tie as tie
 
 room : (c : tie.Then1) → atMost (2 ^ 62) (c .before .before .args .sum) ≡ true
 room c = sym (rw (toZ-ofZ (c .before .before .fits .sum)) at (c .before .has-room .ensures)) ∙ c .if1 .taken
