@@ -1,7 +1,7 @@
 /*
  * Holds include/mealbis_struct.h to include/mealbis.h: each call on structs against the flat call with the same words, in its number, every word of
- * every buffer and the whole record, for accepted blocks and for each refusal that it can have. Prints each check that fails, and 'N passed, M failed'.
- * It is C99 and C++ alike.
+ * every buffer and the whole record, for accepted blocks and for each refusal that it can have; of a month for both parties and for some that are
+ * none. Prints each check that fails, and 'N passed, M failed'. It is C99 and C++ alike.
  */
 #include <stdio.h>
 #include <string.h>
@@ -14,6 +14,7 @@
 static int32_t x[MANY], y[FEWER], first[LONGEST], second[LONGEST];
 static int64_t scratch[MEALBIS_SCRATCH_WORDS(LONGEST)];
 static mealbis_month month, other_month;
+static mealbis_size party = 1; /* that adds to the month */
 MEALBIS_WORKSPACE(work, LONGEST);
 static int passed, failed;
 
@@ -70,9 +71,9 @@ static uint32_t both(int call, mealbis_size start, mealbis_size length, int32_t 
         structs = mealbis_mark_of(a, start, length, flat_limit, clip_level, &work);
         break;
     case MONTH:
-        flat = mealbis_month_add(&other_month, x, MANY, start, length, work.allowance, first, work.first_words, second, work.second_words,
+        flat = mealbis_month_add(&other_month, party, x, MANY, start, length, work.allowance, first, work.first_words, second, work.second_words,
                                  scratch, work.scratch_words, &answer);
-        structs = mealbis_month_add_of(&month, a, start, length, &work);
+        structs = mealbis_month_add_of(&month, party, a, start, length, &work);
         break;
     case COSINE:
         flat = mealbis_cosine(x, MANY, start, length, work.allowance, first, work.first_words, scratch, work.scratch_words, &answer);
@@ -102,16 +103,35 @@ static void expect(uint32_t number, int call, mealbis_size start, mealbis_size l
     check(both(call, start, length, flat_limit, clip_level) == number, names[call], mealbis_reason(number), length);
 }
 
+/* The refusals of a month alone, for this party and for parties that are none; these are refused before all else. */
+static void month_refusals(void)
+{
+    static const mealbis_size none[] = { 0, 3, ((mealbis_size)1 << 32) + 1, UINT64_MAX };
+    mealbis_size own = party;
+    unsigned i;
+
+    for (i = 0; i < MEALBIS_WORDS(none); i++) {
+        party = none[i];
+        expect(MEALBIS_UNKNOWN_PARTY, MONTH, 0, 32, 0, 1);
+        expect(MEALBIS_UNKNOWN_PARTY, MONTH, MANY, 8, 0, 1);
+    }
+    party = own;
+    expect(MEALBIS_OTHER_LENGTH, MONTH, 0, 8, 0, 1);
+    month.words[party == 1 ? 1 : 1028] = MEALBIS_MOST_BLOCKS;
+    expect(MEALBIS_MONTH_FULL, MONTH, 0, 32, 0, 1);
+    party = 3 - own;
+    expect(MEALBIS_ACCEPTED, MONTH, 0, 32, 0, 1);
+    party = own;
+    check(mealbis_month_begin(&month, 32) == MEALBIS_ACCEPTED, "month", "begun", 32);
+}
+
 /* Every refusal of one call, one after the other; each has the tests before it accept. */
 static void refusals(int call)
 {
     mealbis_workspace kept = work;
 
     if (call == MONTH) {
-        expect(MEALBIS_OTHER_LENGTH, call, 0, 8, 0, 1);
-        month.words[1] = MEALBIS_MOST_BLOCKS;
-        expect(MEALBIS_MONTH_FULL, call, 0, 32, 0, 1);
-        month.words[1] = 0;
+        month_refusals();
     } else {
         expect(MEALBIS_BAD_LENGTH, call, 0, 3, 0, 1);
     }
@@ -140,6 +160,22 @@ static void refusals(int call)
     }
 }
 
+/* Blocks of one length through every call, three of party 1 and two of party 2. */
+static void accepted(mealbis_size length)
+{
+    mealbis_blocks told = { -1 };
+    int i, call;
+
+    check(mealbis_month_begin(&month, length) == MEALBIS_ACCEPTED, "month", "begun", length);
+    for (call = 0; call < CALLS; call++)
+        for (i = 0; i < (call == MONTH ? 5 : 3); i++) {
+            party = 1 + (mealbis_size)i % 2;
+            expect(MEALBIS_ACCEPTED, call, (mealbis_size)i * 17, length, 0, 9000);
+        }
+    check(mealbis_month_blocks(&month, 1, &told) == MEALBIS_ACCEPTED && told.blocks == 3, "month", "blocks of party 1", length);
+    check(mealbis_month_blocks(&month, 2, &told) == MEALBIS_ACCEPTED && told.blocks == 2, "month", "blocks of party 2", length);
+}
+
 int main(void)
 {
     mealbis_recording whole = MEALBIS_RECORDING(x);
@@ -158,23 +194,19 @@ int main(void)
         if (i < FEWER)
             y[i] = 5000 - x[i] / 3;
     }
-    for (length = 1; length <= LONGEST; length *= 2) {
-        check(mealbis_month_begin(&month, length) == MEALBIS_ACCEPTED, "month", "begun", length);
-        for (call = 0; call < CALLS; call++)
-            for (i = 0; i < 3; i++)
-                expect(MEALBIS_ACCEPTED, call, (mealbis_size)i * 17, length, 0, 9000);
-        check(mealbis_month_blocks(&month) == 3, "month", "blocks", length);
-    }
+    for (length = 1; length <= LONGEST; length *= 2)
+        accepted(length);
     expect(MEALBIS_ACCEPTED, MARK, 0, 32, INT32_MAX, 1); /* the two figures are not exchanged */
     check(work.mark == MEALBIS_FLAT, "mark", "flat", work.mark);
     expect(MEALBIS_ACCEPTED, MARK, 0, 32, 0, 1);
     check(work.mark == MEALBIS_CLIPPED, "mark", "clipped", work.mark);
     expect(MEALBIS_ACCEPTED, MARK, 0, 32, 0, MEALBIS_LARGEST_SAMPLE);
     check(work.mark == MEALBIS_PLAIN, "mark", "plain", work.mark);
-    for (call = 0; call < CALLS; call++) {
-        check(mealbis_month_begin(&month, 32) == MEALBIS_ACCEPTED, "month", "begun", 32);
-        refusals(call);
-    }
+    for (call = 0; call < CALLS; call++)
+        for (party = 1; party <= 2; party++) {
+            check(mealbis_month_begin(&month, 32) == MEALBIS_ACCEPTED, "month", "begun", 32);
+            refusals(call);
+        }
     printf("%d passed, %d failed\n", passed, failed);
     return failed != 0;
 }
