@@ -434,85 +434,106 @@ static void earlier_months(void)
 
 /* ---- alignment: the same at each place that the types allow */
 
-static void *placed(unsigned char *memory, size_t at, const void *held, size_t size)
-{
-    if (held)
-        memcpy(memory + at, held, size);
-    return memory + at;
-}
-
-/* All calls on n samples, with words of 32 bits at `at` words from 16 bytes, of 64 bits at at % 2 words, and bytes at `at` bytes. */
-static void at_place(mealbis_size n, size_t at)
-{
-    static int32_t cosine[2][LONGEST], sine[2][LONGEST];
-    static mealbis_answer told[2];
-    size_t room = sizeof scratch + 64;
-    unsigned char *memory[8];
+/* What is lent to the calls of one turn. */
+static struct {
+    unsigned char *memory[7];
     int32_t *recording, *first, *second;
     int64_t *work;
     mealbis_answer *record;
-    mealbis_month *lent_month;
+    mealbis_month *month;
     uint8_t *bytes;
-    size_t i, words = (size_t)MEALBIS_SPECTRUM_WORDS(n) * 4;
-    for (i = 0; i < MEALBIS_WORDS(memory); i++)
-        if (!(memory[i] = malloc(room)))
+} at_hand;
+
+/* For n samples, with words of 32 bits at `at` words from 16 bytes, of 64 bits at at % 2 words, and bytes at `at` bytes. */
+static void lend(mealbis_size n, size_t at)
+{
+    const size_t places[] = {4 * at, 4 * ((at + 1) % 4), 4 * ((at + 2) % 4), 8 * (at % 2), 8 * ((at + 1) % 2), 8 * (at % 2), at};
+    void *found[MEALBIS_WORDS(places)];
+    size_t i;
+    for (i = 0; i < MEALBIS_WORDS(places); i++) {
+        if (!(at_hand.memory[i] = malloc(sizeof scratch + 64)))
             exit(2);
-    recording = placed(memory[0], 4 * at, x, (size_t)n * 4);
-    first = placed(memory[1], 4 * ((at + 1) % 4), NULL, 0);
-    second = placed(memory[2], 4 * ((at + 2) % 4), NULL, 0);
-    work = placed(memory[3], 8 * (at % 2), NULL, 0);
-    record = placed(memory[4], 8 * ((at + 1) % 2), NULL, 0);
-    lent_month = placed(memory[5], 8 * (at % 2), NULL, 0);
-    bytes = placed(memory[6], at, NULL, 0);
-    SPECTRUM(x, n, 0, n, UINT64_MAX, cosine[0], n, sine[0], n, scratch, MEALBIS_WORDS(scratch));
-    told[0] = answer;
-    number = mealbis_spectrum(recording, n, 0, n, UINT64_MAX, first, n, second, n, work, MEALBIS_SCRATCH_WORDS(n), record);
-    check(number == 0 && !memcmp(record, told, sizeof *record) && !memcmp(first, cosine[0], words) && !memcmp(second, sine[0], words), "Spectrum, aligned", at);
-    number = mealbis_mark(recording, n, 0, n, UINT64_MAX, 0, 1, first, n, second, n, work, MEALBIS_SCRATCH_WORDS(n), (mealbis_mark_answer *)record);
-    check(number == 0 && !memcmp(record, told, sizeof *record) && !memcmp(first, cosine[0], words) && !memcmp(second, sine[0], words), "mark, aligned", at);
-    number = mealbis_month_begin(lent_month, n);
-    check(number == 0 && mealbis_month_length(lent_month) == n, "a month, aligned", at);
-    number = mealbis_month_add(lent_month, 2, recording, n, 0, n, UINT64_MAX, first, n, second, n, work, MEALBIS_SCRATCH_WORDS(n), record);
-    check(number == 0 && !memcmp(record, told, sizeof *record), "a block, aligned", at);
-    number = mealbis_month_blocks(lent_month, 2, (mealbis_blocks *)record);
-    check(number == 0 && ((mealbis_blocks *)record)->blocks == 1, "blocks, aligned", at);
-    number = mealbis_month_sums(lent_month, 2, n / 2, (mealbis_sums *)record);
-    check(number == 0 && ((mealbis_sums *)record)->cosine == cosine[0][n / 2] && ((mealbis_sums *)record)->sine == sine[0][n / 2], "sums, aligned", at);
-    number = mealbis_page(first, n, second, n, n, bytes, MEALBIS_PAGE_BYTES(n), (mealbis_page_answer *)record);
-    PRINT(cosine[0], n, sine[0], n, n, made, sizeof made), check(!memcmp(bytes, made, (size_t)page_answer.bytes), "a page, aligned", at);
-    COSINE(x, n, 0, n, UINT64_MAX, cosine[1], n, scratch, MEALBIS_WORDS(scratch));
-    told[1] = answer;
-    number = mealbis_cosine(recording, n, 0, n, UINT64_MAX, first, n, work, MEALBIS_SCRATCH_WORDS(n), record);
-    check(number == 0 && !memcmp(record, told + 1, sizeof *record) && !memcmp(first, cosine[1], (size_t)n * 4), "Cosine, aligned", at);
-    number = mealbis_inverse_dct(first, n, n, second, n, (mealbis_inverse_answer *)record);
-    INVERSE(cosine[1], n, n, one, n), check(!memcmp(second, one, (size_t)n * 4), "the inverse DCT, aligned", at);
-    PAIR(x, n, x, n, 0, n, UINT64_MAX, cosine[0], n, sine[0], n, scratch, MEALBIS_WORDS(scratch));
-    number = mealbis_pair(recording, n, recording, n, 0, n, UINT64_MAX, first, n, second, n, work, MEALBIS_SCRATCH_WORDS(n), record);
-    check(number == 0 && !memcmp(first, cosine[0], (size_t)n * 4) && !memcmp(second, sine[0], (size_t)n * 4), "Pair, aligned", at);
-    number = mealbis_counts(n, (mealbis_counts_answer *)record);
-    check(number == 0 && ((mealbis_counts_answer *)record)->pair_products == answer.products, "counts, aligned", at);
-    number = mealbis_write(recording, n, recording, n, n, bytes, MEALBIS_FILE_BYTES(n), (mealbis_write_answer *)record);
-    check(number == 0 && ((mealbis_write_answer *)record)->bytes == MEALBIS_FILE_BYTES(n), "write, aligned", at);
-    number = mealbis_read(bytes, MEALBIS_FILE_BYTES(n), first, n, second, n, (mealbis_read_answer *)record);
-    check(number == 0 && !memcmp(first, x, (size_t)n * 4) && !memcmp(second, x, (size_t)n * 4), "read, aligned", at);
-    for (i = 0; i < MEALBIS_WORDS(memory); i++)
-        free(memory[i]);
+        found[i] = at_hand.memory[i] + places[i];
+    }
+    at_hand.recording = memcpy(found[0], x, (size_t)n * 4);
+    at_hand.first = found[1];
+    at_hand.second = found[2];
+    at_hand.work = found[3];
+    at_hand.record = found[4];
+    at_hand.month = found[5];
+    at_hand.bytes = found[6];
+}
+
+#define RECORDING at_hand.recording, n
+#define TWO_ROWS at_hand.first, n, at_hand.second, n
+#define WORK_AT_HAND at_hand.work, MEALBIS_SCRATCH_WORDS(n)
+#define TOLD(kind) ((kind *)at_hand.record)
+#define SAME(words, expected, size) !memcmp(words, expected, (size_t)(size))
+
+/* Spectrum, the mark, a month and a page, as with other memory. */
+static void spectra_at_place(mealbis_size n, size_t at)
+{
+    static int32_t cosine[LONGEST], sine[LONGEST];
+    mealbis_size size = MEALBIS_SPECTRUM_WORDS(n) * 4;
+    mealbis_answer told;
+    SPECTRUM(x, n, 0, n, UINT64_MAX, cosine, n, sine, n, scratch, MEALBIS_WORDS(scratch));
+    told = answer;
+    number = mealbis_spectrum(RECORDING, 0, n, UINT64_MAX, TWO_ROWS, WORK_AT_HAND, at_hand.record);
+    check(number == 0 && SAME(at_hand.record, &told, sizeof told), "Spectrum, aligned", at);
+    check(SAME(at_hand.first, cosine, size) && SAME(at_hand.second, sine, size), "Spectrum's rows, aligned", at);
+    number = mealbis_mark(RECORDING, 0, n, UINT64_MAX, 0, 1, TWO_ROWS, WORK_AT_HAND, TOLD(mealbis_mark_answer));
+    check(number == 0 && SAME(at_hand.record, &told, sizeof told), "mark, aligned", at);
+    check(SAME(at_hand.first, cosine, size) && SAME(at_hand.second, sine, size), "the mark's rows, aligned", at);
+    number = mealbis_month_begin(at_hand.month, n);
+    check(number == 0 && mealbis_month_length(at_hand.month) == n, "a month, aligned", at);
+    number = mealbis_month_add(at_hand.month, 2, RECORDING, 0, n, UINT64_MAX, TWO_ROWS, WORK_AT_HAND, at_hand.record);
+    check(number == 0 && SAME(at_hand.record, &told, sizeof told), "a block, aligned", at);
+    check(SAME(at_hand.first, cosine, size) && SAME(at_hand.second, sine, size), "a block's rows, aligned", at);
+    number = mealbis_month_blocks(at_hand.month, 2, TOLD(mealbis_blocks));
+    check(number == 0 && TOLD(mealbis_blocks)->blocks == 1, "blocks, aligned", at);
+    number = mealbis_month_sums(at_hand.month, 2, n / 2, TOLD(mealbis_sums));
+    check(number == 0 && TOLD(mealbis_sums)->cosine == cosine[n / 2] && TOLD(mealbis_sums)->sine == sine[n / 2], "sums, aligned", at);
+    number = mealbis_page(TWO_ROWS, n, at_hand.bytes, MEALBIS_PAGE_BYTES(n), TOLD(mealbis_page_answer));
+    PRINT(cosine, n, sine, n, n, made, sizeof made), check(SAME(at_hand.bytes, made, page_answer.bytes), "a page, aligned", at);
+}
+
+/* Cosine and the way back, Pair, the counts and a file. */
+static void others_at_place(mealbis_size n, size_t at)
+{
+    static int32_t rows[2][LONGEST];
+    COSINE(x, n, 0, n, UINT64_MAX, rows[0], n, scratch, MEALBIS_WORDS(scratch));
+    number = mealbis_cosine(RECORDING, 0, n, UINT64_MAX, at_hand.first, n, WORK_AT_HAND, at_hand.record);
+    check(number == 0 && SAME(at_hand.record, &answer, sizeof answer) && SAME(at_hand.first, rows[0], n * 4), "Cosine, aligned", at);
+    number = mealbis_inverse_dct(at_hand.first, n, n, at_hand.second, n, TOLD(mealbis_inverse_answer));
+    INVERSE(rows[0], n, n, one, n), check(SAME(at_hand.second, one, n * 4), "the inverse DCT, aligned", at);
+    PAIR(x, n, x, n, 0, n, UINT64_MAX, rows[0], n, rows[1], n, scratch, MEALBIS_WORDS(scratch));
+    number = mealbis_pair(RECORDING, RECORDING, 0, n, UINT64_MAX, TWO_ROWS, WORK_AT_HAND, at_hand.record);
+    check(number == 0 && SAME(at_hand.first, rows[0], n * 4) && SAME(at_hand.second, rows[1], n * 4), "Pair, aligned", at);
+    number = mealbis_counts(n, TOLD(mealbis_counts_answer));
+    check(number == 0 && TOLD(mealbis_counts_answer)->pair_products == answer.products, "counts, aligned", at);
+    number = mealbis_write(RECORDING, RECORDING, n, at_hand.bytes, MEALBIS_FILE_BYTES(n), TOLD(mealbis_write_answer));
+    check(number == 0 && TOLD(mealbis_write_answer)->bytes == MEALBIS_FILE_BYTES(n), "write, aligned", at);
+    number = mealbis_read(at_hand.bytes, MEALBIS_FILE_BYTES(n), TWO_ROWS, TOLD(mealbis_read_answer));
+    check(number == 0 && SAME(at_hand.first, x, n * 4) && SAME(at_hand.second, x, n * 4), "read, aligned", at);
 }
 
 static void alignment(void)
 {
     mealbis_size n;
-    size_t at;
+    size_t at, i;
     for (n = 1; n <= LONGEST; n *= 2)
-        for (at = 0; at < 4; at++)
-            at_place(n, at);
+        for (at = 0; at < 4; at++) {
+            lend(n, at);
+            spectra_at_place(n, at);
+            others_at_place(n, at);
+            for (i = 0; i < MEALBIS_WORDS(at_hand.memory); i++)
+                free(at_hand.memory[i]);
+        }
 }
 
-/* NULL with count 0, for each buffer and for all. */
-static void empty_buffers(void)
+/* NULL with count 0, for each buffer and for all, in the calls on a block. */
+static void empty_in_blocks(void)
 {
-    static const uint8_t header[8] = {8, 0, 0, 0, 4, 0, 0, 0};
-    memcpy(file, header, sizeof header); /* and all samples 0 */
     SPECTRUM(NULL, 0, 0, 8, 99, one, 5, two, 5, WORK(8)), refused(2, "Spectrum, no recording");
     SPECTRUM(NULL, 0, 0, 7, 99, one, 5, two, 5, WORK(8)), refused(1, "Spectrum, no recording, length 7");
     SPECTRUM(x, 16, 8, 8, 99, NULL, 0, two, 5, WORK(8)), refused(3, "Spectrum, no cosine");
@@ -542,10 +563,27 @@ static void empty_buffers(void)
     PAIR(x, 16, y, 16, 0, 1, 0, one, 8, NULL, 0, WORK(8)), refused(3, "Pair, no im");
     PAIR(x, 16, y, 16, 0, 1, 0, one, 8, two, 8, NULL, 0), refused(4, "Pair, no scratch");
     PAIR(NULL, 0, NULL, 0, 0, 1, 0, NULL, 0, NULL, 0, NULL, 0), refused(2, "Pair, nothing");
+}
+
+/* The same in those on stored coefficients. */
+static void empty_in_coefficients(void)
+{
     INVERSE(NULL, 0, 8, one, 8), inverse_refused(2, "inverse DCT, no coefficients");
     INVERSE(NULL, 0, 7, one, 8), inverse_refused(1, "inverse DCT, no coefficients, length 7");
     INVERSE(stored, 8, 8, NULL, 0), inverse_refused(3, "inverse DCT, no values");
     INVERSE(NULL, 0, 1, NULL, 0), inverse_refused(2, "inverse DCT, nothing");
+    PRINT(NULL, 0, y, 8, 8, made, 200), page_refused(2, "page, no cosine");
+    PRINT(x, 8, NULL, 0, 8, made, 200), page_refused(2, "page, no sine");
+    PRINT(x, 8, y, 8, 8, NULL, 0), page_refused(3, "page, no page");
+    PRINT(x, 8, y, 8, 7, NULL, 0), page_refused(1, "page, no page, length 7");
+    PRINT(NULL, 0, NULL, 0, 1, NULL, 0), page_refused(2, "page, nothing");
+}
+
+/* The same in those on files. */
+static void empty_in_files(void)
+{
+    static const uint8_t header[8] = {8, 0, 0, 0, 4, 0, 0, 0};
+    memcpy(file, header, sizeof header); /* and all samples 0 */
     READ(NULL, 0, one, 8, two, 8), file_refused(7, "no file");
     READ(file, sizeof file, NULL, 0, two, 8), file_refused(3, "no recording a");
     READ(file, sizeof file, one, 8, NULL, 0), file_refused(3, "no recording b");
@@ -555,11 +593,6 @@ static void empty_buffers(void)
     WRITE(x, 8, y, 8, 4, NULL, 0), write_refused(3, "write, no file");
     WRITE(x, 8, y, 8, 7, NULL, 0), write_refused(1, "write, no file, blocks of 7");
     WRITE(NULL, 0, NULL, 0, 4, NULL, 0), write_refused(8, "write, nothing");
-    PRINT(NULL, 0, y, 8, 8, made, 200), page_refused(2, "page, no cosine");
-    PRINT(x, 8, NULL, 0, 8, made, 200), page_refused(2, "page, no sine");
-    PRINT(x, 8, y, 8, 8, NULL, 0), page_refused(3, "page, no page");
-    PRINT(x, 8, y, 8, 7, NULL, 0), page_refused(1, "page, no page, length 7");
-    PRINT(NULL, 0, NULL, 0, 1, NULL, 0), page_refused(2, "page, nothing");
 }
 
 /* The stack of each call at the greatest length: it runs on a marked stack of its own. */
@@ -625,7 +658,9 @@ int main(int argc, char **argv)
     parties();
     earlier_months();
     alignment();
-    empty_buffers();
+    empty_in_blocks();
+    empty_in_coefficients();
+    empty_in_files();
     own = stack_used(0); /* what on_stack takes itself */
     for (i = 1; i < MEALBIS_WORDS(names); i++) {
         size_t used = stack_used((int)i) - own;

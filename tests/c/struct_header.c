@@ -15,6 +15,8 @@ static int32_t x[MANY], y[FEWER], first[LONGEST], second[LONGEST];
 static int64_t scratch[MEALBIS_SCRATCH_WORDS(LONGEST)];
 static mealbis_month month, other_month;
 static mealbis_size party = 1; /* that adds to the month */
+static uint32_t flat, structs; /* the numbers of both calls */
+static mealbis_mark_answer told;
 MEALBIS_WORKSPACE(work, LONGEST);
 static int passed, failed;
 
@@ -44,52 +46,56 @@ static void fill(void)
     work.mark = 77;
 }
 
-/* Makes a call both ways and compares. The words of a workspace are those of `work`, so that both calls have the same. */
-static uint32_t both(int call, mealbis_size start, mealbis_size length, int32_t flat_limit, int32_t clip_level)
+/* A call both ways, the flat one with the words of `work`, so that both have the same. What the flat one tells is in `told`, its mark too. */
+static void make_both(int call, mealbis_size start, mealbis_size length, int32_t flat_limit, int32_t clip_level)
 {
     mealbis_recording a = { x, MANY }, b = { y, FEWER };
-    mealbis_workspace was;
     mealbis_answer answer = { 1, 1, 1, 1 };
-    mealbis_mark_answer marked = { 1, 1, 1, 1, 1 };
-    uint32_t flat = 99, structs = 98;
-    uint64_t mark = MEALBIS_NO_MARK;
 
-    fill();
-    was = work;
-    other_month = month;
+#define ROWS first, work.first_words, second, work.second_words
+#define SCRATCH scratch, work.scratch_words
+    told.mark = MEALBIS_NO_MARK;
     switch (call) {
     case SPECTRUM:
-        flat = mealbis_spectrum(x, MANY, start, length, work.allowance, first, work.first_words, second, work.second_words, scratch,
-                                work.scratch_words, &answer);
+        flat = mealbis_spectrum(x, MANY, start, length, work.allowance, ROWS, SCRATCH, &answer);
         structs = mealbis_spectrum_of(a, start, length, &work);
         break;
     case MARK:
-        flat = mealbis_mark(x, MANY, start, length, work.allowance, flat_limit, clip_level, first, work.first_words, second, work.second_words,
-                            scratch, work.scratch_words, &marked);
-        memcpy(&answer, &marked, sizeof answer);
-        mark = marked.mark;
+        flat = mealbis_mark(x, MANY, start, length, work.allowance, flat_limit, clip_level, ROWS, SCRATCH, &told);
+        memcpy(&answer, &told, sizeof answer);
         structs = mealbis_mark_of(a, start, length, flat_limit, clip_level, &work);
         break;
     case MONTH:
-        flat = mealbis_month_add(&other_month, party, x, MANY, start, length, work.allowance, first, work.first_words, second, work.second_words,
-                                 scratch, work.scratch_words, &answer);
+        flat = mealbis_month_add(&other_month, party, x, MANY, start, length, work.allowance, ROWS, SCRATCH, &answer);
         structs = mealbis_month_add_of(&month, party, a, start, length, &work);
         break;
     case COSINE:
-        flat = mealbis_cosine(x, MANY, start, length, work.allowance, first, work.first_words, scratch, work.scratch_words, &answer);
+        flat = mealbis_cosine(x, MANY, start, length, work.allowance, first, work.first_words, SCRATCH, &answer);
         structs = mealbis_cosine_of(a, start, length, &work);
         break;
     case PAIR:
-        flat = mealbis_pair(x, MANY, y, FEWER, start, length, work.allowance, first, work.first_words, second, work.second_words, scratch,
-                            work.scratch_words, &answer);
+        flat = mealbis_pair(x, MANY, y, FEWER, start, length, work.allowance, ROWS, SCRATCH, &answer);
         structs = mealbis_pair_of(a, b, start, length, &work);
         break;
     }
+    memcpy(&told, &answer, sizeof answer);
+}
+
+/* Makes a call both ways and compares. */
+static uint32_t both(int call, mealbis_size start, mealbis_size length, int32_t flat_limit, int32_t clip_level)
+{
+    mealbis_workspace was;
+
+    fill();
+    flat = 99, structs = 98;
+    was = work;
+    other_month = month;
+    make_both(call, start, length, flat_limit, clip_level);
     check(structs == flat, names[call], "the number", length);
     check(!memcmp(work_first, first, sizeof first) && !memcmp(work_second, second, sizeof second), names[call], "the results", length);
     check(!memcmp(work_scratch, scratch, sizeof scratch), names[call], "scratch", length);
-    check(!memcmp(&work.answer, &answer, sizeof answer), names[call], "the record", length);
-    check(work.mark == mark, names[call], "the mark", length);
+    check(!memcmp(&work.answer, &told, sizeof work.answer), names[call], "the record", length);
+    check(work.mark == told.mark, names[call], "the mark", length);
     check(!memcmp(&month, &other_month, sizeof month), names[call], "the month", length);
     was.answer = work.answer;
     was.mark = work.mark;
