@@ -348,7 +348,8 @@ MEALBIS_CHECKED uint32_t mealbis_mark(
  * in 16,440 bytes that you keep. Write them by mealbis_month_begin and mealbis_month_add alone. Such
  * a month may be copied, stored and taken up again; its words are
  *   words[0]                 the mark: 65,536 * 40,000 + N, or 0 where beginning was refused. 40,000
- *                            is the edition: the version from which on a month has these words
+ *                            is the edition: the version from which on months are so laid out and
+ *                            so made
  *   words[1] .. [1027]       the account of party 1
  *   words[1028] .. [2054]    the account of party 2
  * An account has 1,027 words; from its first, words[f], on they are
@@ -359,8 +360,8 @@ MEALBIS_CHECKED uint32_t mealbis_mark(
  * sums of the party's blocks, n being that party's number of blocks; and far below 2^63 in size.
  *
  * The accounts have the length in common and nothing else. One owner's answers, refusals and sums
- * depend on the month's length and on that owner's own calls only, whatever the other adds, whatever
- * he is refused, and whether he is full: so two owners need not trust each other's calls. But the
+ * depend on the month's length and on that owner's own calls only, whatever the other adds or is
+ * refused, and also where the other is full: so two owners need not trust each other's calls. But the
  * party is what the caller says, mealbis_month_begin begins the month for both, and nobody protects
  * the words: who can write them can change both accounts. Nor may two calls on one month run at the
  * same time where one of them writes it, also not for two parties (section "Buffers").
@@ -401,9 +402,8 @@ MEALBIS_CHECKED uint32_t mealbis_month_begin(mealbis_month *month, mealbis_size 
  * else is as after mealbis_spectrum (coefficients, scratch, products, sums, largest_rest). A refused
  * block leaves the month, both accounts, as it was.
  *
- *   month    all else as in mealbis_spectrum. sums are the additions of the transform, as there: those
- *            to the month's sums are not counted
- *   party    1 or 2
+ *   party    1 or 2; all else, but the month, as in mealbis_spectrum. sums are the additions of the
+ *            transform, as there: those to the month's sums are not counted
  */
 MEALBIS_CHECKED uint32_t mealbis_month_add(
     mealbis_month *month, mealbis_size party,
