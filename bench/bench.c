@@ -1,5 +1,5 @@
 /* Times Spectrum, Cosine, Pair, the inverse DCT and refusal 6 beside a plain C version, an earlier version of the library, kissfft, FFTW and
-   direct sums, on the same input in one run.
+   direct sums, and a block added to a month beside Spectrum and an earlier version, on the same input in one run.
 
      bench                          a table for N = 8 .. 1,024, in Markdown
      bench CALL CONTENDER N REPEATS      that many blocks of one contender and nothing else, to count instructions
@@ -54,13 +54,21 @@ struct library {
     __typeof__(mealbis_cosine) *cosine;
     __typeof__(mealbis_pair) *pair;
     __typeof__(mealbis_inverse_dct) *inverse_dct;
+    __typeof__(mealbis_month_begin) *month_begin;
+    __typeof__(mealbis_month_add) *month_add;
+    mealbis_month *month; /* of its own */
 };
 
-static const struct library ours = {mealbis_spectrum, mealbis_cosine, mealbis_pair, mealbis_inverse_dct};
+static mealbis_month months[2]; /* ours, and room for one of an earlier version, which has no more words */
+static const struct library ours = {mealbis_spectrum, mealbis_cosine, mealbis_pair, mealbis_inverse_dct,
+                                    mealbis_month_begin, mealbis_month_add, &months[0]};
 static const struct library *library = &ours; /* the one that is timed */
 
 #ifdef HAVE_BEFORE
-#ifdef BEFORE_WITH_WORDS /* its calls tell through single words, not through a record */
+#define OF_BLOCK mealbis_size start, mealbis_size n, uint64_t allowance, int32_t *y, mealbis_size y_words
+#define OF_SCRATCH int64_t *work, mealbis_size work_words
+#define OF_SPECTRUM const int32_t *x, mealbis_size x_words, OF_BLOCK, int32_t *z, mealbis_size z_words, OF_SCRATCH
+#ifdef BEFORE_WITH_WORDS /* its calls tell through single words, not through a record; its months, where it has any, are not timed */
 #ifdef BEFORE_WITHOUT_REST /* and have none for the largest rest */
 #define WORDS uint64_t *products, uint64_t *sums, mealbis_size *place
 #define TO_RECORD &answer->products, &answer->sums, &answer->place
@@ -68,9 +76,6 @@ static const struct library *library = &ours; /* the one that is timed */
 #define WORDS uint64_t *products, uint64_t *sums, uint64_t *largest_rest, mealbis_size *place
 #define TO_RECORD &answer->products, &answer->sums, &answer->largest_rest, &answer->place
 #endif
-#define OF_BLOCK mealbis_size start, mealbis_size n, uint64_t allowance, int32_t *y, mealbis_size y_words
-#define OF_SCRATCH int64_t *work, mealbis_size work_words
-#define OF_SPECTRUM const int32_t *x, mealbis_size x_words, OF_BLOCK, int32_t *z, mealbis_size z_words, OF_SCRATCH
 #define OF_COSINE const int32_t *x, mealbis_size x_words, OF_BLOCK, OF_SCRATCH
 #define OF_PAIR const int32_t *x, mealbis_size x_words, const int32_t *v, mealbis_size v_words, OF_BLOCK, int32_t *z, mealbis_size z_words, OF_SCRATCH
 #define OF_INVERSE const int32_t *y, mealbis_size y_words, mealbis_size n, int32_t *x, mealbis_size x_words
@@ -101,6 +106,7 @@ static uint32_t before_inverse_dct(OF_INVERSE, mealbis_inverse_answer *answer)
 {
     return before_mealbis_inverse_dct(y, y_words, n, x, x_words, &answer->place);
 }
+#define BEFORE_MONTHS 0, 0, 0
 #else
 extern __typeof__(mealbis_spectrum) before_mealbis_spectrum;
 extern __typeof__(mealbis_cosine) before_mealbis_cosine;
@@ -110,8 +116,22 @@ extern __typeof__(mealbis_inverse_dct) before_mealbis_inverse_dct;
 #define before_cosine before_mealbis_cosine
 #define before_pair before_mealbis_pair
 #define before_inverse_dct before_mealbis_inverse_dct
+#ifdef BEFORE_WITHOUT_PARTY /* its months are of one owner */
+uint32_t before_mealbis_month_add(mealbis_month *month, OF_SPECTRUM, mealbis_answer *answer);
+
+static uint32_t before_month_add(mealbis_month *month, mealbis_size party, OF_SPECTRUM, mealbis_answer *answer)
+{
+    (void)party;
+    return before_mealbis_month_add(month, x, x_words, start, n, allowance, y, y_words, z, z_words, work, work_words, answer);
+}
+#else
+extern __typeof__(mealbis_month_add) before_mealbis_month_add;
+#define before_month_add before_mealbis_month_add
 #endif
-static const struct library before = {before_spectrum, before_cosine, before_pair, before_inverse_dct};
+extern __typeof__(mealbis_month_begin) before_mealbis_month_begin;
+#define BEFORE_MONTHS before_mealbis_month_begin, before_month_add, &months[1]
+#endif
+static const struct library before = {before_spectrum, before_cosine, before_pair, before_inverse_dct, BEFORE_MONTHS};
 #endif
 
 static uint32_t spectrum_of(const int32_t *recording, size_t n)
@@ -128,16 +148,14 @@ static void spectrum(size_t n)
     need(spectrum_of(a, n) == 0, "refused");
 }
 
-/* a block added to a month, which is begun where there is none of this length, and where it is full */
-static mealbis_month month;
-
+/* a block of party 1 added to a month, which is begun where there is none of this length, and where the party is full */
 static void add_to_month(size_t n)
 {
     mealbis_answer answer;
-    while (mealbis_month_add(&month, a, RECORDING, START, n, UINT64_MAX, first, LONGEST, second, LONGEST,
-                             scratch, MEALBIS_WORDS(scratch), &answer) != 0)
-        need(mealbis_month_begin(&month, n) == 0, "month");
-    sink += (uint64_t)month.words[2];
+    while (library->month_add(library->month, 1, a, RECORDING, START, n, UINT64_MAX, first, LONGEST, second, LONGEST,
+                              scratch, MEALBIS_WORDS(scratch), &answer) != 0)
+        need(library->month_begin(library->month, n) == 0, "month");
+    sink += (uint64_t)library->month->words[2]; /* the sum of cosine[0], before version 4 too */
 }
 
 static void our_spectrum(size_t n)
@@ -324,6 +342,11 @@ struct contender {
 #else
 #define LIBRARY_BEFORE(call, block)
 #endif
+#ifdef BEFORE_WITH_WORDS
+#define MONTHS_BEFORE(call, block)
+#else
+#define MONTHS_BEFORE(call, block) LIBRARY_BEFORE(call, block)
+#endif
 
 static const struct contender contenders[] = {
     {"Spectrum", "ours", spectrum, &ours},
@@ -359,6 +382,7 @@ static const struct contender contenders[] = {
     {"Refusal 6, the last sample", "plain C", plain_last, 0},
     LIBRARY_BEFORE("Refusal 6, the last sample", refused_last)
     {"A block added to a month", "ours", add_to_month, &ours},
+    MONTHS_BEFORE("A block added to a month", add_to_month)
     {"A block added to a month", "Spectrum", our_spectrum, 0},
 };
 

@@ -65,16 +65,18 @@
  *      first such k
  *  11  the two recordings of mealbis_write differ in length
  *  12  the flat limit of mealbis_mark is negative, or its clip level is outside 1 to 1,000,000
- *  13  the block's length is not the month's; always, where the month's beginning was refused
- *  14  the month holds 100,000 blocks
+ *  13  the block's length is not the month's; always, where the month's beginning was refused, and
+ *      where its words are those of an earlier version
+ *  14  the party holds 50,000 blocks in the month
+ *  15  the party is neither 1 nor 2
  *  16  no sum of the month belongs to this k
  *
- * After a refusal every buffer is as it was, and so is the month of mealbis_month_add; but
- * mealbis_month_begin makes a month in every answer. What else a function tells, it writes to one
- * record, its last parameter. The record is the answer and no buffer: every word of it is written in
- * EVERY answer, so that none keeps an old value:
- *   - counts, the largest rest, sizes, the mark and a month's sums hold what the function says when
- *     it accepts, and 0 after a refusal;
+ * After a refusal every buffer is as it was, and so are both accounts in the month of
+ * mealbis_month_add; but mealbis_month_begin makes a month in every answer. What else a function
+ * tells, it writes to one record, its last parameter. The record is the answer and no buffer: every
+ * word of it is written in EVERY answer, so that none keeps an old value:
+ *   - counts, the largest rest, sizes, the mark, a party's blocks and its sums hold what the function
+ *     says when it accepts, and 0 after a refusal;
  *   - place holds the place after refusals 6 and 10, and 0 in every other answer. After 6 it counts
  *     from 0 at the first sample of the recording, not of the block; after 10 it is the coefficient's
  *     k.
@@ -149,7 +151,7 @@ extern "C" {
 #endif
 
 /* The version, 10000 major + 100 minor + patch: of this header, and of the archive that is linked. */
-#define MEALBIS_VERSION 30000u
+#define MEALBIS_VERSION 40000u
 uint32_t mealbis_version(void);
 
 /* Every count, start, length and place: 64 bits on every machine. On x86-64 Linux it is size_t. */
@@ -177,7 +179,8 @@ typedef uint64_t mealbis_size;
 #define MEALBIS_RECORDINGS_DIFFER 11u
 #define MEALBIS_BAD_FIGURES 12u /* the flat limit or the clip level */
 #define MEALBIS_OTHER_LENGTH 13u /* than the month's */
-#define MEALBIS_MONTH_FULL 14u
+#define MEALBIS_MONTH_FULL 14u /* for this party */
+#define MEALBIS_UNKNOWN_PARTY 15u /* neither 1 nor 2 */
 #define MEALBIS_NOT_YIELDED 16u /* of a k */
 
 /* The number of an answer in words. */
@@ -199,7 +202,8 @@ static inline const char *mealbis_reason(uint32_t number)
     case MEALBIS_BAD_FIGURES:
         return "the flat limit is negative, or the clip level is outside 1 to 1,000,000";
     case MEALBIS_OTHER_LENGTH: return "the block's length is not the month's";
-    case MEALBIS_MONTH_FULL: return "the month holds 100,000 blocks";
+    case MEALBIS_MONTH_FULL: return "the party holds 50,000 blocks in the month";
+    case MEALBIS_UNKNOWN_PARTY: return "the party is neither 1 nor 2";
     case MEALBIS_NOT_YIELDED: return "no sum of the month belongs to this k";
     default: return "no call of this version gives this number";
     }
@@ -216,8 +220,8 @@ static inline const char *mealbis_reason(uint32_t number)
 #define MEALBIS_LARGEST_SAMPLE 1000000
 #define MEALBIS_LARGEST_REST 536870912 /* 2^29 */
 #define MEALBIS_MOST_FILE_SAMPLES 4096
-#define MEALBIS_MOST_BLOCKS 100000 /* of a month */
-#define MEALBIS_MONTH_WORDS 1028
+#define MEALBIS_MOST_BLOCKS 50000 /* of a party in a month */
+#define MEALBIS_MONTH_WORDS 2055
 #define MEALBIS_SPECTRUM_WORDS(length) ((length) / 2 + 1)
 #define MEALBIS_SCRATCH_WORDS(length) (8 * (length) + 64)
 #define MEALBIS_FILE_BYTES(samples) (8 + 8 * (samples))
@@ -247,7 +251,12 @@ typedef struct mealbis_mark_answer {
     uint64_t mark;         /* MEALBIS_FLAT, MEALBIS_CLIPPED or MEALBIS_PLAIN */
 } mealbis_mark_answer;
 
-/* Of mealbis_month_sums: the sums for one k. */
+/* Of mealbis_month_blocks. */
+typedef struct mealbis_blocks {
+    int64_t blocks; /* how many the party added */
+} mealbis_blocks;
+
+/* Of mealbis_month_sums: the sums of a party for one k. */
 typedef struct mealbis_sums {
     int64_t cosine; /* of the cosine coefficients */
     int64_t sine;   /* of the sine coefficients */
@@ -335,49 +344,69 @@ MEALBIS_CHECKED uint32_t mealbis_mark(
     mealbis_mark_answer *answer);
 
 /*
- * A month: sums of the spectra of many blocks of one length N, in 8,224 bytes that you keep. Write
- * them by mealbis_month_begin and mealbis_month_add alone. Such a month may be copied, stored and
- * taken up again; its words are
- *   words[0]                 N, or 0 where beginning was refused
- *   words[1]                 the block number n: how many blocks were added, 0 to 100,000
- *   words[2 + k]             for k = 0 .. N/2 the sum of cosine[k] over those blocks
- *   words[515 + k]           for k = 0 .. N/2 the sum of sine[k]
+ * A month: sums of the spectra of many blocks of one length N, for two owners, the parties 1 and 2,
+ * in 16,440 bytes that you keep. Write them by mealbis_month_begin and mealbis_month_add alone. Such
+ * a month may be copied, stored and taken up again; its words are
+ *   words[0]                 the mark: 65,536 * 40,000 + N, or 0 where beginning was refused. 40,000
+ *                            is the edition: the version from which on months are so laid out and
+ *                            so made
+ *   words[1] .. [1027]       the account of party 1
+ *   words[1028] .. [2054]    the account of party 2
+ * An account has 1,027 words; from its first, words[f], on they are
+ *   words[f]                 the block number n: how many blocks the party added, 0 to 50,000
+ *   words[f + 1 + k]         for k = 0 .. N/2 the sum of cosine[k] over those blocks
+ *   words[f + 514 + k]       for k = 0 .. N/2 the sum of sine[k]
  * and all others are 0. Each sum is within n * N/8 of the exact one, the sum of document 01's exact
- * sums of the blocks, and far below 2^63 in size.
+ * sums of the party's blocks, n being that party's number of blocks; and far below 2^63 in size.
+ *
+ * The accounts have the length in common and nothing else. One owner's answers, refusals and sums
+ * depend on the month's length and on that owner's own calls only, whatever the other adds or is
+ * refused, and also where the other is full: so two owners need not trust each other's calls. But the
+ * party is what the caller says, mealbis_month_begin begins the month for both, and nobody protects
+ * the words: who can write them can change both accounts. Nor may two calls on one month run at the
+ * same time where one of them writes it, also not for two parties (section "Buffers").
  *
  * The sums add coefficients with their signs: a wave that has the same phase in every block adds up,
  * and one whose phase turns from block to block cancels, however strong it is. For its strength, add
  * squares of the coefficients yourself.
  *
- * Blocks without a gap last N / rate seconds each, so a month is full after 100,000 * N / rate
- * seconds: with N = 256 at 32 samples a second after 800,000, some 9 days. 30 days fit where a block
- * lasts 26 seconds or more, as with N = 1,024 at up to 39 samples a second.
+ * Blocks without a gap last N / rate seconds each, so a party is full after 50,000 * N / rate
+ * seconds: with N = 256 at 32 samples a second after 400,000, some 4.6 days. 30 days fit where a
+ * block lasts 52 seconds or more, as with N = 1,024 at up to 19 samples a second.
  *
- * In words that these two did not write, nothing overflows either, and nothing outside the month is
- * touched: a number in words[0] that is not one of the eleven lengths is read as 0, a negative block
- * number goes up by 1 as any other, and a sum beyond 2^62 in size stays as it is.
+ * A month of an earlier version has N itself in words[0], and 1,028 words in all: "Months begun
+ * earlier are closed before the change." At the front of a month of this version it is of the length
+ * 0: mealbis_month_add answers 13 to every block of a party, and it stays as it is.
+ *
+ * In words that no month left there nothing overflows either, and nothing outside the month is
+ * touched: where words[0] is no mark, 65,536 * 40,000 + N with one of the eleven lengths, the length
+ * is read as 0; a block number is told as it stands, 50,000 or more is full, and a negative one goes
+ * up by 1 as any other; a sum beyond 2^62 in size stays as it is.
  */
 typedef struct mealbis_month {
     int64_t words[MEALBIS_MONTH_WORDS];
 } mealbis_month;
 
 /*
- * Begins a month of no blocks for one length, whatever stands in its words. Tests 1. After the
- * refusal it is a month too, of the length 0, and mealbis_month_add answers 13 to every block.
+ * Begins a month of no blocks for one length and both parties, whatever stands in its words. Tests 1.
+ * After the refusal it is a month too, of the length 0 and with every word 0, and mealbis_month_add
+ * answers 13 to every block of a party.
  */
 MEALBIS_CHECKED uint32_t mealbis_month_begin(mealbis_month *month, mealbis_size length);
 
 /*
- * Adds a block to a month: does what mealbis_spectrum does with the same words, adds each cosine[k]
- * and sine[k], k = 0 .. N/2, to its sum, and 1 to the block number.
- * Tests 13, 14, 2, 3, 4, 5, 6. On acceptance everything else is as after mealbis_spectrum
- * (coefficients, scratch, products, sums, largest_rest). A refused block leaves the month as it was.
+ * Adds a party's block to a month: does what mealbis_spectrum does with the same words, adds each
+ * cosine[k] and sine[k], k = 0 .. N/2, to that party's sum for k, and 1 to its block number. The
+ * other party's account stays as it is.
+ * Tests 15, 13, 14, 2, 3, 4, 5, 6; 14 by this party's block number alone. On acceptance everything
+ * else is as after mealbis_spectrum (coefficients, scratch, products, sums, largest_rest). A refused
+ * block leaves the month, both accounts, as it was.
  *
- *   month    all else as in mealbis_spectrum. sums are the additions of the transform, as there: those
- *            to the month's sums are not counted
+ *   party    1 or 2; all else, but the month, as in mealbis_spectrum. sums are the additions of the
+ *            transform, as there: those to the month's sums are not counted
  */
 MEALBIS_CHECKED uint32_t mealbis_month_add(
-    mealbis_month *month,
+    mealbis_month *month, mealbis_size party,
     const int32_t *recording, mealbis_size recording_words,
     mealbis_size start, mealbis_size length, uint64_t allowance,
     int32_t *cosine, mealbis_size cosine_words,
@@ -385,18 +414,22 @@ MEALBIS_CHECKED uint32_t mealbis_month_add(
     int64_t *scratch, mealbis_size scratch_words,
     mealbis_answer *answer);
 
-/* The length for which a month is begun; 0 where beginning was refused. */
+/*
+ * The length for which a month is begun, the same for both parties; 0 where beginning was refused,
+ * and where words[0] is no mark, as in a month of an earlier version.
+ */
 mealbis_size mealbis_month_length(const mealbis_month *month);
 
-/* The block number of a month: how many blocks were added. */
-int64_t mealbis_month_blocks(const mealbis_month *month);
+/* The block number of a party: blocks is how many blocks it added. Tests 15. */
+MEALBIS_CHECKED uint32_t mealbis_month_blocks(
+    const mealbis_month *month, mealbis_size party, mealbis_blocks *blocks);
 
 /*
- * The two sums of a month for one k: cosine that of the cosine coefficients, sine that of the sine
- * coefficients. Tests 16: k is above N/2, or the month's beginning was refused.
+ * The two sums of a party for one k: cosine that of the cosine coefficients, sine that of the sine
+ * coefficients. Tests 15, 16: k is above N/2, or the month is of the length 0.
  */
 MEALBIS_CHECKED uint32_t mealbis_month_sums(
-    const mealbis_month *month, mealbis_size k, mealbis_sums *sums);
+    const mealbis_month *month, mealbis_size party, mealbis_size k, mealbis_sums *sums);
 
 /*
  * A page for the site binder: a spectrum that mealbis_spectrum made, or any stored coefficients, as

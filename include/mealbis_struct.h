@@ -97,13 +97,13 @@ MEALBIS_CHECKED static inline uint32_t mealbis_mark_of(
     return number;
 }
 
-/* mealbis_month_add: as mealbis_spectrum_of, and the coefficients are added to the month. */
+/* mealbis_month_add: as mealbis_spectrum_of, and the coefficients are added for the party. */
 MEALBIS_CHECKED static inline uint32_t mealbis_month_add_of(
-    mealbis_month *month, mealbis_recording recording, mealbis_size start, mealbis_size length,
-    mealbis_workspace *work)
+    mealbis_month *month, mealbis_size party, mealbis_recording recording,
+    mealbis_size start, mealbis_size length, mealbis_workspace *work)
 {
     work->mark = MEALBIS_NO_MARK;
-    return mealbis_month_add(month, recording.samples, recording.words, start, length,
+    return mealbis_month_add(month, party, recording.samples, recording.words, start, length,
                              work->allowance,
                              work->first, work->first_words, work->second, work->second_words,
                              work->scratch, work->scratch_words, &work->answer);

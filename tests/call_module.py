@@ -5,13 +5,15 @@
 
 Builds libmealbis.a and a shared library of it, target/shared/libmealbis.so; or takes another shared library. The other scripts compare single calls
 on lent memory; here it is tried that the module lends enough of everything, takes lists, `array` and, where it is installed, NumPy, gives back what
-the library wrote, raises Refused with number and place, and finds the library.
+the library wrote, raises Refused with number and place, keeps the parties of a month apart, takes up no month of an earlier version, and finds the
+library.
 
 The last line is 'N passed, 0 failed'. Exit status 1 where something differs.
 """
 import array
 import ctypes
 import doctest
+import functools
 import itertools
 import os
 import pickle
@@ -22,9 +24,9 @@ import tempfile
 from pathlib import Path
 
 from library import BAD_LENGTHS, OUT, ROOT, Calls, lengths_up_to, mealbis, run
-from reference import (LARGEST_SAMPLE, LENGTHS, MOST_BLOCKS, MONTH_WORDS, cosine_call, count_query, dct, inverse_call, largest_coefficient, mark_call,
-                       month_add, month_begin, month_sums, page_bytes, page_call, pair_call, scratch_words, spectrum, spectrum_call,
-                       tallied_counts, write_pair_file)
+from reference import (LARGEST_SAMPLE, LENGTHS, MOST_BLOCKS, MONTH_WORDS, account, cosine_call, count_query, dct, inverse_call, largest_coefficient,
+                       mark_call, month_add, month_begin, month_mark, month_sums, page_bytes, page_call, pair_call, scratch_words, spectrum,
+                       spectrum_call, tallied_counts, write_pair_file)
 from spectrum_calls import UNBOUNDED, just_enough, largest_blocks, out_of_range, placed, random_block
 
 try:
@@ -33,6 +35,8 @@ except ImportError:
     numpy = None
 
 PLENTY = 4096                       # words of each buffer for the reference
+PARTIES = (1, 2)
+UNKNOWN = (0, 3, 4, 1027, 2 ** 31, 2 ** 32, 2 ** 32 + 1, 2 ** 32 + 2, 2 ** 63 + 1, 2 ** 64 - 1)      # no parties
 
 
 class ModuleCalls(Calls):
@@ -96,7 +100,8 @@ def check_spectra(calls):
     for N in LENGTHS:
         counts = tallied_counts(N)
         month, words = mealbis.Month(N), month_begin(N)[1]
-        for x in [random_block(rng, N) for _ in range(6)] + list(itertools.islice(largest_blocks(N), 3)):
+        blocks = [random_block(rng, N) for _ in range(6)] + list(itertools.islice(largest_blocks(N), 3))
+        for x, party in zip(blocks, itertools.cycle((1, 2, 2))):
             call = placed(rng, x)
             a, start, b = call.recording, call.start, random_block(rng, N + call.start)
             for allowance in (call.allowance, UNBOUNDED):
@@ -109,13 +114,14 @@ def check_spectra(calls):
             answer = mark_call(a, start, N, UNBOUNDED, *figures, PLENTY, PLENTY, PLENTY * 4)
             marked = mealbis.mark(a, start, N, *figures)
             calls.equal("the mark", (marked.mark, *spent(marked[1:])), (answer.mark, *map(tuple, answer.results), *answer.counts, answer.largest_rest))
-            answer, words = month_add(words, a, start, N, UNBOUNDED, PLENTY, PLENTY, PLENTY * 4)
-            calls.answered("a month", answer, lambda: month.add(a, start))
+            answer, words = month_add(words, party, a, start, N, UNBOUNDED, PLENTY, PLENTY, PLENTY * 4)
+            calls.answered("a month", answer, lambda: month.add(party, a, start))
             calls.equal("its words", array.array("q", month.tobytes()).tolist(), words)
-            calls.equal("its length and blocks", (month.length, month.blocks), tuple(words[:2]))
-        for k in range(N // 2 + 1):
-            calls.equal("the sums", tuple(month.sums(k)), tuple(month_sums(words, k)[1:]))
-        calls.refused("no sums", 16, None, lambda: month.sums(N // 2 + 1))
+            calls.equal("its length and blocks", (month.length, *map(month.blocks, PARTIES)), (N, words[account(1)], words[account(2)]))
+        for party in PARTIES:
+            for k in range(N // 2 + 1):
+                calls.equal("the sums", tuple(month.sums(party, k)), tuple(month_sums(words, party, k)[1:]))
+            calls.refused("no sums", 16, None, lambda: month.sums(party, N // 2 + 1))
 
 
 def check_of_pair(calls):
@@ -184,7 +190,8 @@ def check_counts(calls):
 
 def on_a_block(month):
     """The calls that take the block of a recording, as functions of recording, start, length and allowance."""
-    return {"Spectrum": mealbis.spectrum, "Cosine": mealbis.cosine, "the month": month.add,
+    return {"Spectrum": mealbis.spectrum, "Cosine": mealbis.cosine,
+            "the month, party 1": functools.partial(month.add, 1), "the month, party 2": functools.partial(month.add, 2),
             "the mark": lambda recording, start, length, allowance=UNBOUNDED: mealbis.mark(recording, start, length, 0, 1, allowance),
             "Pair": lambda recording, start, length, allowance=UNBOUNDED: mealbis.pair([0] * len(recording), recording, start, length, allowance)}
 
@@ -194,7 +201,8 @@ def check_refusals(calls):
     rng = calls.rng
     for N in LENGTHS:
         month = mealbis.Month(N)
-        month.add([1] * N, 0)
+        for party in (1, 2, 2):
+            month.add(party, [party] * N, 0)
         held, enough = month.tobytes(), just_enough(N)
         for name, call in on_a_block(month).items():
             for start in (3, 2 ** 32, 2 ** 64 - N, UNBOUNDED):
@@ -206,7 +214,7 @@ def check_refusals(calls):
             for told, x, place in out_of_range(rng, N):
                 calls.refused("%s, %s" % (name, told), 6, 5 + place, lambda: call([0, 1, *OUT[:3], *x, *OUT], 5, N))
             for length in BAD_LENGTHS:
-                calls.refused("%s, N %d" % (name, length), 13 if name == "the month" else 1, None, lambda: call([1] * 8, 0, length))
+                calls.refused("%s, N %d" % (name, length), 13 if "the month" in name else 1, None, lambda: call([1] * 8, 0, length))
         calls.equal("the month", month.tobytes(), held)
     for figures in ((-1, 1), (0, 0), (0, 1_000_001), (-2 ** 31, -2 ** 31), (2 ** 31 - 1, 2 ** 31 - 1)):
         calls.refused("figures", 12, None, lambda: mealbis.mark([1] * 8, 0, 8, *figures))
@@ -234,18 +242,9 @@ def check_other_refusals(calls):
     for number, place, wrong in ((7, None, b""), (7, None, data[:7]), (8, None, bytes(8)), (9, None, data[:-1]), (9, None, data + b"\0"),
                                  (1, None, data[:4] + b"\3" + data[5:]), (6, 1, data[:-1] + b"\x7f"), (6, 0, data[:11] + b"\x7f" + data[12:])):
         calls.refused("a file of %d bytes" % len(wrong), number, place, lambda: mealbis.read(wrong))
-    month = mealbis.Month(1)
-    full = mealbis.Month.frombytes(array.array("q", [1, MOST_BLOCKS - 1] + [0] * (MONTH_WORDS - 2)).tobytes())
-    full.add([7], 0)
-    calls.equal("the last block", (full.blocks, full.sums(0)), (MOST_BLOCKS, (7, 0)))
-    calls.refused("a full month", 14, None, lambda: full.add([7], 0))
-    calls.refused("another length", 13, None, lambda: full.add([7, 7], 0, 2))
-    calls.refused("begun for 3", 1, None, lambda: full.begin(3))
-    calls.equal("a month of none", (full.length, full.blocks, set(full.tobytes())), (0, 0, {0}))
-    calls.refused("a month of none", 13, None, lambda: full.add([7], 0))
-    calls.raises("a month cut short", ValueError, lambda: mealbis.Month.frombytes(month.tobytes()[1:]))
     calls.equal("in words", str(mealbis.Refused(6, 9)), "refused 6: a sample is out of range, at place 9")
-    calls.equal("in words", str(mealbis.Refused(14)), "refused 14: the month holds 100,000 blocks")
+    calls.equal("in words", str(mealbis.Refused(14)), "refused 14: the party holds 50,000 blocks in the month")
+    calls.equal("in words", str(mealbis.Refused(15)), "refused 15: the party is neither 1 nor 2")
     again = pickle.loads(pickle.dumps(mealbis.Refused(10, 3)))
     calls.equal("pickled", (again.number, again.place, again.reason), (10, 3, mealbis.reason(10)))
 
@@ -258,7 +257,10 @@ def check_numbers(calls):
         calls.raises("allowance", OverflowError, lambda: mealbis.spectrum([1] * 8, 0, 8, wrong))
         calls.raises("length", OverflowError, lambda: mealbis.counts(wrong))
         calls.raises("length", OverflowError, lambda: mealbis.Month(wrong))
-        calls.raises("k", OverflowError, lambda: mealbis.Month(8).sums(wrong))
+        calls.raises("k", OverflowError, lambda: mealbis.Month(8).sums(1, wrong))
+        calls.raises("party", OverflowError, lambda: mealbis.Month(8).add(wrong, [1] * 8, 0))
+        calls.raises("party", OverflowError, lambda: mealbis.Month(8).blocks(wrong))
+        calls.raises("party", OverflowError, lambda: mealbis.Month(8).sums(wrong, 0))
     for wrong in (2 ** 31, -2 ** 31 - 1, 2 ** 32 + 1, 2 ** 64):
         calls.raises("a sample", OverflowError, lambda: mealbis.spectrum([wrong], 0, 1))
         calls.raises("a sample of 64 bits", OverflowError, lambda: mealbis.spectrum(array.array("q", [min(wrong, 2 ** 62)]), 0, 1))
@@ -268,6 +270,9 @@ def check_numbers(calls):
         calls.raises("samples %r" % (wrong,), TypeError, lambda: mealbis.spectrum(wrong, 0, 1))
     for wrong in (1.0, "1", None):
         calls.raises("length", TypeError, lambda: mealbis.spectrum([1], 0, wrong))
+        calls.raises("party", TypeError, lambda: mealbis.Month(1).add(wrong, [1], 0))
+        calls.raises("party", TypeError, lambda: mealbis.Month(1).blocks(wrong))
+        calls.raises("party", TypeError, lambda: mealbis.Month(1).sums(wrong, 0))
     for wrong in ("text", 5, [1, 2], None):
         calls.raises("a file", TypeError, lambda: mealbis.read(wrong))
 
@@ -292,7 +297,7 @@ def same_in(calls, name, kinds, shown):
             rows = [words for result in results[:3] for words in result if not isinstance(words, int)] + [results[3]]
             calls.equal("their kind", {shown(words) for words in rows}, {shown(made([1])) if name == "NumPy" else "i"})
             month = mealbis.Month(N)
-            calls.equal("a month", spent(month.add(one, 1)), wanted[0])
+            calls.equal("a month", spent(month.add(2, one, 1)), wanted[0])
 
 
 def check_rows(calls):
@@ -356,7 +361,7 @@ def check_counts_lent(calls):
         mealbis._loaded = watched
         for N, kind in itertools.product(LENGTHS, (list, lambda words: array.array("i", words), lambda words: array.array("q", words))):
             a, b, row = kind([1] * (N + 3)), kind([2] * (N + 3)), kind([3] * (N // 2 + 1))
-            mealbis.spectrum(a, 1, N), mealbis.mark(a, 1, N, 0, 1), mealbis.cosine(a, 1, N), mealbis.pair(a, b, 1, N), mealbis.Month(N).add(a, 1)
+            mealbis.spectrum(a, 1, N), mealbis.mark(a, 1, N, 0, 1), mealbis.cosine(a, 1, N), mealbis.pair(a, b, 1, N), mealbis.Month(N).add(2, a, 1)
             mealbis.inverse_dct(a, N), mealbis.page(row, row, N), mealbis.read(mealbis.write(a, b, N))
             rows, whole, work, file = {"cosine": N // 2 + 1, "sine": N // 2 + 1}, N + 3, scratch_words(N), 8 + 8 * (N + 3)
             of_spectrum = {"recording": whole, **rows, "scratch": work}
@@ -373,21 +378,116 @@ def check_counts_lent(calls):
         calls.equal("a count of words of %d bytes" % size, mealbis._Lent(word, words).given[1] * size, memoryview(words).nbytes)
 
 
+# --- months ----------------------------------------------------------------------------
+
 def check_months(calls):
-    """A month stored and taken up again, and begun again."""
+    """A month stored and taken up again, and begun again for both parties."""
     rng = calls.rng
     for N in LENGTHS:
         month = mealbis.Month(N)
         blocks = [random_block(rng, N) for _ in range(4)]
-        for x in blocks[:2]:
-            month.add(x, 0, N, tallied_counts(N).spectrum_products)
+        for party in PARTIES:
+            month.add(party, blocks[party - 1], 0, N, tallied_counts(N).spectrum_products)
         taken_up = mealbis.Month.frombytes(month.tobytes())
         for x in blocks[2:]:
-            taken_up.add([9] + x, 1)
-        calls.equal("blocks", (month.blocks, taken_up.blocks, repr(month)), (2, 4, "<Month of %d, 2 blocks>" % N))
-        calls.equal("the sums", list(taken_up.sums(0)), [sum(map(sum, blocks)), 0])
-        month.begin(1024 // N)
-        calls.equal("begun again", (month.length, month.blocks, tuple(month.sums(0))), (1024 // N, 0, (0, 0)))
+            taken_up.add(2, [9] + x, 1)
+        calls.equal("blocks", (*map(month.blocks, PARTIES), *map(taken_up.blocks, PARTIES)), (1, 1, 1, 3))
+        calls.equal("as it is shown", repr(taken_up), "<Month of %d, 1 and 3 blocks>" % N)
+        calls.equal("the sums of party 1", list(taken_up.sums(1, 0)), [sum(blocks[0]), 0])
+        calls.equal("the sums of party 2", list(taken_up.sums(2, 0)), [sum(map(sum, blocks[1:])), 0])
+        taken_up.begin(1024 // N)
+        calls.equal("begun again", (taken_up.length, *map(taken_up.blocks, PARTIES)), (1024 // N, 0, 0))
+        calls.equal("no sums", [tuple(taken_up.sums(party, 0)) for party in PARTIES], [(0, 0)] * 2)
+
+
+def held_month(N, *blocks):
+    """A month of N with these block numbers of the parties, and sums of 0."""
+    words = [month_mark(N)] + [0] * (MONTH_WORDS - 1)
+    for party in PARTIES:
+        words[account(party)] = blocks[party - 1]
+    return mealbis.Month.frombytes(array.array("q", words).tobytes())
+
+
+def check_full_months(calls):
+    """The last block of a party and one more, whatever the other holds; a month whose beginning is refused."""
+    for party, others in itertools.product(PARTIES, (0, 1, MOST_BLOCKS - 1, MOST_BLOCKS)):
+        full = held_month(1, *((MOST_BLOCKS - 1, others) if party == 1 else (others, MOST_BLOCKS - 1)))
+        full.add(party, [7], 0)
+        calls.equal("the last block", (full.blocks(party), full.sums(party, 0)), (MOST_BLOCKS, (7, 0)))
+        calls.equal("the other party", (full.blocks(3 - party), full.sums(3 - party, 0)), (others, (0, 0)))
+        held = full.tobytes()
+        calls.refused("a full party", 14, None, lambda: full.add(party, [7], 0))
+        calls.refused("another length", 13, None, lambda: full.add(party, [7, 7], 0, 2))
+        calls.equal("it stays", full.tobytes(), held)
+        calls.refused("begun for 3", 1, None, lambda: full.begin(3))
+        calls.equal("a month of none", (full.length, *map(full.blocks, PARTIES), set(full.tobytes())), (0, 0, 0, {0}))
+        calls.refused("a month of none", 13, None, lambda: full.add(party, [7], 0))
+        calls.refused("its sums", 16, None, lambda: full.sums(party, 0))
+
+
+def check_parties(calls):
+    """A party that is neither 1 nor 2 is refused by 15 before all else, in a month with blocks, a full one and one of none, which stay."""
+    for N, party in itertools.product(LENGTHS, UNKNOWN):
+        none = mealbis.Month(N)
+        calls.refused("begun for 3", 1, None, lambda: none.begin(3))
+        for name, month in (("blocks", held_month(N, 3, 4)), ("none left", held_month(N, MOST_BLOCKS, MOST_BLOCKS)), ("no length", none)):
+            held, name = month.tobytes(), "party %d in a month of %d with %s" % (party, N, name)
+            for block in (([1] * N, 0), ([1] * N, 0, N), ([1] * N, 0, N // 2), ([1] * N, 0, 3), ([1] * N, 1, N), ([1] * N, 2 ** 64 - 1, N),
+                          ([], 0, N), ([1] * N, 0, N, 0), ([OUT[0]] * N, 0, N)):
+                calls.refused(name, 15, None, lambda: month.add(party, *block))
+            calls.refused(name + ", its blocks", 15, None, lambda: month.blocks(party))
+            for k in (0, N // 2, N // 2 + 1, 2 ** 64 - 1):
+                calls.refused(name + ", its sums", 15, None, lambda: month.sums(party, k))
+            calls.equal(name + ", which stays", month.tobytes(), held)
+
+
+def outcome(call):
+    """What a call gives, or by what number and at which place it is refused."""
+    try:
+        return spent(call())
+    except mealbis.Refused as refused:
+        return refused.number, refused.place
+
+
+def check_apart(calls):
+    """Blocks of both parties, some of them refused: each party is answered as in a month that the other does not add to, and has its sums."""
+    rng = calls.rng
+    for N, first in itertools.product(LENGTHS, PARTIES):
+        second, answers = 3 - first, set()
+        blocks = {first: MOST_BLOCKS - 5, second: 0}
+        both, alone = held_month(N, blocks[1], blocks[2]), {first: held_month(N, *[MOST_BLOCKS - 5] * 2), second: mealbis.Month(N)}
+        for turn in range(60):
+            party, x, length = second if turn % 3 == 1 else first, random_block(rng, N), N if turn % 5 else 2 * N
+            if turn % 4 == 0:
+                x[rng.randrange(N)] = rng.choice(OUT)
+            got = outcome(lambda: both.add(party, x, 0, length))
+            answers.add((party, got[0] if len(got) == 2 else 0))
+            calls.equal("party %d, beside the other" % party, got, outcome(lambda: alone[party].add(party, x, 0, length)))
+        calls.equal("the answers", answers, {(first, 0), (first, 6), (first, 13), (first, 14), (second, 0), (second, 6), (second, 13)})
+        for party in PARTIES:
+            rows = [[month.blocks(party), *(month.sums(party, k) for k in range(N // 2 + 1))] for month in (both, alone[party])]
+            calls.equal("the account of party %d" % party, *rows)
+
+
+def check_earlier(calls):
+    """A month of an earlier version: of its own size it is not taken up, and in front of today's it has no length, takes no block, and stays."""
+    for N in LENGTHS:
+        words = [N, 7] + [0] * 1026     # the length, the block number, 513 sums of the cosine and 513 of the sine
+        words[2:2 + N // 2 + 1] = words[515:515 + N // 2 + 1] = range(70, 70 + N // 2 + 1)
+        earlier = array.array("q", words).tobytes()
+        calls.raises("of its own size", ValueError, lambda: mealbis.Month.frombytes(earlier), args=("a month has 16440 bytes, not 8224",))
+        for behind in (bytes(8 * (MONTH_WORDS - 1028)), calls.rng.randbytes(8 * (MONTH_WORDS - 1028))):
+            month = mealbis.Month.frombytes(earlier + behind)
+            calls.equal("its length and its block number", (month.length, month.blocks(1)), (0, 7))
+            for party in PARTIES:
+                calls.refused("a block", 13, None, lambda: month.add(party, [1] * N, 0, N))
+                calls.refused("a block of its length", 13, None, lambda: month.add(party, [1] * N, 0))
+                calls.refused("its sums", 16, None, lambda: month.sums(party, 0))
+            calls.equal("it stays", month.tobytes(), earlier + behind)
+    whole = mealbis.Month(1).tobytes()
+    for size in (0, len(whole) - 8, len(whole) - 1, len(whole) + 1, len(whole) + 8):
+        calls.raises("of %d bytes" % size, ValueError, lambda: mealbis.Month.frombytes((whole + whole)[:size]), args=(
+            "a month has %d bytes, not %d" % (len(whole), size),))
 
 
 # --- the library -----------------------------------------------------------------------
@@ -437,7 +537,7 @@ def check_finding(calls):
 
 
 CHECKS = (check_known, check_spectra, check_of_pair, check_stored, check_counts, check_refusals, check_other_refusals, check_numbers, check_rows,
-          check_numpy, check_counts_lent, check_months, check_finding)
+          check_numpy, check_counts_lent, check_months, check_full_months, check_parties, check_apart, check_earlier, check_finding)
 
 
 if __name__ == "__main__":

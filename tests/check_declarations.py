@@ -23,7 +23,7 @@ ROOT = Path(__file__).resolve().parent.parent
 SOURCE, HEADER, RUST, PYTHON = "crates/mealbis/src", "include/mealbis.h", "bindings/rust/mealbis.rs", "bindings/python/mealbis.py"
 
 # what a parameter of the Rattle source is called in the header, where it is not the same
-CALLED = {"real": "re", "imaginary": "im", "told": "answer", ("mealbis_month_sums", "told"): "sums"}
+CALLED = {"real": "re", "imaginary": "im", "told": "answer", ("mealbis_month_blocks", "told"): "blocks", ("mealbis_month_sums", "told"): "sums"}
 
 
 class Pointer(NamedTuple):
@@ -327,8 +327,8 @@ def header_edits(text):
     yield from replaced(text, r"typedef struct \w+ \{.*?\} \w+;", r"\n    \w+ \w+(\[\w+\])?;", ("", "\n    int32_t other;"))
     yield from replaced(text, r"typedef struct mealbis_\w+ \{.*?\}", r"(?<= )\w+(?=;)", ("other",))
     yield from replaced(text, r"MEALBIS_CHECKED uint32_t mealbis_\w+\([^)]*\);", r"(?s).+", ("",))
-    yield from replaced(text, r"#define MEALBIS_(VERSION|MONTH_WORDS) \d+", r"\d+", ("30001", "1027"))
-    yield from replaced(text, r"#define MEALBIS_(FLAT|CLIPPED|PLAIN|MONTH_FULL|NOT_YIELDED) \d+", r"\d+", ("9",))
+    yield from replaced(text, r"#define MEALBIS_(VERSION|MONTH_WORDS|MOST_BLOCKS) \d+", r"\d+", ("40001", "1028", "100000"))
+    yield from replaced(text, r"#define MEALBIS_(FLAT|CLIPPED|PLAIN|MONTH_FULL|UNKNOWN_PARTY|NOT_YIELDED) \d+", r"\d+", ("9",))
     yield from replaced(text, r"static inline const char.*?\n\}", r'(?<=return ")[^"]*', ("other words",))
 
 
@@ -339,7 +339,7 @@ def rust_edits(text):
     yield from replaced(text, r"#\[repr\(C\)\]\s+#\[[^\]]*\]\s+pub struct \w+ \{.*?\}", r"\n    (pub )?\w+: [^,]*,", ("", "\n    pub other: u32,"))
     yield from replaced(text, r"#\[repr\(C\)\]\s+#\[[^\]]*\]\s+pub struct \w+ \{.*?\}", r"#\[repr\(C\)\]", ("",))
     yield from replaced(text, prototypes, r"(?s).+", ("",))
-    yield from replaced(text, r"pub const (VERSION|MONTH_WORDS|FLAT|CLIPPED|PLAIN): \w+ = \d+", r"\d+$", ("9",))
+    yield from replaced(text, r"pub const (VERSION|MONTH_WORDS|MOST_BLOCKS|FLAT|CLIPPED|PLAIN): \w+ = \d+", r"\d+$", ("9",))
     yield from replaced(text, r"pub fn reason.*?\n\}", r'(?<==> ")[^"]*', ("other words",))
 
 
@@ -366,7 +366,7 @@ def python_edits(module):
         yield "another result of " + name, {**module, "DECLARATIONS": {**declarations, name: (ctypes.c_int32, parameters)}}
         yield name + " left out", {**module, "DECLARATIONS": {kept: of for kept, of in declarations.items() if kept != name}}
     yield "another version", {**module, "VERSION": module["VERSION"] + 1}
-    yield "another constant", {**module, "MOST_BLOCKS": 99_999}
+    yield "another constant", {**module, "MOST_BLOCKS": 100_000}
     for reason in module["_REASONS"]:
         yield "another reason", {**module, "_REASONS": {**module["_REASONS"], reason: "other words"}}
 

@@ -4,7 +4,7 @@
     python3 tests/run_examples.py [--library PATH]
 
 What is stored beside the examples was checked against tests/reference.py: examples/months.txt and examples/binder_pages.txt are made by it,
-    python3 tests/call_months.py --example examples/train_crossing.pair > examples/months.txt
+    f=examples/train_crossing.pair; python3 tests/call_months.py --example 1 $f 2 $f 1 $f > examples/months.txt
     python3 tests/call_pages.py --example a examples/train_crossing.pair > examples/binder_pages.txt
 The examples in Python take the shared library, which is built where no other is given. The last line is 'N passed, M failed'.
 """
@@ -106,28 +106,64 @@ def run_sort_blocks(examples, folder):
     programs.run("a file that is none", 1, "examples/sort_blocks.txt", 20000, 6000, says=b"refused 8: ")
 
 
-def doubled(months):
-    """What a month's lines become with every block added twice."""
-    lines = [line.split() for line in months.decode().splitlines()]
-    lines[0][3] = str(2 * int(lines[0][3]))
-    lines[2:] = [[line[0], *(str(2 * int(word)) for word in line[1:])] for line in lines[2:]]
-    return "".join(" ".join(line) + "\n" for line in lines).encode()
+def added_once():
+    """k and its four sums where the crossing is added once, as party 2 does in examples/months.txt."""
+    lines = stored("months.txt").decode().splitlines()
+    return [tuple(map(int, line.split())) for line in lines[lines.index("party 2 blocks 2") + 2:]]
+
+
+def of_parties(length, blocks, rows):
+    """What months prints of a month with so many blocks and these rows of each party."""
+    lines = ["length %d" % length]
+    for party in (0, 1):
+        lines += ["party %d blocks %d" % (party + 1, blocks[party]), "k cosine_a sine_a cosine_b sine_b", *(" ".join(map(str, row)) for row in rows[party])]
+    return "".join(line + "\n" for line in lines).encode()
+
+
+def of_crossings(*times):
+    """The same where party 1 has added the crossing so many times, and party 2 so many."""
+    return of_parties(256, [2 * n for n in times], [[(k, *(n * word for word in words)) for k, *words in added_once()] for n in times])
 
 
 def run_months(examples, folder):
-    programs, silence, other = examples("months"), folder / "silence.pair", folder / "other.pair"
-    silence.write_bytes(pair_file(4096, 1))
+    programs, other, empty = examples("months"), folder / "other.pair", folder / "empty.pair"
     other.write_bytes(pair_file(16, 8))
-    programs.run("of the crossing", 0, CROSSING, prints=stored("months.txt"))
-    programs.run("of the crossing twice", 0, CROSSING, CROSSING, prints=doubled(stored("months.txt")))
-    programs.run("a file that is none", 1, CROSSING, "examples/months.txt", prints=b"", says=b"refused 8: ")
-    programs.run("blocks of another length", 1, CROSSING, other, prints=b"", says=b"refused 13: ")
-    # 24 files are 98,304 blocks, 25 are 102,400
-    long_month = programs.run("a long month", 0, *[silence] * 24)
-    programs.results.equal("months counts its blocks:", long_month.split(b"\n")[0], b"length 1 blocks 98304")
-    programs.run("a full month", 1, *[silence] * 25, prints=b"", says=b"refused 14: ")
-    programs.run("without a file", 2, prints=b"")
-    programs.run("no such file", 2, folder / "none.pair", prints=b"")
+    empty.write_bytes(pair_file(1, 2))
+    programs.run("of two parties", 0, 1, CROSSING, 2, CROSSING, 1, CROSSING, prints=stored("months.txt"))
+    programs.results.equal("examples/months.txt has twice as much for party 1:", of_crossings(2, 1), stored("months.txt"))
+    programs.run("in another order", 0, 2, CROSSING, 1, CROSSING, 1, CROSSING, prints=stored("months.txt"))
+    programs.run("with the parties exchanged", 0, 2, CROSSING, 1, CROSSING, 2, CROSSING, prints=of_crossings(1, 2))
+    programs.run("of party 1 alone", 0, *[1, CROSSING] * 3, prints=of_crossings(3, 0))
+    programs.run("of party 2 alone", 0, 2, CROSSING, prints=of_crossings(0, 1))
+    programs.run("without a block", 0, 3, empty, prints=of_parties(2, (0, 0), [[(k, 0, 0, 0, 0) for k in (0, 1)]] * 2))
+    programs.run("a file that is none", 1, 1, CROSSING, 2, "examples/months.txt", prints=b"", says=b"refused 8: ")
+    programs.run("blocks of another length", 1, 1, CROSSING, 2, other, prints=b"", says=b"refused 13: ")
+    for party in (0, 3, 2 ** 32 + 1, 2 ** 64 - 1):
+        told = b"refused 15: examples/train_crossing.pair: the party is neither 1 nor 2\n"
+        programs.run("party %d" % party, 1, 1, CROSSING, party, CROSSING, prints=b"", says=told)
+        programs.run("party %d, another length" % party, 1, 1, CROSSING, party, other, prints=b"", says=b"refused 15: ")
+    run_full_months(programs, folder)
+    usage = b"usage: months PARTY FILE [PARTY FILE ..]\n"
+    for wrong in ("", "-1", "+1", "1x", "road", 2 ** 64):
+        programs.run("no number, %s" % wrong, 2, 1, CROSSING, wrong, CROSSING, prints=b"", says=usage)
+    for few in ((), (1,), (CROSSING,), (1, CROSSING, 2)):
+        programs.run("%d words" % len(few), 2, *few, prints=b"", says=usage)
+    programs.run("no such file", 2, 1, folder / "none.pair", prints=b"")
+
+
+def run_full_months(programs, folder):
+    """12 files of 4,096 blocks and one of 848 are the 50,000 that a party may add, whatever the other adds."""
+    silence, rest = folder / "silence.pair", folder / "rest.pair"
+    silence.write_bytes(pair_file(4096, 1))
+    rest.write_bytes(pair_file(848, 1))
+    rows = [[(0, 0, 0, 0, 0)]] * 2
+    for party in (1, 2):
+        full, others = [party, silence] * 12 + [party, rest], 3 - party
+        blocks = {party: 50_000, others: 4096}
+        programs.run("party %d is full, and the other adds" % party, 0, *full, others, silence, prints=of_parties(1, (blocks[1], blocks[2]), rows))
+        told = b"refused 14: %s: the party holds 50,000 blocks in the month\n" % bytes(rest)
+        programs.run("a block more of party %d" % party, 1, *full, others, silence, party, rest, prints=b"", says=told)
+    programs.run("both are full", 0, *[1, silence, 2, silence] * 12, 1, rest, 2, rest, prints=of_parties(1, (50_000, 50_000), rows))
 
 
 def sums(pages):
@@ -147,8 +183,7 @@ def run_binder_pages(examples, folder):
     whole = stored("binder_pages.txt")
     programs.run("of a", 0, "a", CROSSING, prints=whole)
     of_b = programs.run("of b", 0, "b", CROSSING)
-    months = {int(line.split()[0]): list(map(int, line.split()[3:])) for line in stored("months.txt").decode().splitlines()[2:]}
-    programs.results.add("the pages of b add up to its month:", sums(of_b) == months)
+    programs.results.add("the pages of b add up to its month:", sums(of_b) == {k: [cosine, sine] for k, _, _, cosine, sine in added_once()})
     programs.run("of one block", 0, "a", CROSSING, 1, prints=whole[len(whole) // 2:])
     many = programs.run("of many blocks", 0, "b", silence)
     programs.results.add("4,096 pages of two lines:", many.count(b"\n") == 8192)

@@ -16,9 +16,11 @@ from library import ROOT, static_library
 
 BUILT = ROOT / "target/self_check"
 CC = os.environ.get("CC", "cc")
-THROWN_AWAY = '#include "mealbis.h"\nvoid begin(mealbis_month *month) { mealbis_month_begin(month, 8); }\n'
+THROWN_AWAY = ('#include "mealbis.h"\nvoid begin(mealbis_month *month) { mealbis_month_begin(month, 8); }\n'
+               'void blocks(mealbis_month *month, mealbis_blocks *told) { mealbis_month_blocks(month, 1, told); }\n')
 EMPTY = "int main(void) { return 0; }\n"
-USES = '#include "mealbis.h"\nint main(void) { mealbis_month month; return (int)(mealbis_month_begin(&month, 8) + mealbis_version() - MEALBIS_VERSION); }\n'
+USES = ('#include "mealbis.h"\nint main(void) { mealbis_month month; mealbis_blocks told; uint32_t begun = mealbis_month_begin(&month, 8);\n'
+        'return (int)(begun + mealbis_month_blocks(&month, 2, &told) + mealbis_version() - MEALBIS_VERSION); }\n')
 
 
 class Results:
@@ -56,7 +58,7 @@ def check_program(results, archive, level):
     results.passed += int(counts[1]) if counts else 0
     results.failed += int(counts[2]) if counts else 0
     stated, taken = stated_stack(), dict(re.findall(r"^(mealbis_\w+): (\d+) bytes of stack$", done.stdout, re.M))
-    results.add("the stack of 12 calls is measured", len(taken) == 12 and len(stated) > 10, done.stdout)
+    results.add("the stack of 13 calls is measured", len(taken) == 13 and len(stated) > 10, done.stdout)
     for name, size in taken.items():
         most = stated.get(name, stated.get("the other calls on a month", 0))
         results.add("the stack of %s" % name, int(size) <= most, "it takes %s bytes, and the header says %d" % (size, most))
@@ -65,7 +67,7 @@ def check_program(results, archive, level):
 def check_warning(results):
     """A compiler that can warns where the number of an answer is thrown away, and of nothing else."""
     done = compiled("-std=c99", "-x", "c", "-", "-c", "-o", "/dev/null", input=THROWN_AWAY)
-    results.add("a number thrown away is warned of", done.returncode == 0 and "unused-result" in done.stdout, done.stdout)
+    results.add("a number thrown away is warned of", done.returncode == 0 and done.stdout.count("unused-result") == 2, done.stdout)
 
 
 def check_languages(results, archive):

@@ -25,6 +25,10 @@ WARNINGS = ["-Wall", "-Wextra", "-Wconversion", "-pedantic", "-Werror"]
 # what stands in the header, and a mistake for it; tried at each place where it stands
 MISTAKES = [
     (r"start, length,(?=\s+work->allowance)", "length, start,"),
+    (r"(?<=month, )party(?=, recording)", "3 - party"),
+    (r"(?<=month, )party(?=, recording)", "1"),
+    (r"(?<=month, )party(?=, recording)", "(party == 1 ? 1 : 2)"),
+    (r"(?<=month, )party(?=, recording)", "(uint32_t)party"),
     (r"work->allowance", "UINT64_MAX"),
     (r"work->first, work->first_words,", "work->second, work->second_words,"),
     (r"work->first_words", "work->scratch_words"),

@@ -28,13 +28,13 @@ import sys
 from pathlib import Path
 from typing import NamedTuple
 
-VERSION = 30000                     # of the header that these declarations belong to: 10000 major + 100 minor + patch
+VERSION = 40000                     # of the header that these declarations belong to: 10000 major + 100 minor + patch
 LENGTHS = (1, 2, 4, 8, 16, 32, 64, 128, 256, 512, 1024)
 LARGEST_SAMPLE = 1_000_000
 LARGEST_REST = 2 ** 29
 MOST_FILE_SAMPLES = 4096
-MOST_BLOCKS = 100_000               # of a month
-MONTH_WORDS = 1028
+MOST_BLOCKS = 50_000                # of a party in a month
+MONTH_WORDS = 2055
 UNBOUNDED = 2 ** 64 - 1             # the allowance of everything
 
 FLAT, CLIPPED, PLAIN = 1, 2, 3      # the marks of a block
@@ -54,7 +54,8 @@ _REASONS = {
     11: "the two recordings differ in length",
     12: "the flat limit is negative, or the clip level is outside 1 to 1,000,000",
     13: "the block's length is not the month's",
-    14: "the month holds 100,000 blocks",
+    14: "the party holds 50,000 blocks in the month",
+    15: "the party is neither 1 nor 2",
     16: "no sum of the month belongs to this k",
 }
 
@@ -89,6 +90,11 @@ class MarkAnswer(ctypes.Structure):
     """Of mealbis_mark."""
     _fields_ = [("products", ctypes.c_uint64), ("sums", ctypes.c_uint64), ("largest_rest", ctypes.c_uint64), ("place", Size),
                 ("mark", ctypes.c_uint64)]
+
+
+class BlocksAnswer(ctypes.Structure):
+    """Of mealbis_month_blocks."""
+    _fields_ = [("blocks", ctypes.c_int64)]
 
 
 class SumsAnswer(ctypes.Structure):
@@ -139,6 +145,7 @@ def _record(kind, name="answer"):
 _BLOCK = ("start", Size), ("length", Size), ("allowance", ctypes.c_uint64)
 _SCRATCH = _buffer("scratch", ctypes.c_int64)
 _MONTH = "month", ctypes.POINTER(MonthWords)
+_PARTY = "party", Size
 
 # What each function returns, and the names and types of its parameters.
 DECLARATIONS = {
@@ -150,10 +157,10 @@ DECLARATIONS = {
         *_buffer("cosine"), *_buffer("sine"), *_SCRATCH, _record(MarkAnswer))),
     "mealbis_month_begin": (ctypes.c_uint32, (_MONTH, ("length", Size))),
     "mealbis_month_add": (ctypes.c_uint32, (
-        _MONTH, *_buffer("recording"), *_BLOCK, *_buffer("cosine"), *_buffer("sine"), *_SCRATCH, _record(Answer))),
+        _MONTH, _PARTY, *_buffer("recording"), *_BLOCK, *_buffer("cosine"), *_buffer("sine"), *_SCRATCH, _record(Answer))),
     "mealbis_month_length": (Size, (_MONTH,)),
-    "mealbis_month_blocks": (ctypes.c_int64, (_MONTH,)),
-    "mealbis_month_sums": (ctypes.c_uint32, (_MONTH, ("k", Size), _record(SumsAnswer, "sums"))),
+    "mealbis_month_blocks": (ctypes.c_uint32, (_MONTH, _PARTY, _record(BlocksAnswer, "blocks"))),
+    "mealbis_month_sums": (ctypes.c_uint32, (_MONTH, _PARTY, ("k", Size), _record(SumsAnswer, "sums"))),
     "mealbis_page": (ctypes.c_uint32, (
         *_buffer("cosine"), *_buffer("sine"), ("length", Size), *_buffer("page", ctypes.c_uint8, "bytes"), _record(PageAnswer))),
     "mealbis_cosine": (ctypes.c_uint32, (
@@ -347,7 +354,7 @@ class Counts(NamedTuple):
 
 
 class Sums(NamedTuple):
-    """The sums of a month for one k."""
+    """The sums of a party in a month for one k."""
     cosine: int
     sine: int
 
@@ -453,17 +460,22 @@ def write(a, b, length):
 
 
 class Month:
-    """The sums of the spectra of many blocks of one length.
+    """The sums of the spectra of many blocks of one length, for two owners: the parties 1 and 2.
 
         >>> month = Month(4)
-        >>> for block in ([1, 2, 3, 4], [0, -7, 0, 2]):
-        ...     _ = month.add(block, 0)
-        >>> month.blocks, month.sums(1)
+        >>> for party, block in (1, [1, 2, 3, 4]), (2, [6, 0, -5, 0]), (1, [0, -7, 0, 2]):
+        ...     _ = month.add(party, block, 0)
+        >>> month.blocks(1), month.sums(1, 1)
         (2, Sums(cosine=-2, sine=-11))
+        >>> month.blocks(2), month.sums(2, 1)
+        (1, Sums(cosine=11, sine=0))
+        >>> month.blocks(3)
+        Traceback (most recent call last):
+        mealbis.Refused: refused 15: the party is neither 1 nor 2
     """
 
     def __init__(self, length):
-        """A month of no blocks. It refuses by 1."""
+        """A month of no blocks, for both parties. It refuses by 1."""
         self._words = MonthWords()
         self.begin(length)
 
@@ -471,11 +483,13 @@ class Month:
         """Begins again, for this length. It refuses by 1; the month then is of the length 0, and no block belongs in it."""
         _accepted(_library().mealbis_month_begin(ctypes.byref(self._words), _size("length", length)))
 
-    def add(self, recording, start, length=None, allowance=UNBOUNDED):
-        """Adds the block from `start` on, of the month's length where none is given, and gives its spectrum. It refuses by 13, 14, 2, 5 and 6;
-        the month then stays as it was."""
+    def add(self, party, recording, start, length=None, allowance=UNBOUNDED):
+        """Adds the block from `start` on for a party, of the month's length where none is given, and gives its spectrum. It refuses by 15, 13, 14,
+        2, 5 and 6; the month then stays as it was."""
+        party = _size("party", party)
+
         def added(*arguments):
-            return _library().mealbis_month_add(ctypes.byref(self._words), *arguments)
+            return _library().mealbis_month_add(ctypes.byref(self._words), party, *arguments)
 
         block = start, self.length if length is None else length, allowance
         rows, answer = _transformed(added, [recording], block, (), _of_spectrum)
@@ -486,15 +500,16 @@ class Month:
         """The length for which it is begun; 0 where that was refused."""
         return _library().mealbis_month_length(ctypes.byref(self._words))
 
-    @property
-    def blocks(self):
-        """How many blocks were added."""
-        return _library().mealbis_month_blocks(ctypes.byref(self._words))
+    def blocks(self, party):
+        """How many blocks the party added. It refuses by 15."""
+        answer = BlocksAnswer()
+        _accepted(_library().mealbis_month_blocks(ctypes.byref(self._words), _size("party", party), ctypes.byref(answer)))
+        return answer.blocks
 
-    def sums(self, k):
-        """The sums of cosine[k] and of sine[k] over the blocks. It refuses by 16."""
-        answer = SumsAnswer()
-        _accepted(_library().mealbis_month_sums(ctypes.byref(self._words), _size("k", k), ctypes.byref(answer)))
+    def sums(self, party, k):
+        """The sums of cosine[k] and of sine[k] over the party's blocks. It refuses by 15 and 16."""
+        party, k, answer = _size("party", party), _size("k", k), SumsAnswer()
+        _accepted(_library().mealbis_month_sums(ctypes.byref(self._words), party, k, ctypes.byref(answer)))
         return Sums(answer.cosine, answer.sine)
 
     def tobytes(self):
@@ -503,7 +518,7 @@ class Month:
 
     @classmethod
     def frombytes(cls, data):
-        """A month taken up again from what tobytes() gave."""
+        """A month taken up again from what tobytes() gave; ValueError where it is of another size, as one of an earlier version is."""
         if len(data) != ctypes.sizeof(MonthWords):
             raise ValueError("a month has %d bytes, not %d" % (ctypes.sizeof(MonthWords), len(data)))
         month = cls.__new__(cls)
@@ -511,4 +526,4 @@ class Month:
         return month
 
     def __repr__(self):
-        return "<Month of %d, %d blocks>" % (self.length, self.blocks)
+        return "<Month of %d, %d and %d blocks>" % (self.length, self.blocks(1), self.blocks(2))

@@ -8,7 +8,7 @@
 #![allow(dead_code)]
 
 // of the header that these declarations belong to; version() is that of the archive
-pub const VERSION: u32 = 30000;
+pub const VERSION: u32 = 40000;
 
 // mealbis_size: 64 bits on every machine
 pub type Size = u64;
@@ -30,12 +30,12 @@ pub mod raw {
         ) -> u32;
         pub fn mealbis_month_begin(month: *mut Month, length: Size) -> u32;
         pub fn mealbis_month_add(
-            month: *mut Month, recording: *const i32, recording_words: Size, start: Size, length: Size, allowance: u64,
+            month: *mut Month, party: Size, recording: *const i32, recording_words: Size, start: Size, length: Size, allowance: u64,
             cosine: *mut i32, cosine_words: Size, sine: *mut i32, sine_words: Size, scratch: *mut i64, scratch_words: Size, answer: *mut Answer,
         ) -> u32;
         pub fn mealbis_month_length(month: *const Month) -> Size;
-        pub fn mealbis_month_blocks(month: *const Month) -> i64;
-        pub fn mealbis_month_sums(month: *const Month, k: Size, sums: *mut Sums) -> u32;
+        pub fn mealbis_month_blocks(month: *const Month, party: Size, blocks: *mut Blocks) -> u32;
+        pub fn mealbis_month_sums(month: *const Month, party: Size, k: Size, sums: *mut Sums) -> u32;
         pub fn mealbis_page(
             cosine: *const i32, cosine_words: Size, sine: *const i32, sine_words: Size, length: Size, page: *mut u8, page_bytes: Size,
             answer: *mut PageAnswer,
@@ -67,7 +67,8 @@ use raw::*;
 
 pub const LONGEST_BLOCK: usize = 1024;
 pub const MOST_FILE_SAMPLES: usize = 4096;
-pub const MONTH_WORDS: usize = 1028;
+pub const MOST_BLOCKS: i64 = 50000; // of a party in a month
+pub const MONTH_WORDS: usize = 2055;
 
 // The words of a spectrum, of the cosine and of the sine.
 pub const fn spectrum_words(length: usize) -> usize {
@@ -107,6 +108,12 @@ pub struct MarkAnswer {
     pub largest_rest: u64,
     pub place: u64,
     pub mark: u64,
+}
+
+#[repr(C)]
+#[derive(Clone, Copy, Debug, Default, PartialEq)]
+pub struct Blocks {
+    pub blocks: i64,
 }
 
 #[repr(C)]
@@ -183,7 +190,8 @@ pub fn reason(number: u32) -> &'static str {
         11 => "the two recordings differ in length",
         12 => "the flat limit is negative, or the clip level is outside 1 to 1,000,000",
         13 => "the block's length is not the month's",
-        14 => "the month holds 100,000 blocks",
+        14 => "the party holds 50,000 blocks in the month",
+        15 => "the party is neither 1 nor 2",
         16 => "no sum of the month belongs to this k",
         _ => "no call of this version gives this number",
     }
@@ -235,7 +243,7 @@ pub fn mark(
     answered(number, answer, place)
 }
 
-// The sums of a month. Its words are private, so that beginning and adding alone make a month.
+// The sums of a month, for two owners: the parties 1 and 2. Its words are private, so that beginning and adding alone make a month.
 #[repr(C)]
 #[derive(Clone)]
 pub struct Month {
@@ -249,15 +257,15 @@ impl Month {
         answered(number, month, 0)
     }
 
-    // Spectrum, with its coefficients added to the sums.
+    // Spectrum, with its coefficients added to the party's sums.
     pub fn add(
-        &mut self, recording: &[i32], start: usize, length: usize, allowance: u64, cosine: &mut [i32], sine: &mut [i32], scratch: &mut [i64],
+        &mut self, party: usize, recording: &[i32], start: usize, length: usize, allowance: u64, cosine: &mut [i32], sine: &mut [i32], scratch: &mut [i64],
     ) -> Result<Answer, Refused> {
         let mut answer = Answer::default();
         let number = unsafe {
             mealbis_month_add(
-                self, recording.as_ptr(), recording.len() as Size, start as Size, length as Size, allowance, cosine.as_mut_ptr(), cosine.len() as Size,
-                sine.as_mut_ptr(), sine.len() as Size, scratch.as_mut_ptr(), scratch.len() as Size, &mut answer,
+                self, party as Size, recording.as_ptr(), recording.len() as Size, start as Size, length as Size, allowance, cosine.as_mut_ptr(),
+                cosine.len() as Size, sine.as_mut_ptr(), sine.len() as Size, scratch.as_mut_ptr(), scratch.len() as Size, &mut answer,
             )
         };
         let place = answer.place;
@@ -268,15 +276,17 @@ impl Month {
         unsafe { mealbis_month_length(self) as usize }
     }
 
-    // How many blocks were added.
-    pub fn blocks(&self) -> i64 {
-        unsafe { mealbis_month_blocks(self) }
+    // How many blocks the party added.
+    pub fn blocks(&self, party: usize) -> Result<i64, Refused> {
+        let mut told = Blocks::default();
+        let number = unsafe { mealbis_month_blocks(self, party as Size, &mut told) };
+        answered(number, told.blocks, 0)
     }
 
-    // The sums of the cosine and of the sine coefficients for k.
-    pub fn sums(&self, k: usize) -> Result<Sums, Refused> {
+    // The party's sums of the cosine and of the sine coefficients for k.
+    pub fn sums(&self, party: usize, k: usize) -> Result<Sums, Refused> {
         let mut sums = Sums::default();
-        let number = unsafe { mealbis_month_sums(self, k as Size, &mut sums) };
+        let number = unsafe { mealbis_month_sums(self, party as Size, k as Size, &mut sums) };
         answered(number, sums, 0)
     }
 }

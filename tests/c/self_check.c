@@ -1,7 +1,8 @@
 /*
  * What only C can see of the library, as linked, and of include/mealbis.h: the versions, the sizes and numbers of the macros, records without a gap,
- * each field of each record, a reason for each number, pointers aligned as their type asks and no more, NULL with count 0, and the stack. What the
- * calls answer is compared by the other tests. Prints each check that fails, and 'N passed, M failed'; with --stack also the stack of each call.
+ * each field of each record, a reason for each number, a month's words by the header's description, parties that are none, months of the versions
+ * before, pointers aligned as their type asks and no more, NULL with count 0, and the stack. What the calls answer is compared by the other tests.
+ * Prints each check that fails, and 'N passed, M failed'; with --stack also the stack of each call.
  */
 #define _XOPEN_SOURCE 700
 #include <inttypes.h>
@@ -14,6 +15,8 @@
 
 #define LONGEST MEALBIS_LONGEST_BLOCK
 #define STACK_PROMISED 8192
+#define MARK_OF(n) (INT64_C(65536) * 40000 + (n)) /* words[0] of a month of n */
+#define ACCOUNT(party) ((party) == 1 ? 1 : 1028)  /* where a party's words begin */
 #define WORK(n) scratch, MEALBIS_SCRATCH_WORDS(n) /* just enough scratch for n samples, as two parameters */
 
 static int32_t x[LONGEST + 8], y[LONGEST + 8], one[LONGEST + 8], two[LONGEST + 8], kept[LONGEST + 8], stored[LONGEST + 8];
@@ -28,6 +31,7 @@ static mealbis_read_answer read_answer;
 static mealbis_write_answer write_answer;
 static mealbis_page_answer page_answer;
 static mealbis_inverse_answer inverse_answer;
+static mealbis_blocks month_blocks;
 static mealbis_sums month_sums;
 static int passed, failed;
 
@@ -57,6 +61,7 @@ static void fill(void)
     memset(&write_answer, 0x55, sizeof write_answer);
     memset(&page_answer, 0x55, sizeof page_answer);
     memset(&inverse_answer, 0x55, sizeof inverse_answer);
+    memset(&month_blocks, 0x55, sizeof month_blocks);
     memset(&month_sums, 0x55, sizeof month_sums);
 }
 
@@ -90,6 +95,19 @@ static void month_refused(uint32_t expected, const char *what)
     check(!memcmp(&month, &kept_month, sizeof month), what, expected);
 }
 
+/* What a party's account tells is as it should be, and the month as it was. */
+static void blocks_told(uint32_t expected, int64_t blocks, const char *what)
+{
+    check(number == expected && month_blocks.blocks == blocks, what, number);
+    check(!memcmp(&month, &kept_month, sizeof month), what, expected);
+}
+
+static void sums_told(uint32_t expected, int64_t cosine, int64_t sine, const char *what)
+{
+    check(number == expected && month_sums.cosine == cosine && month_sums.sine == sine, what, number);
+    check(!memcmp(&month, &kept_month, sizeof month), what, expected);
+}
+
 static void inverse_refused(uint32_t expected, const char *what)
 {
     check(number == expected && inverse_answer.place == 0, what, number);
@@ -117,6 +135,8 @@ static void page_refused(uint32_t expected, const char *what)
 #define SPECTRUM(...) (fill(), number = mealbis_spectrum(__VA_ARGS__, &answer))
 #define MARK(...) (fill(), number = mealbis_mark(__VA_ARGS__, &mark_answer))
 #define ADD(...) (fill(), kept_month = month, number = mealbis_month_add(&month, __VA_ARGS__, &answer))
+#define BLOCKS(...) (fill(), kept_month = month, number = mealbis_month_blocks(&month, __VA_ARGS__, &month_blocks))
+#define SUMS(...) (fill(), kept_month = month, number = mealbis_month_sums(&month, __VA_ARGS__, &month_sums))
 #define COSINE(...) (fill(), number = mealbis_cosine(__VA_ARGS__, &answer))
 #define PAIR(...) (fill(), number = mealbis_pair(__VA_ARGS__, &answer))
 #define INVERSE(...) (fill(), number = mealbis_inverse_dct(__VA_ARGS__, &inverse_answer))
@@ -137,6 +157,8 @@ static void layouts(void)
     RECORD(mealbis_mark_answer, 5);
     FIELD(mealbis_mark_answer, products, 0), FIELD(mealbis_mark_answer, sums, 1), FIELD(mealbis_mark_answer, largest_rest, 2);
     FIELD(mealbis_mark_answer, place, 3), FIELD(mealbis_mark_answer, mark, 4);
+    RECORD(mealbis_blocks, 1);
+    FIELD(mealbis_blocks, blocks, 0);
     RECORD(mealbis_sums, 2);
     FIELD(mealbis_sums, cosine, 0), FIELD(mealbis_sums, sine, 1);
     RECORD(mealbis_page_answer, 1);
@@ -172,12 +194,12 @@ static void fields(void)
     MARK(first, 4, 0, 4, 99, 1, 5, one, 3, two, 3, WORK(4)), check(mark_answer.mark == MEALBIS_PLAIN, "plain", mark_answer.mark);
     MARK(bad, 4, 2, 2, 99, 1, 5, one, 2, two, 2, WORK(2)), check(number == 6 && mark_answer.place == 3, "place of mark", mark_answer.place);
     number = mealbis_month_begin(&month, 4);
-    check(number == 0 && mealbis_month_length(&month) == 4 && mealbis_month_blocks(&month) == 0, "a month", number);
-    ADD(first, 4, 0, 4, 0, one, 3, two, 3, WORK(4)), check(number == 0 && answer.sums == 6 && mealbis_month_blocks(&month) == 1, "a block", number);
-    number = mealbis_month_sums(&month, 1, &month_sums);
-    check(number == 0 && month_sums.cosine == -2 && month_sums.sine == -2, "sums for 1", number);
-    number = mealbis_month_sums(&month, 0, &month_sums);
-    check(number == 0 && month_sums.cosine == 10 && month_sums.sine == 0, "sums for 0", number);
+    check(number == 0 && mealbis_month_length(&month) == 4, "a month", number);
+    ADD(1, first, 4, 0, 4, 0, one, 3, two, 3, WORK(4)), check(number == 0 && answer.sums == 6 && answer.products == 0, "fields of a block", number);
+    ADD(1, bad, 4, 0, 4, 0, one, 3, two, 3, WORK(4)), check(number == 6 && answer.place == 3 && answer.sums == 0, "place of a block", answer.place);
+    BLOCKS(1), blocks_told(0, 1, "a block");
+    SUMS(1, 1), sums_told(0, -2, -2, "sums for 1");
+    SUMS(1, 0), sums_told(0, 10, 0, "sums for 0");
     PRINT(first, 4, first, 4, 4, made, sizeof made), check(number == 0 && page_answer.bytes == 124, "bytes of a page", page_answer.bytes);
     INVERSE(far, 2, 2, one, 2), check(number == 10 && inverse_answer.place == 1, "place of the inverse DCT", inverse_answer.place);
     fill();
@@ -223,10 +245,8 @@ static void numbers(void)
     static const int32_t top[1] = {MEALBIS_LARGEST_SAMPLE}, above[1] = {MEALBIS_LARGEST_SAMPLE + 1}, tie[4] = {13726, 0, 11996, 0};
     static int32_t long_one[MEALBIS_MOST_FILE_SAMPLES + 1];
     static uint8_t long_file[MEALBIS_FILE_BYTES(MEALBIS_MOST_FILE_SAMPLES) + 8];
-    static struct { int64_t before; mealbis_month month; int64_t behind; } guarded;
     static const uint8_t none[8] = {0}, odd[16] = {1, 0, 0, 0, 3};
     mealbis_size i;
-    int zeros = 1;
     for (i = 1; i <= LONGEST; i *= 2)
         sizes(i);
     check(i == 2 * LONGEST && MEALBIS_WORDS(tie) == 4, "MEALBIS_LONGEST_BLOCK, MEALBIS_WORDS", i);
@@ -244,19 +264,6 @@ static void numbers(void)
     WRITE(long_one, MEALBIS_MOST_FILE_SAMPLES + 1, long_one, 1, 4, made, sizeof made), write_refused(MEALBIS_BAD_SAMPLE_COUNT, "above MEALBIS_MOST_FILE_SAMPLES");
     number = mealbis_write(long_one, MEALBIS_MOST_FILE_SAMPLES, long_one, MEALBIS_MOST_FILE_SAMPLES, 4, long_file, sizeof long_file, &write_answer);
     check(number == MEALBIS_ACCEPTED && write_answer.bytes == sizeof long_file - 8, "MEALBIS_MOST_FILE_SAMPLES", number);
-    /* a month: its words and no more, its last block, and one more */
-    memset(&guarded, 0x55, sizeof guarded);
-    number = mealbis_month_begin(&guarded.month, LONGEST);
-    for (i = 1; i < MEALBIS_MONTH_WORDS; i++)
-        zeros = zeros && guarded.month.words[i] == 0;
-    check(number == MEALBIS_ACCEPTED && zeros && guarded.month.words[0] == LONGEST && guarded.before == guarded.behind, "MEALBIS_MONTH_WORDS", number);
-    number = mealbis_month_begin(&month, 1);
-    for (i = 0; i < MEALBIS_MOST_BLOCKS && number == 0; i++)
-        number = mealbis_month_add(&month, top, 1, 0, 1, 0, one, 1, two, 1, WORK(1), &answer);
-    check(i == MEALBIS_MOST_BLOCKS && mealbis_month_blocks(&month) == MEALBIS_MOST_BLOCKS, "MEALBIS_MOST_BLOCKS", i);
-    ADD(top, 1, 0, 1, 0, one, 1, two, 1, WORK(1)), month_refused(MEALBIS_MONTH_FULL, "above MEALBIS_MOST_BLOCKS");
-    ADD(top, 1, 0, 2, 0, one, 1, two, 1, WORK(1)), month_refused(MEALBIS_OTHER_LENGTH, "MEALBIS_OTHER_LENGTH");
-    check(mealbis_month_sums(&month, 1, &month_sums) == MEALBIS_NOT_YIELDED, "MEALBIS_NOT_YIELDED", 1);
 }
 
 /* Each number that a call gives has a reason of its own. */
@@ -264,92 +271,269 @@ static void reasons(void)
 {
     const char *none = mealbis_reason(17);
     uint32_t i, j;
-    check(!strcmp(none, mealbis_reason(15)) && !strcmp(none, mealbis_reason(UINT32_MAX)), "no reason", 15);
-    for (i = 0; i <= 16; i++)
+    check(!strcmp(none, mealbis_reason(18)) && !strcmp(none, mealbis_reason(UINT32_MAX)), "no reason", 18);
+    for (i = 0; i <= 17; i++)
         for (j = 0; j < i; j++)
             check(strcmp(mealbis_reason(i), mealbis_reason(j)) != 0, "a reason of its own", i);
     check(!strcmp(mealbis_reason(MEALBIS_SCRATCH_TOO_SHORT), "scratch is too short"), "the reason of 4", 4);
+    check(!strcmp(mealbis_reason(MEALBIS_MONTH_FULL), "the party holds 50,000 blocks in the month"), "the reason of 14", 14);
+    check(!strcmp(mealbis_reason(MEALBIS_UNKNOWN_PARTY), "the party is neither 1 nor 2"), "the reason of 15", 15);
+}
+
+/* ---- months */
+
+/* Beginning writes the words of a month and no more, in both answers. */
+static void begun_months(void)
+{
+    static struct { int64_t before; mealbis_month month; int64_t behind; } guarded;
+    mealbis_size n, i;
+    for (n = 0; n <= LONGEST; n = n ? 2 * n : 1) {
+        int zeros = 1;
+        memset(&guarded, 0x55, sizeof guarded);
+        number = mealbis_month_begin(&guarded.month, n);
+        for (i = 1; i < MEALBIS_MONTH_WORDS; i++)
+            zeros = zeros && guarded.month.words[i] == 0;
+        check(number == (n ? MEALBIS_ACCEPTED : MEALBIS_BAD_LENGTH) && zeros && guarded.before == guarded.behind, "MEALBIS_MONTH_WORDS", n);
+        check(guarded.month.words[0] == (n ? MARK_OF((int64_t)n) : 0) && mealbis_month_length(&guarded.month) == n, "the mark", n);
+    }
+}
+
+/* Every word of a month, and what is read of it, after blocks worked by hand: a party's block changes that party's account and no other word. */
+static void accounts(void)
+{
+    static const int32_t road[4] = {1, 2, 3, 4}, rail[4] = {0, -7, 0, 2};
+    static const struct { int64_t word; int at; } held[] = {
+        {2621440004, 0}, {2, 1}, {20, 2}, {-4, 3}, {-4, 4}, {-4, 516}, {1, 1028}, {-5, 1029}, {5, 1031}, {-9, 1543}};
+    static mealbis_month expected;
+    size_t i;
+    for (i = 0; i < MEALBIS_WORDS(held); i++)
+        expected.words[held[i].at] = held[i].word;
+    check(mealbis_month_begin(&month, 4) == 0, "a month for two parties", 4);
+    ADD(1, road, 4, 0, 4, 0, one, 3, two, 3, WORK(4)), check(number == 0, "a block of party 1", number);
+    kept_month.words[1] = 1, kept_month.words[2] = 10, kept_month.words[3] = kept_month.words[4] = kept_month.words[516] = -2;
+    check(!memcmp(&month, &kept_month, sizeof month), "the account of party 1", 1);
+    ADD(2, rail, 4, 0, 4, 0, one, 3, two, 3, WORK(4)), check(number == 0, "a block of party 2", number);
+    ADD(1, road, 4, 0, 4, 0, one, 3, two, 3, WORK(4)), check(number == 0, "a second block of party 1", number);
+    check(!memcmp(&month, &expected, sizeof month), "both accounts", 2);
+    BLOCKS(1), blocks_told(0, 2, "the blocks of party 1");
+    BLOCKS(2), blocks_told(0, 1, "the blocks of party 2");
+    SUMS(1, 0), sums_told(0, 20, 0, "sums of party 1 for 0");
+    SUMS(2, 0), sums_told(0, -5, 0, "sums of party 2 for 0");
+    SUMS(1, 1), sums_told(0, -4, -4, "sums of party 1 for 1");
+    SUMS(2, 1), sums_told(0, 0, -9, "sums of party 2 for 1");
+    SUMS(1, 3), sums_told(MEALBIS_NOT_YIELDED, 0, 0, "MEALBIS_NOT_YIELDED");
+    SUMS(2, 3), sums_told(MEALBIS_NOT_YIELDED, 0, 0, "MEALBIS_NOT_YIELDED");
+    ADD(2, rail, 4, 0, 2, 0, one, 3, two, 3, WORK(4)), month_refused(MEALBIS_OTHER_LENGTH, "MEALBIS_OTHER_LENGTH");
+}
+
+/* A party's blocks up to the last, and one more; the other holds so many. */
+static void fill_party(mealbis_size party, int64_t others)
+{
+    static const int32_t top[1] = {MEALBIS_LARGEST_SAMPLE};
+    mealbis_size i;
+    for (i = 0, number = 0; i < MEALBIS_MOST_BLOCKS && number == 0; i++)
+        number = mealbis_month_add(&month, party, top, 1, 0, 1, 0, one, 1, two, 1, WORK(1), &answer);
+    check(i == MEALBIS_MOST_BLOCKS && number == 0, "MEALBIS_MOST_BLOCKS", i);
+    BLOCKS(party), blocks_told(0, MEALBIS_MOST_BLOCKS, "a full party");
+    BLOCKS(3 - party), blocks_told(0, others, "the other party");
+    SUMS(party, 0), sums_told(0, INT64_C(50000000000), 0, "the sums of a full party");
+    ADD(party, top, 1, 0, 1, 0, one, 1, two, 1, WORK(1)), month_refused(MEALBIS_MONTH_FULL, "above MEALBIS_MOST_BLOCKS");
+    ADD(party, top, 1, 0, 2, 0, one, 1, two, 1, WORK(1)), month_refused(MEALBIS_OTHER_LENGTH, "another length than of a full month");
+    ADD(party, NULL, 0, 0, 1, 0, NULL, 0, NULL, 0, NULL, 0), month_refused(MEALBIS_MONTH_FULL, "above MEALBIS_MOST_BLOCKS, nothing");
+}
+
+/* Each party is full by its own blocks, whether it is the first or the second to be so. */
+static void full_months(void)
+{
+    check(mealbis_month_begin(&month, 1) == 0, "a month to be filled", 1);
+    fill_party(1, 0), fill_party(2, MEALBIS_MOST_BLOCKS);
+    check(mealbis_month_begin(&month, 1) == 0, "a month to be filled", 2);
+    fill_party(2, 0), fill_party(1, MEALBIS_MOST_BLOCKS);
+}
+
+/* A party that is neither 1 nor 2, in the month as it is: refused before all else, and nothing but the record is written. */
+static void unknown_party(mealbis_size party)
+{
+    static const int32_t bad[8] = {MEALBIS_LARGEST_SAMPLE + 1};
+    ADD(party, x, 8, 0, 8, 99, one, 5, two, 5, WORK(8)), month_refused(MEALBIS_UNKNOWN_PARTY, "MEALBIS_UNKNOWN_PARTY");
+    ADD(party, x, 8, 0, 4, 99, one, 5, two, 5, WORK(8)), month_refused(MEALBIS_UNKNOWN_PARTY, "an unknown party, another length");
+    ADD(party, x, 8, 0, 7, 99, one, 5, two, 5, WORK(8)), month_refused(MEALBIS_UNKNOWN_PARTY, "an unknown party, length 7");
+    ADD(party, x, 8, 1, 8, 99, one, 5, two, 5, WORK(8)), month_refused(MEALBIS_UNKNOWN_PARTY, "an unknown party, start 1");
+    ADD(party, x, 8, 0, 8, 99, one, 4, two, 5, WORK(8)), month_refused(MEALBIS_UNKNOWN_PARTY, "an unknown party, a short cosine");
+    ADD(party, x, 8, 0, 8, 99, one, 5, two, 4, WORK(8)), month_refused(MEALBIS_UNKNOWN_PARTY, "an unknown party, a short sine");
+    ADD(party, x, 8, 0, 8, 99, one, 5, two, 5, WORK(4)), month_refused(MEALBIS_UNKNOWN_PARTY, "an unknown party, short scratch");
+    ADD(party, x, 8, 0, 8, 1, one, 5, two, 5, WORK(8)), month_refused(MEALBIS_UNKNOWN_PARTY, "an unknown party, a small allowance");
+    ADD(party, bad, 8, 0, 8, 99, one, 5, two, 5, WORK(8)), month_refused(MEALBIS_UNKNOWN_PARTY, "an unknown party, out of range");
+    ADD(party, NULL, 0, 0, 8, 0, NULL, 0, NULL, 0, NULL, 0), month_refused(MEALBIS_UNKNOWN_PARTY, "an unknown party, nothing");
+    BLOCKS(party), blocks_told(MEALBIS_UNKNOWN_PARTY, 0, "the blocks of an unknown party");
+    SUMS(party, 0), sums_told(MEALBIS_UNKNOWN_PARTY, 0, 0, "the sums of an unknown party");
+    SUMS(party, 5), sums_told(MEALBIS_UNKNOWN_PARTY, 0, 0, "the sums of an unknown party, a k too many");
+    SUMS(party, UINT64_MAX), sums_told(MEALBIS_UNKNOWN_PARTY, 0, 0, "the sums of an unknown party, the largest k");
+}
+
+/* Unknown parties in a month with blocks, in a full one, in one without a length and in one of the versions before. */
+static void parties(void)
+{
+    static const mealbis_size far = (mealbis_size)1 << 32, farther = (mealbis_size)1 << 63;
+    const mealbis_size unknown[] = {0, 3, 4, 1027, 1028, far, far + 1, far + 2, farther + 1, farther + 2, UINT64_MAX - 1, UINT64_MAX};
+    size_t i;
+    for (i = 0; i < MEALBIS_WORDS(unknown); i++) {
+        check(mealbis_month_begin(&month, 8) == 0, "a month for parties", 8);
+        ADD(1, x, 8, 0, 8, 99, one, 5, two, 5, WORK(8)), check(number == 0, "a block of party 1", number);
+        ADD(2, y, 8, 0, 8, 99, one, 5, two, 5, WORK(8)), check(number == 0, "a block of party 2", number);
+        unknown_party(unknown[i]);
+        month.words[ACCOUNT(1)] = month.words[ACCOUNT(2)] = MEALBIS_MOST_BLOCKS;
+        unknown_party(unknown[i]);
+        month.words[0] = 8;
+        unknown_party(unknown[i]);
+        check(mealbis_month_begin(&month, 7) == MEALBIS_BAD_LENGTH, "a month of none for parties", 7);
+        unknown_party(unknown[i]);
+    }
+}
+
+/* No block belongs in these words, no sum is told, and every word stays. */
+static void no_month(mealbis_size n, int64_t blocks_of_1, int64_t blocks_of_2)
+{
+    mealbis_size party, words = MEALBIS_SPECTRUM_WORDS(n);
+    kept_month = month;
+    check(mealbis_month_length(&month) == 0 && !memcmp(&month, &kept_month, sizeof month), "the length of no month", n);
+    for (party = 1; party <= 2; party++) {
+        ADD(party, x, n, 0, n, UINT64_MAX, one, words, two, words, WORK(n)), month_refused(MEALBIS_OTHER_LENGTH, "a block in no month");
+        ADD(party, x, n, 0, 0, UINT64_MAX, one, words, two, words, WORK(n)), month_refused(MEALBIS_OTHER_LENGTH, "no block in no month");
+        BLOCKS(party), blocks_told(0, party == 1 ? blocks_of_1 : blocks_of_2, "the number that stands in no month");
+        SUMS(party, 0), sums_told(MEALBIS_NOT_YIELDED, 0, 0, "the sums of no month");
+    }
+}
+
+/* Months as the versions before 4 left them, in the front of one of today, and words that are no mark. */
+static void earlier_months(void)
+{
+    static int64_t earlier[1028]; /* the length, the block number, 513 sums of the cosine and 513 of the sine */
+    const int64_t marks[] = {0, 8, -8, MARK_OF(0), MARK_OF(3), MARK_OF(-8), MARK_OF(2048), MARK_OF(65536 + 8), MARK_OF(8 - 65536), -MARK_OF(8),
+                             MARK_OF(8) + (INT64_C(1) << 32), MARK_OF(8) - (INT64_C(1) << 32), INT64_MAX, INT64_MIN, INT64_MIN + MARK_OF(8)};
+    mealbis_size n, k;
+    size_t i;
+    for (n = 1; n <= LONGEST; n *= 2) {
+        memset(earlier, 0, sizeof earlier);
+        earlier[0] = (int64_t)n, earlier[1] = 7;
+        for (k = 0; k <= n / 2; k++)
+            earlier[2 + k] = 70 + (int64_t)k, earlier[515 + k] = -70 - (int64_t)k;
+        memset(&month, 0x55, sizeof month);
+        memcpy(&month, earlier, sizeof earlier);
+        no_month(n, 7, INT64_C(0x5555555555555555));
+        memset(&month, 0, sizeof month);
+        memcpy(&month, earlier, sizeof earlier);
+        no_month(n, 7, 0);
+    }
+    for (i = 0; i < MEALBIS_WORDS(marks); i++) {
+        memset(&month, 0, sizeof month);
+        month.words[0] = marks[i], month.words[ACCOUNT(1)] = -1, month.words[ACCOUNT(2)] = 3;
+        no_month(8, -1, 3);
+    }
 }
 
 /* ---- alignment: the same at each place that the types allow */
 
-static void *placed(unsigned char *memory, size_t at, const void *held, size_t size)
-{
-    if (held)
-        memcpy(memory + at, held, size);
-    return memory + at;
-}
-
-/* All calls on n samples, with words of 32 bits at `at` words from 16 bytes, of 64 bits at at % 2 words, and bytes at `at` bytes. */
-static void at_place(mealbis_size n, size_t at)
-{
-    static int32_t cosine[2][LONGEST], sine[2][LONGEST];
-    static mealbis_answer told[2];
-    size_t room = sizeof scratch + 64;
-    unsigned char *memory[8];
+/* What is lent to the calls of one turn. */
+static struct {
+    unsigned char *memory[7];
     int32_t *recording, *first, *second;
     int64_t *work;
     mealbis_answer *record;
-    mealbis_month *lent_month;
+    mealbis_month *month;
     uint8_t *bytes;
-    size_t i, words = (size_t)MEALBIS_SPECTRUM_WORDS(n) * 4;
-    for (i = 0; i < MEALBIS_WORDS(memory); i++)
-        if (!(memory[i] = malloc(room)))
+} at_hand;
+
+/* For n samples, with words of 32 bits at `at` words from 16 bytes, of 64 bits at at % 2 words, and bytes at `at` bytes. */
+static void lend(mealbis_size n, size_t at)
+{
+    const size_t places[] = {4 * at, 4 * ((at + 1) % 4), 4 * ((at + 2) % 4), 8 * (at % 2), 8 * ((at + 1) % 2), 8 * (at % 2), at};
+    void *found[MEALBIS_WORDS(places)];
+    size_t i;
+    for (i = 0; i < MEALBIS_WORDS(places); i++) {
+        if (!(at_hand.memory[i] = malloc(sizeof scratch + 64)))
             exit(2);
-    recording = placed(memory[0], 4 * at, x, (size_t)n * 4);
-    first = placed(memory[1], 4 * ((at + 1) % 4), NULL, 0);
-    second = placed(memory[2], 4 * ((at + 2) % 4), NULL, 0);
-    work = placed(memory[3], 8 * (at % 2), NULL, 0);
-    record = placed(memory[4], 8 * ((at + 1) % 2), NULL, 0);
-    lent_month = placed(memory[5], 8 * (at % 2), NULL, 0);
-    bytes = placed(memory[6], at, NULL, 0);
-    SPECTRUM(x, n, 0, n, UINT64_MAX, cosine[0], n, sine[0], n, scratch, MEALBIS_WORDS(scratch));
-    told[0] = answer;
-    number = mealbis_spectrum(recording, n, 0, n, UINT64_MAX, first, n, second, n, work, MEALBIS_SCRATCH_WORDS(n), record);
-    check(number == 0 && !memcmp(record, told, sizeof *record) && !memcmp(first, cosine[0], words) && !memcmp(second, sine[0], words), "Spectrum, aligned", at);
-    number = mealbis_mark(recording, n, 0, n, UINT64_MAX, 0, 1, first, n, second, n, work, MEALBIS_SCRATCH_WORDS(n), (mealbis_mark_answer *)record);
-    check(number == 0 && !memcmp(record, told, sizeof *record) && !memcmp(first, cosine[0], words) && !memcmp(second, sine[0], words), "mark, aligned", at);
-    number = mealbis_month_begin(lent_month, n);
-    check(number == 0 && mealbis_month_length(lent_month) == n, "a month, aligned", at);
-    number = mealbis_month_add(lent_month, recording, n, 0, n, UINT64_MAX, first, n, second, n, work, MEALBIS_SCRATCH_WORDS(n), record);
-    check(number == 0 && !memcmp(record, told, sizeof *record) && mealbis_month_blocks(lent_month) == 1, "a block, aligned", at);
-    number = mealbis_month_sums(lent_month, n / 2, (mealbis_sums *)record);
-    check(number == 0 && ((mealbis_sums *)record)->cosine == cosine[0][n / 2] && ((mealbis_sums *)record)->sine == sine[0][n / 2], "sums, aligned", at);
-    number = mealbis_page(first, n, second, n, n, bytes, MEALBIS_PAGE_BYTES(n), (mealbis_page_answer *)record);
-    PRINT(cosine[0], n, sine[0], n, n, made, sizeof made), check(!memcmp(bytes, made, (size_t)page_answer.bytes), "a page, aligned", at);
-    COSINE(x, n, 0, n, UINT64_MAX, cosine[1], n, scratch, MEALBIS_WORDS(scratch));
-    told[1] = answer;
-    number = mealbis_cosine(recording, n, 0, n, UINT64_MAX, first, n, work, MEALBIS_SCRATCH_WORDS(n), record);
-    check(number == 0 && !memcmp(record, told + 1, sizeof *record) && !memcmp(first, cosine[1], (size_t)n * 4), "Cosine, aligned", at);
-    number = mealbis_inverse_dct(first, n, n, second, n, (mealbis_inverse_answer *)record);
-    INVERSE(cosine[1], n, n, one, n), check(!memcmp(second, one, (size_t)n * 4), "the inverse DCT, aligned", at);
-    PAIR(x, n, x, n, 0, n, UINT64_MAX, cosine[0], n, sine[0], n, scratch, MEALBIS_WORDS(scratch));
-    number = mealbis_pair(recording, n, recording, n, 0, n, UINT64_MAX, first, n, second, n, work, MEALBIS_SCRATCH_WORDS(n), record);
-    check(number == 0 && !memcmp(first, cosine[0], (size_t)n * 4) && !memcmp(second, sine[0], (size_t)n * 4), "Pair, aligned", at);
-    number = mealbis_counts(n, (mealbis_counts_answer *)record);
-    check(number == 0 && ((mealbis_counts_answer *)record)->pair_products == answer.products, "counts, aligned", at);
-    number = mealbis_write(recording, n, recording, n, n, bytes, MEALBIS_FILE_BYTES(n), (mealbis_write_answer *)record);
-    check(number == 0 && ((mealbis_write_answer *)record)->bytes == MEALBIS_FILE_BYTES(n), "write, aligned", at);
-    number = mealbis_read(bytes, MEALBIS_FILE_BYTES(n), first, n, second, n, (mealbis_read_answer *)record);
-    check(number == 0 && !memcmp(first, x, (size_t)n * 4) && !memcmp(second, x, (size_t)n * 4), "read, aligned", at);
-    for (i = 0; i < MEALBIS_WORDS(memory); i++)
-        free(memory[i]);
+        found[i] = at_hand.memory[i] + places[i];
+    }
+    at_hand.recording = memcpy(found[0], x, (size_t)n * 4);
+    at_hand.first = found[1];
+    at_hand.second = found[2];
+    at_hand.work = found[3];
+    at_hand.record = found[4];
+    at_hand.month = found[5];
+    at_hand.bytes = found[6];
+}
+
+#define RECORDING at_hand.recording, n
+#define TWO_ROWS at_hand.first, n, at_hand.second, n
+#define WORK_AT_HAND at_hand.work, MEALBIS_SCRATCH_WORDS(n)
+#define TOLD(kind) ((kind *)at_hand.record)
+#define SAME(words, expected, size) !memcmp(words, expected, (size_t)(size))
+
+/* Spectrum, the mark, a month and a page, as with other memory. */
+static void spectra_at_place(mealbis_size n, size_t at)
+{
+    static int32_t cosine[LONGEST], sine[LONGEST];
+    mealbis_size size = MEALBIS_SPECTRUM_WORDS(n) * 4;
+    mealbis_answer told;
+    SPECTRUM(x, n, 0, n, UINT64_MAX, cosine, n, sine, n, scratch, MEALBIS_WORDS(scratch));
+    told = answer;
+    number = mealbis_spectrum(RECORDING, 0, n, UINT64_MAX, TWO_ROWS, WORK_AT_HAND, at_hand.record);
+    check(number == 0 && SAME(at_hand.record, &told, sizeof told), "Spectrum, aligned", at);
+    check(SAME(at_hand.first, cosine, size) && SAME(at_hand.second, sine, size), "Spectrum's rows, aligned", at);
+    number = mealbis_mark(RECORDING, 0, n, UINT64_MAX, 0, 1, TWO_ROWS, WORK_AT_HAND, TOLD(mealbis_mark_answer));
+    check(number == 0 && SAME(at_hand.record, &told, sizeof told), "mark, aligned", at);
+    check(SAME(at_hand.first, cosine, size) && SAME(at_hand.second, sine, size), "the mark's rows, aligned", at);
+    number = mealbis_month_begin(at_hand.month, n);
+    check(number == 0 && mealbis_month_length(at_hand.month) == n, "a month, aligned", at);
+    number = mealbis_month_add(at_hand.month, 2, RECORDING, 0, n, UINT64_MAX, TWO_ROWS, WORK_AT_HAND, at_hand.record);
+    check(number == 0 && SAME(at_hand.record, &told, sizeof told), "a block, aligned", at);
+    check(SAME(at_hand.first, cosine, size) && SAME(at_hand.second, sine, size), "a block's rows, aligned", at);
+    number = mealbis_month_blocks(at_hand.month, 2, TOLD(mealbis_blocks));
+    check(number == 0 && TOLD(mealbis_blocks)->blocks == 1, "blocks, aligned", at);
+    number = mealbis_month_sums(at_hand.month, 2, n / 2, TOLD(mealbis_sums));
+    check(number == 0 && TOLD(mealbis_sums)->cosine == cosine[n / 2] && TOLD(mealbis_sums)->sine == sine[n / 2], "sums, aligned", at);
+    number = mealbis_page(TWO_ROWS, n, at_hand.bytes, MEALBIS_PAGE_BYTES(n), TOLD(mealbis_page_answer));
+    PRINT(cosine, n, sine, n, n, made, sizeof made), check(SAME(at_hand.bytes, made, page_answer.bytes), "a page, aligned", at);
+}
+
+/* Cosine and the way back, Pair, the counts and a file. */
+static void others_at_place(mealbis_size n, size_t at)
+{
+    static int32_t rows[2][LONGEST];
+    COSINE(x, n, 0, n, UINT64_MAX, rows[0], n, scratch, MEALBIS_WORDS(scratch));
+    number = mealbis_cosine(RECORDING, 0, n, UINT64_MAX, at_hand.first, n, WORK_AT_HAND, at_hand.record);
+    check(number == 0 && SAME(at_hand.record, &answer, sizeof answer) && SAME(at_hand.first, rows[0], n * 4), "Cosine, aligned", at);
+    number = mealbis_inverse_dct(at_hand.first, n, n, at_hand.second, n, TOLD(mealbis_inverse_answer));
+    INVERSE(rows[0], n, n, one, n), check(SAME(at_hand.second, one, n * 4), "the inverse DCT, aligned", at);
+    PAIR(x, n, x, n, 0, n, UINT64_MAX, rows[0], n, rows[1], n, scratch, MEALBIS_WORDS(scratch));
+    number = mealbis_pair(RECORDING, RECORDING, 0, n, UINT64_MAX, TWO_ROWS, WORK_AT_HAND, at_hand.record);
+    check(number == 0 && SAME(at_hand.first, rows[0], n * 4) && SAME(at_hand.second, rows[1], n * 4), "Pair, aligned", at);
+    number = mealbis_counts(n, TOLD(mealbis_counts_answer));
+    check(number == 0 && TOLD(mealbis_counts_answer)->pair_products == answer.products, "counts, aligned", at);
+    number = mealbis_write(RECORDING, RECORDING, n, at_hand.bytes, MEALBIS_FILE_BYTES(n), TOLD(mealbis_write_answer));
+    check(number == 0 && TOLD(mealbis_write_answer)->bytes == MEALBIS_FILE_BYTES(n), "write, aligned", at);
+    number = mealbis_read(at_hand.bytes, MEALBIS_FILE_BYTES(n), TWO_ROWS, TOLD(mealbis_read_answer));
+    check(number == 0 && SAME(at_hand.first, x, n * 4) && SAME(at_hand.second, x, n * 4), "read, aligned", at);
 }
 
 static void alignment(void)
 {
     mealbis_size n;
-    size_t at;
+    size_t at, i;
     for (n = 1; n <= LONGEST; n *= 2)
-        for (at = 0; at < 4; at++)
-            at_place(n, at);
+        for (at = 0; at < 4; at++) {
+            lend(n, at);
+            spectra_at_place(n, at);
+            others_at_place(n, at);
+            for (i = 0; i < MEALBIS_WORDS(at_hand.memory); i++)
+                free(at_hand.memory[i]);
+        }
 }
 
-/* NULL with count 0, for each buffer and for all. */
-static void empty_buffers(void)
+/* NULL with count 0, for each buffer and for all, in the calls on a block. */
+static void empty_in_blocks(void)
 {
-    static const uint8_t header[8] = {8, 0, 0, 0, 4, 0, 0, 0};
-    memcpy(file, header, sizeof header); /* and all samples 0 */
     SPECTRUM(NULL, 0, 0, 8, 99, one, 5, two, 5, WORK(8)), refused(2, "Spectrum, no recording");
     SPECTRUM(NULL, 0, 0, 7, 99, one, 5, two, 5, WORK(8)), refused(1, "Spectrum, no recording, length 7");
     SPECTRUM(x, 16, 8, 8, 99, NULL, 0, two, 5, WORK(8)), refused(3, "Spectrum, no cosine");
@@ -363,12 +547,12 @@ static void empty_buffers(void)
     MARK(x, 16, 8, 8, 99, 0, 1, one, 5, two, 5, NULL, 0), mark_refused(4, "mark, no scratch");
     MARK(NULL, 0, 0, 1, 0, 0, 1, NULL, 0, NULL, 0, NULL, 0), mark_refused(2, "mark, nothing");
     check(mealbis_month_begin(&month, 8) == 0, "a month for empty buffers", 8);
-    ADD(NULL, 0, 0, 8, 99, one, 5, two, 5, WORK(8)), month_refused(2, "month, no recording");
-    ADD(NULL, 0, 0, 7, 99, one, 5, two, 5, WORK(8)), month_refused(13, "month, no recording, length 7");
-    ADD(x, 16, 8, 8, 99, NULL, 0, two, 5, WORK(8)), month_refused(3, "month, no cosine");
-    ADD(x, 16, 8, 8, 99, one, 5, NULL, 0, WORK(8)), month_refused(3, "month, no sine");
-    ADD(x, 16, 8, 8, 99, one, 5, two, 5, NULL, 0), month_refused(4, "month, no scratch");
-    ADD(NULL, 0, 0, 8, 0, NULL, 0, NULL, 0, NULL, 0), month_refused(2, "month, nothing");
+    ADD(1, NULL, 0, 0, 8, 99, one, 5, two, 5, WORK(8)), month_refused(2, "month, no recording");
+    ADD(2, NULL, 0, 0, 7, 99, one, 5, two, 5, WORK(8)), month_refused(13, "month, no recording, length 7");
+    ADD(1, x, 16, 8, 8, 99, NULL, 0, two, 5, WORK(8)), month_refused(3, "month, no cosine");
+    ADD(2, x, 16, 8, 8, 99, one, 5, NULL, 0, WORK(8)), month_refused(3, "month, no sine");
+    ADD(1, x, 16, 8, 8, 99, one, 5, two, 5, NULL, 0), month_refused(4, "month, no scratch");
+    ADD(2, NULL, 0, 0, 8, 0, NULL, 0, NULL, 0, NULL, 0), month_refused(2, "month, nothing");
     COSINE(NULL, 0, 0, 1, 0, one, 8, WORK(8)), refused(2, "Cosine, no recording");
     COSINE(x, 16, 8, 1, 0, NULL, 0, WORK(8)), refused(3, "Cosine, no coefficients");
     COSINE(x, 16, 8, 1, 0, one, 8, NULL, 0), refused(4, "Cosine, no scratch");
@@ -379,10 +563,27 @@ static void empty_buffers(void)
     PAIR(x, 16, y, 16, 0, 1, 0, one, 8, NULL, 0, WORK(8)), refused(3, "Pair, no im");
     PAIR(x, 16, y, 16, 0, 1, 0, one, 8, two, 8, NULL, 0), refused(4, "Pair, no scratch");
     PAIR(NULL, 0, NULL, 0, 0, 1, 0, NULL, 0, NULL, 0, NULL, 0), refused(2, "Pair, nothing");
+}
+
+/* The same in those on stored coefficients. */
+static void empty_in_coefficients(void)
+{
     INVERSE(NULL, 0, 8, one, 8), inverse_refused(2, "inverse DCT, no coefficients");
     INVERSE(NULL, 0, 7, one, 8), inverse_refused(1, "inverse DCT, no coefficients, length 7");
     INVERSE(stored, 8, 8, NULL, 0), inverse_refused(3, "inverse DCT, no values");
     INVERSE(NULL, 0, 1, NULL, 0), inverse_refused(2, "inverse DCT, nothing");
+    PRINT(NULL, 0, y, 8, 8, made, 200), page_refused(2, "page, no cosine");
+    PRINT(x, 8, NULL, 0, 8, made, 200), page_refused(2, "page, no sine");
+    PRINT(x, 8, y, 8, 8, NULL, 0), page_refused(3, "page, no page");
+    PRINT(x, 8, y, 8, 7, NULL, 0), page_refused(1, "page, no page, length 7");
+    PRINT(NULL, 0, NULL, 0, 1, NULL, 0), page_refused(2, "page, nothing");
+}
+
+/* The same in those on files. */
+static void empty_in_files(void)
+{
+    static const uint8_t header[8] = {8, 0, 0, 0, 4, 0, 0, 0};
+    memcpy(file, header, sizeof header); /* and all samples 0 */
     READ(NULL, 0, one, 8, two, 8), file_refused(7, "no file");
     READ(file, sizeof file, NULL, 0, two, 8), file_refused(3, "no recording a");
     READ(file, sizeof file, one, 8, NULL, 0), file_refused(3, "no recording b");
@@ -392,11 +593,6 @@ static void empty_buffers(void)
     WRITE(x, 8, y, 8, 4, NULL, 0), write_refused(3, "write, no file");
     WRITE(x, 8, y, 8, 7, NULL, 0), write_refused(1, "write, no file, blocks of 7");
     WRITE(NULL, 0, NULL, 0, 4, NULL, 0), write_refused(8, "write, nothing");
-    PRINT(NULL, 0, y, 8, 8, made, 200), page_refused(2, "page, no cosine");
-    PRINT(x, 8, NULL, 0, 8, made, 200), page_refused(2, "page, no sine");
-    PRINT(x, 8, y, 8, 8, NULL, 0), page_refused(3, "page, no page");
-    PRINT(x, 8, y, 8, 7, NULL, 0), page_refused(1, "page, no page, length 7");
-    PRINT(NULL, 0, NULL, 0, 1, NULL, 0), page_refused(2, "page, nothing");
 }
 
 /* The stack of each call at the greatest length: it runs on a marked stack of its own. */
@@ -418,9 +614,10 @@ static void on_stack(void)
     case 7: number = mealbis_write(x, LONGEST, y, LONGEST, LONGEST, made, sizeof made, &write_answer); break;
     case 8: number = mealbis_mark(x, LONGEST, 0, LONGEST, UINT64_MAX, 0, 1000000, one, LONGEST, two, LONGEST, LENT, &mark_answer); break;
     case 9: number = mealbis_month_begin(&month, LONGEST); break;
-    case 10: number = mealbis_month_add(&month, x, LONGEST, 0, LONGEST, UINT64_MAX, one, LONGEST, two, LONGEST, LENT, &answer); break;
-    case 11: number = mealbis_month_sums(&month, LONGEST / 2, &month_sums); break;
+    case 10: number = mealbis_month_add(&month, 2, x, LONGEST, 0, LONGEST, UINT64_MAX, one, LONGEST, two, LONGEST, LENT, &answer); break;
+    case 11: number = mealbis_month_sums(&month, 2, LONGEST / 2, &month_sums); break;
     case 12: number = mealbis_page(x, LONGEST, y, LONGEST, LONGEST, made, sizeof made, &page_answer); break;
+    case 13: number = mealbis_month_blocks(&month, 2, &month_blocks); break;
     }
 }
 
@@ -444,7 +641,7 @@ int main(int argc, char **argv)
 {
     static const char *const names[] = {"no call", "mealbis_spectrum", "mealbis_cosine", "mealbis_pair", "mealbis_counts", "mealbis_read",
                                         "mealbis_inverse_dct", "mealbis_write", "mealbis_mark", "mealbis_month_begin", "mealbis_month_add",
-                                        "mealbis_month_sums", "mealbis_page"};
+                                        "mealbis_month_sums", "mealbis_page", "mealbis_month_blocks"};
     size_t i, own;
     for (i = 0; i < MEALBIS_WORDS(x); i++) {
         x[i] = (int32_t)(i * 7919 % 2000001) - 1000000;
@@ -455,8 +652,15 @@ int main(int argc, char **argv)
     fields();
     numbers();
     reasons();
+    begun_months();
+    accounts();
+    full_months();
+    parties();
+    earlier_months();
     alignment();
-    empty_buffers();
+    empty_in_blocks();
+    empty_in_coefficients();
+    empty_in_files();
     own = stack_used(0); /* what on_stack takes itself */
     for (i = 1; i < MEALBIS_WORDS(names); i++) {
         size_t used = stack_used((int)i) - own;
@@ -464,7 +668,7 @@ int main(int argc, char **argv)
         if (argc == 2 && !strcmp(argv[1], "--stack"))
             printf("%s: %zu bytes of stack\n", names[i], used);
     }
-    check(mealbis_month_blocks(&month) == 1, "the stack of an accepted block", 1);
+    check(month_blocks.blocks == 1, "the stack of an accepted block", 1);
     check(page_answer.bytes == MEALBIS_PAGE_BYTES(LONGEST), "the stack of a whole page", page_answer.bytes);
     printf("%d passed, %d failed\n", passed, failed);
     return failed != 0;
