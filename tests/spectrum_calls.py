@@ -28,7 +28,7 @@ class SpectrumCall(NamedTuple):
 
 def random_block(rng, N):
     size = rng.choice((1, 9, 1000, 300_000, LARGEST_SAMPLE))
-    return [rng.randint(-size, size) for _ in range(N)]
+    return rng.choices(range(-size, size + 1), k=N)
 
 
 def wave(N, k, size, kind):
