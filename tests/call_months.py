@@ -492,12 +492,12 @@ def stays(calls, name, month, lengths, places):
 
 
 def check_old_records(calls):
-    """Months of the version before, before zeros or anything: 13 to blocks of every length, the length 0, 16 for every k, and every word stays."""
+    """Months of the version before, zeros or anything behind them: 13 to blocks of every length, the length 0, 16 for every k; every word stays."""
     rng = calls.rng
     for N, behind in itertools.product((0, *LENGTHS), ("zeros", "anything", "an account")):
         old = old_record(rng, N) if N else [0] * 1028
         words = {"zeros": [0] * 1027, "anything": any_account(rng), "an account": times(5, spectrum(random_block(rng, N or 8))[:2])}[behind]
-        stays(calls, "an old month of %d before %s" % (N, behind), Month(rng, old + words), (*LENGTHS, 0), (*range(N // 2 + 2), *FAR_K))
+        stays(calls, "an old month of %d, %s behind it" % (N, behind), Month(rng, old + words), (*LENGTHS, 0), (*range(N // 2 + 2), *FAR_K))
 
 
 def check_no_marks(calls):
@@ -590,7 +590,7 @@ def check_met(calls):
     for N, party, number in itertools.product((0, *LENGTHS), (*PARTIES, None), (0, *ORDER)):
         can = [15] if party is None else [13] if N == 0 else possible((0, *ORDER[1:]), N)
         count = calls.answered[N, party, number]
-        good = count >= 8 if number in can else count == 0
+        good = count >= 5 if number in can else count == 0
         calls.add("answer %d to party %s in a month of %d" % (number, party, N), [None if good else "it came up %d times" % count])
 
 

@@ -47,7 +47,7 @@ impl LentMonth {
     }
 }
 
-// the word of a month of this length, where it is one of the eleven
+// the first word of a month that is begun for this length
 fn mark(length: usize) -> i64 {
     (EDITION << 16).wrapping_add(length as i64)
 }
