@@ -92,8 +92,8 @@ def broken(rng, numbers, N):
 
 
 def roomy(rng, length):
-    """A call with enough of everything for blocks of up to 2,048 samples, whatever the length."""
-    return SpectrumCall(random_block(rng, 2048), 0, length, UNBOUNDED, 1025, 1025, scratch_words(2048))
+    """A call with enough of everything for blocks of up to 2,048 samples, 256 again and again, whatever the length."""
+    return SpectrumCall(random_block(rng, 256) * 8, 0, length, UNBOUNDED, 1025, 1025, scratch_words(2048))
 
 
 def out_of_range(rng, N):
