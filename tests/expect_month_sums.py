@@ -21,33 +21,64 @@ def recording():
     return [1_000_001 if i == 700 else i * 386_093 % 2_000_001 - 1_000_000 for i in range(SAMPLES)]
 
 
-def write_month(month):
-    """A line for the month, and one for each k up to one more than Spectrum yields."""
-    length = reference.month_length(month)
-    print("month", length, reference.month_blocks(month))
-    for k in range(length // 2 + 2):
-        refusal, cosine, sine = reference.month_sums(month, k)
+def write_account(month, party):
+    """A line for the party, and one for each k up to one more than Spectrum yields."""
+    print("party", party, reference.month_blocks(month, party)[1])
+    for k in range(reference.month_length(month) // 2 + 2):
+        refusal, cosine, sine = reference.month_sums(month, party, k)
         print("", k, *(() if refusal else (cosine, sine)))
 
 
-def filled(month, samples, length, blocks):
-    for i in range(blocks):
-        _, month = reference.month_add(month, samples, i % 400 * 3, length, ALLOWANCE, ROOM, ROOM, SCRATCH)
+def write_month(month):
+    print("month", reference.month_length(month))
+    for party in reference.PARTIES:
+        write_account(month, party)
+
+
+def filled(month, samples, length, calls):
+    """The month after calls, each a number, which says where its block begins, and a party."""
+    for i, party in calls:
+        _, month = reference.month_add(month, party, samples, i % 400 * 3, length, ALLOWANCE, ROOM, ROOM, SCRATCH)
     return month
 
 
+def begun(samples, length, calls):
+    return filled(reference.month_begin(length)[1], samples, length, calls)
+
+
+def of_party(party, count):
+    return enumerate([party] * count)
+
+
+def both_parties():
+    """The calls of both parties in one month."""
+    return [(i, 1 + i * 7 % 11 % 2) for i in range(450)]
+
+
 def run_length(samples, length, other):
-    _, month = reference.month_begin(length)
-    write_month(filled(filled(month, samples, length, 450), samples, other, 5))
+    month = begun(samples, length, both_parties())
+    month = filled(month, samples, other, of_party(1, 5))
+    write_month(filled(month, samples, length, of_party(3, 5)))
+
+
+def run_alone(samples, length):
+    """Both accounts of one month, and each again from a month with the calls of its party alone."""
+    month = begun(samples, length, both_parties())
+    for party in reference.PARTIES:
+        write_account(month, party)
+    for party in reference.PARTIES:
+        write_account(begun(samples, length, [call for call in both_parties() if call[1] == party]), party)
 
 
 def run_full(value, length):
-    """As many equal blocks as a month can hold: of 100,001 the last is refused. Each sum is 100,000 times the coefficient."""
+    """As many equal blocks as party 1 may add: of 50,001 the last is refused. Each of its sums is 50,000 times the coefficient. Then 3 of party 2."""
     _, month = reference.month_begin(length)
-    month[1] = reference.MOST_BLOCKS - 1
-    once = filled(month, [value] * SAMPLES, length, 2)
-    sums = [reference.MOST_BLOCKS * word for word in once[reference.FIRST_COSINE:]]
-    write_month(once[:reference.FIRST_COSINE] + sums)
+    samples, own = [value] * SAMPLES, reference.account(1)
+    month[own] = reference.MOST_BLOCKS - 1
+    month = filled(month, samples, length, of_party(1, 2))
+    for place in range(own + reference.FIRST_COSINE, own + reference.ACCOUNT_WORDS):
+        month[place] *= reference.MOST_BLOCKS
+    write_month(filled(month, samples, length, of_party(2, 3)))
 
 
 def run_all():
@@ -57,6 +88,8 @@ def run_all():
     run_length(samples, 3, 3)
     run_length(samples, 0, 0)
     run_length(samples, 2_048, 1_024)
+    for length in (1, 8, 64, 1_024):
+        run_alone(samples, length)
     run_full(1_000_000, 1)
     run_full(-1_000_000, 2)
     run_full(1_000_000, 4)

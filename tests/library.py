@@ -195,7 +195,7 @@ class Calls:
             print("%s: FAILED\n    %s" % (name, "\n    ".join(wrong)))
 
     def compare(self, name, function, given, number):
-        """One call on lent memory, the record too, and on numbers."""
+        """One call on lent memory, the record too, and on numbers; what it answers."""
         arguments = []
         for one in given:
             wanted = function.argtypes[len(arguments)]
@@ -206,6 +206,7 @@ class Calls:
         answer = function(*arguments)
         told = None if answer == number else "the answer is %d and not %d" % (answer, number)
         self.add(name, [told, *(one.difference() for one in given if isinstance(one, Lent))])
+        return answer
 
     def require(self, sets, met):
         """Each of these sets of refusals came up."""

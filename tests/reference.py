@@ -1,4 +1,4 @@
-"""Reference implementation of docs/01-scope.md and of requests (i) to (iii) and (v) to (vii) of document 02, for tests only.
+"""Reference implementation of docs/01-scope.md and of requests (i) to (iii) and (v) to (viii) of document 02, for tests only.
 
 This module was written from the papers alone (documents 01 and 02, and source
 document 001 for the equations) and shares no code with the product.  It says
@@ -14,8 +14,9 @@ what every call answers, in whole numbers of any size, with no thought for speed
   the distances        within_eighth, within_quarter_more, within_quarter, within_eighths
   the calls            spectrum_call, mark_call, cosine_call, pair_call,
                        inverse_call, count_query
-  the month            month_begin(length), month_add(month, ..), month_length(month),
-                       month_blocks(month), month_sums(month, k),
+  the month            month_mark(N), account(party), month_begin(length),
+                       month_add(month, party, ..), month_length(month),
+                       month_blocks(month, party), month_sums(month, party, k),
                        exact_month(exact, blocks, k)
   the page             page_bytes(N), page_call(cosine, sine, length, page_len)
   the pair file        read_pair_file(data, a_len, b_len), pairspec(data),
@@ -460,12 +461,12 @@ def within_quarter(y, exact, N):
 
 
 def exact_month(exact, blocks, k):
-    """The exact sum of a month: that of its blocks' exact sums, exact_cosine or exact_sine."""
+    """The exact sum of a party in a month: that of its blocks' exact sums, exact_cosine or exact_sine."""
     return sum(exact(x, k) for x in blocks)
 
 
 def within_eighths(y, exact, n, N):
-    """Within n * N/8: the limit of a month's sums over n blocks."""
+    """Within n * N/8: the limit of the sums of a party with n blocks in a month."""
     return 8 * distance(y, exact) <= n * N * B
 
 
@@ -475,7 +476,7 @@ class Answer(NamedTuple):
     """What a call gives back.
 
     refusal is 0 for an accepted call, else the number of the table "When a call
-    is turned down", or 10 to 14 of document 02; place is given with refusals
+    is turned down", or 10 to 15 of document 02; place is given with refusals
     6 and 10 only.  results, counts and largest_rest are those of an accepted call;
     the way back has no counts and no rest, the count query no rest.  mark is that
     of an accepted mark_call.
@@ -604,58 +605,78 @@ def count_query(length):
 
 # --- The month -----------------------------------------------------------------
 
-# A month is the list of its 1,028 words: the length, the block number, and the sums for
-# k = 0, 1, .. from the word FIRST_COSINE on and from FIRST_SINE on.  Whatever stands in
-# them, a length that is none of the eleven is read as 0, and a sum beyond LARGEST_SUM in
-# size stays.
+# A month is the list of its 2,055 words: the mark, and for each of the parties 1 and 2 an
+# account: its block number, and its sums for k = 0, 1, .. from the account's word
+# FIRST_COSINE on and from FIRST_SINE on.  The mark holds the edition and the length;
+# where another number stands, the length is read as 0.  A sum beyond LARGEST_SUM in size
+# stays, whatever stands in the other words.
 
-MONTH_WORDS = 1_028
-FIRST_COSINE, FIRST_SINE = 2, 515
-MOST_BLOCKS = 100_000
+EDITION = 40_000                # the version of the library since which months are so laid out and so made
+PARTIES = (1, 2)
+ACCOUNT_WORDS = 1_027
+FIRST_COSINE, FIRST_SINE = 1, 514
+MONTH_WORDS = 2_055
+MOST_BLOCKS = 50_000            # of a party
 LARGEST_SUM = 2 ** 62
+
+
+def month_mark(N):
+    """Word 0 of a month that is begun for N."""
+    return 65_536 * EDITION + N
+
+
+def account(party):
+    """The place of the first word of the party's account."""
+    return 1 + ACCOUNT_WORDS * (party - 1)
 
 
 def month_begin(length):
     """The refusal, and the month in either answer."""
-    refusal, held = (0, length) if length in LENGTHS else (1, 0)
-    return refusal, [held] + [0] * (MONTH_WORDS - 1)
+    refusal, mark = (0, month_mark(length)) if length in LENGTHS else (1, 0)
+    return refusal, [mark] + [0] * (MONTH_WORDS - 1)
 
 
 def month_length(month):
-    return month[0] if month[0] in LENGTHS else 0
+    length = month[0] - month_mark(0)
+    return length if length in LENGTHS else 0
 
 
-def month_blocks(month):
-    return month[1]
+def month_blocks(month, party):
+    """The refusal, and the party's block number."""
+    return (0, month[account(party)]) if party in PARTIES else (15, 0)
 
 
-def month_add(month, recording, start, length, allowance, cosine_len, sine_len, scratch_len):
+def month_add(month, party, recording, start, length, allowance, cosine_len, sine_len, scratch_len):
     """The Answer, and the month then."""
+    if party not in PARTIES:
+        return Answer(15), month
     if length == 0 or length != month_length(month):
         return Answer(13), month
-    if month_blocks(month) >= MOST_BLOCKS:
+    if month[account(party)] >= MOST_BLOCKS:
         return Answer(14), month
     answer = spectrum_call(recording, start, length, allowance, cosine_len, sine_len, scratch_len)
-    return answer, month if answer.refusal else month_with(month, *answer.results)
+    return answer, month if answer.refusal else month_with(month, party, *answer.results)
 
 
-def month_with(month, cosine, sine):
-    """The month with the coefficients of one more block."""
-    month = list(month)
-    month[1] += 1
+def month_with(month, party, cosine, sine):
+    """The month with the coefficients of one more block of the party."""
+    month, own = list(month), account(party)
+    month[own] += 1
     for first, coefficients in ((FIRST_COSINE, cosine), (FIRST_SINE, sine)):
-        for place, coefficient in enumerate(coefficients, first):
+        for place, coefficient in enumerate(coefficients, own + first):
             if abs(month[place]) <= LARGEST_SUM:
                 month[place] += coefficient
     return month
 
 
-def month_sums(month, k):
-    """The refusal, and the sums of the cosine and of the sine coefficients for this k."""
-    N = month_length(month)
+def month_sums(month, party, k):
+    """The refusal, and the party's sums of the cosine and of the sine coefficients for this k."""
+    if party not in PARTIES:
+        return 15, 0, 0
+    N, own = month_length(month), account(party)
     if N == 0 or k > N // 2:
         return 16, 0, 0
-    return 0, month[FIRST_COSINE + k], month[FIRST_SINE + k]
+    return 0, month[own + FIRST_COSINE + k], month[own + FIRST_SINE + k]
 
 
 # --- The page ------------------------------------------------------------------

@@ -553,22 +553,36 @@ def check_figures():
 
 # --- The month -----------------------------------------------------------------
 
-def added(month, x, before=(), behind=()):
+UNKNOWN = (0, 3, 4, 257, 65_538, 2 ** 32 + 1, 2 ** 32 + 2, 2 ** 63, 2 ** 63 + 1, 2 ** 64 - 2, 2 ** 64 - 1)       # parties
+
+
+def added(month, party, x, before=(), behind=()):
     """The month with a block, which stands in the midst of other samples, and must be accepted."""
     N = len(x)
-    answer, month = ref.month_add(month, [*before, *x, *behind], len(before), N, 10 ** 6, N // 2 + 1, N // 2 + 1, ref.scratch_words(N))
+    answer, month = ref.month_add(month, party, [*before, *x, *behind], len(before), N, 10 ** 6, N // 2 + 1, N // 2 + 1, ref.scratch_words(N))
     assert answer == ref.spectrum_call(x, 0, N, 10 ** 6, N, N, ref.scratch_words(N)) and answer.refusal == 0
     return month
 
 
-def month_words(N, blocks, cosine, sine):
-    """The words of a month, laid out in another way."""
-    words = dict(enumerate(cosine, 2)) | dict(enumerate(sine, 515)) | {0: N, 1: blocks}
-    return [words.get(place, 0) for place in range(1028)]
+def roomy_addition(month, party, length):
+    """The answer to a block of ones, with enough of everything for every length up to 2,048, and the month then."""
+    return ref.month_add(month, party, [1] * 2048, 0, length, 10 ** 6, 1025, 1025, ref.scratch_words(2048))
+
+
+def month_words(N, **accounts):
+    """The words of a month, laid out in another way; road is the account of party 1, rail that of party 2: block number, cosine, sine."""
+    words = {0: (ref.EDITION << 16) + N}
+    for name, first in (("road", 1), ("rail", 1028)):
+        blocks, cosine, sine = accounts.get(name, (0, [], []))
+        words |= {first: blocks} | dict(enumerate(cosine, first + 1)) | dict(enumerate(sine, first + 514))
+    return [words.get(place, 0) for place in range(2055)]
+
+
+OWNERS = (("road", 1), ("rail", 2))
 
 
 def check_months_by_hand():
-    """months of N = 1, 2, 4 and 8 worked on paper, word by word after each block"""
+    """months of N = 1, 2, 4 and 8 worked on paper, word by word after each block, of both parties"""
     second = [0, MOST] + [0] * 6
     for history in (
             [([7], [7], [0]), ([-9], [-2], [0]), ([MOST], [999_998], [0])],
@@ -580,53 +594,84 @@ def check_months_by_hand():
              ([MOST] + [0] * 7, [2 * MOST, 1_707_107, MOST, 292_893, 0], [0, 707_107, MOST, 707_107, 0]),     # P7
              (second, [3 * MOST, 2_414_214, MOST, -414_214, -MOST], [0, 1_414_214, 2 * MOST, 1_414_214, 0])]):
         N = len(history[0][0])
-        refusal, month = ref.month_begin(N)
-        assert refusal == 0 and month == month_words(N, 0, [], [])
-        for n, (x, cosine, sine) in enumerate(history, 1):
-            month = added(month, x, (TOO_MUCH,) * n, (-TOO_MUCH,))
-            assert month == month_words(N, n, cosine, sine)
-            assert (ref.month_length(month), ref.month_blocks(month)) == (N, n)
-            assert [ref.month_sums(month, k) for k in range(N // 2 + 1)] == [(0, *both) for both in zip(cosine, sine)]
-            assert {ref.month_sums(month, k) for k in (N // 2 + 1, N, 513, 2 ** 64 - 1)} == {(16, 0, 0)}
+        (refusal, month), accounts = ref.month_begin(N), {}
+        assert refusal == 0 and month == month_words(N)
+        for (n, (x, cosine, sine)), (owner, party) in itertools.product(enumerate(history, 1), OWNERS):
+            month, accounts[owner] = added(month, party, x, (TOO_MUCH,) * n, (-TOO_MUCH,)), (n, cosine, sine)
+            assert month == month_words(N, **accounts)
+            assert (ref.month_length(month), ref.month_blocks(month, party)) == (N, (0, n))
+            assert [ref.month_sums(month, party, k) for k in range(N // 2 + 1)] == [(0, *both) for both in zip(cosine, sine)]
+            assert {ref.month_sums(month, party, k) for k in (N // 2 + 1, N, 513, 2 ** 64 - 1)} == {(16, 0, 0)}
 
 
 def check_month_beginnings():
-    """beginning: a month of no blocks, of length 0 after a bad length; then 13 to every block, also to one of length 0"""
+    """beginning: a month of no blocks, of length 0 after a bad length; then 13 to every block of either party, also to one of length 0"""
     for length in (*ref.LENGTHS, 0, 3, 5, 1023, 1025, 2048, 2 ** 32 + 8, 2 ** 63, 2 ** 64 - 1):
         good = length in ref.LENGTHS
         refusal, month = ref.month_begin(length)
-        assert refusal == (0 if good else 1) and month == [length if good else 0] + [0] * 1027
-        for other in (*ref.LENGTHS, 0, 3, 2048, length):
-            answer, then = ref.month_add(month, [1] * 2048, 0, other, 10 ** 6, 1025, 1025, ref.scratch_words(2048))
+        assert refusal == (0 if good else 1) and month == (month_words(length) if good else [0] * 2055)
+        for other, (_, party) in itertools.product((*ref.LENGTHS, 0, 3, 2048, length), OWNERS):
+            answer, then = roomy_addition(month, party, other)
             assert answer.refusal == (0 if good and other == length else 13)
-            assert then[1] == (1 if good and other == length else 0)
-        assert ref.month_sums(month, 0) == ((0, 0, 0) if good else (16, 0, 0))
+            assert ref.month_blocks(then, party) == (0, 1 if good and other == length else 0)
+            assert ref.month_sums(month, party, 0) == ((0, 0, 0) if good else (16, 0, 0))
 
 
-def broken_addition(numbers):
-    """The arguments of an addition with every one of the numbered conditions made to hold."""
+def broken_addition(numbers, owner, party):
+    """The arguments of an addition with every one of the numbered conditions made to hold; the other's account is full where this one's is not."""
     call = broken(CALLS[ref.spectrum_call], numbers)
-    return dict(call, month=month_words(4 if 13 in numbers else N, 100_000 if 14 in numbers else 7, [5] * 5, [-6] * 5))
+    accounts = {name: (50_000 if (name == owner) == (14 in numbers) else 7, [5] * 5, [-6] * 5) for name, _ in OWNERS}
+    return dict(call, party=3 if 15 in numbers else party, month=month_words(4 if 13 in numbers else N, **accounts))
 
 
 def check_month_refusals_together():
-    """every set of refusals 13, 14, 2 to 6 of adding: the earliest wins, and the month stays; the last block, and one more"""
-    order = (13, 14, 2, 3, 4, 5, 6)
-    for numbers in subsets(order):
-        call = broken_addition(numbers)
-        first = min(numbers, key=order.index)
-        assert ref.month_add(**call) == (ref.Answer(first, START if first == 6 else None), call["month"]), numbers
-    call = broken_addition(())
-    answer, month = ref.month_add(**call)
-    assert answer.refusal == 0 and month == month_words(N, 8, [13] + [5] * 4, [-6] * 5)      # C 8, 0, 0, 0, 0
-    for blocks, refusal in ((99_998, 0), (99_999, 0), (100_000, 14), (100_001, 14), (2 ** 63 - 1, 14), (-1, 0), (-2 ** 63, 0)):
-        call["month"] = month_words(N, blocks, [], [])
+    """every set of refusals 15, 13, 14, 2 to 6 of adding, by either party: the earliest wins, and the month stays; the last block, and one more"""
+    order = (15, 13, 14, 2, 3, 4, 5, 6)
+    for (owner, party), (other, _) in zip(OWNERS, OWNERS[::-1]):
+        for numbers in subsets(order):
+            call = broken_addition(numbers, owner, party)
+            first = min(numbers, key=order.index)
+            assert ref.month_add(**call) == (ref.Answer(first, START if first == 6 else None), call["month"]), numbers
+        call, stays = broken_addition((), owner, party), {other: (50_000, [5] * 5, [-6] * 5)}
         answer, month = ref.month_add(**call)
-        assert answer.refusal == refusal and month[1] == (call["month"][1] if refusal else blocks + 1)
+        assert answer.refusal == 0 and month == month_words(N, **stays, **{owner: (8, [13] + [5] * 4, [-6] * 5)})      # C 8, 0, 0, 0, 0
+        for blocks, refusal in ((49_998, 0), (49_999, 0), (50_000, 14), (50_001, 14), (100_000, 14), (2 ** 63 - 1, 14), (-1, 0), (-2 ** 63, 0)):
+            call["month"] = month_words(N, **stays, **{owner: (blocks, [], [])})
+            answer, month = ref.month_add(**call)
+            added_up = (blocks, [], []) if refusal else (blocks + 1, [8], [])
+            assert answer.refusal == refusal and month == month_words(N, **stays, **{owner: added_up})
+
+
+def check_unknown_parties():
+    """parties that are neither 1 nor 2: 15 to every block, and in reading, before 16; the month stays"""
+    full = (50_000, [5] * 5, [6] * 5)
+    for party, month in itertools.product(UNKNOWN, (month_words(N), month_words(N, road=full, rail=full), ref.month_begin(3)[1])):
+        for length in (*ref.LENGTHS, 0, 3, 2048):
+            assert roomy_addition(month, party, length) == (ref.Answer(15), month)
+        for start, scratch in itertools.product((0, 2 ** 64 - 1), (0, ref.scratch_words(N))):
+            assert ref.month_add(month, party, [TOO_MUCH] * N, start, N, 0, 0, 0, scratch) == (ref.Answer(15), month)
+        assert ref.month_blocks(month, party) == (15, 0)
+        assert {ref.month_sums(month, party, k) for k in (0, 4, 5, 2 ** 64 - 1)} == {(15, 0, 0)}
+
+
+def check_owners_apart():
+    """both owners' calls in any order, refused ones too: each has the answers and the account that it has from its own calls alone"""
+    rng = random.Random(36)
+    for N in (1, 4, 16, 64):
+        month, alone = ref.month_begin(N)[1], {party: ref.month_begin(N)[1] for _, party in OWNERS}
+        for _ in range(120):
+            party, length = rng.choice((1, 1, 2, 3)), rng.choice((N, N, N, 2))
+            call = random_block(rng, N), rng.choice((0, 0, 0, 1)), length, 10 ** 6, 33, rng.choice((0, 33, 33)), ref.scratch_words(64)
+            answer, month = ref.month_add(month, party, *call)
+            if party in alone:
+                own, alone[party] = ref.month_add(alone[party], party, *call)
+                assert own == answer
+            assert month == [month[0]] + alone[1][1:1028] + alone[2][1028:]
+        assert alone[1][1] > 10 and alone[2][1028] > 5
 
 
 def check_months():
-    """histories of every length with refused blocks in between: the sums are those over the accepted ones, within n * N/8 of the exact sums"""
+    """histories of every length with refused blocks in between: each party's sums are those over its accepted blocks, within n * N/8 of the exact"""
     rng = random.Random(34)
     for N, kind in itertools.product(ref.LENGTHS, ("random", "repeated", "extreme")):
         count = 9 if N < 128 else 3
@@ -635,25 +680,33 @@ def check_months():
         month = ref.month_begin(N)[1]
         other = ref.LENGTHS[ref.LENGTHS.index(N) - 1]
         good = dict(start=0, length=N, allowance=10 ** 6, cosine_len=513, sine_len=513, scratch_len=ref.scratch_words(1024))
-        for x in blocks:
-            month = added(month, x)
-            for refusal, wrong in ((13, dict(recording=[0] * 1024, length=other)), (2, dict(start=1)), (3, dict(sine_len=0)),
+        parties = [1 + n % 3 // 2 for n in range(len(blocks))]          # 1, 1, 2, 1, 1, 2, ..
+        for x, party in zip(blocks, parties):
+            month = added(month, party, x)
+            for refusal, wrong in ((15, dict(party=3)), (13, dict(recording=[0] * 1024, length=other)), (2, dict(start=1)), (3, dict(sine_len=0)),
                                    (4, dict(scratch_len=ref.scratch_words(1) - 1)), (6, dict(recording=x[:-1] + [TOO_MUCH]))):
-                answer, then = ref.month_add(month, **{**good, "recording": x, **wrong})
+                answer, then = ref.month_add(month, **{**good, "party": party, "recording": x, **wrong})
                 assert answer.refusal == refusal and then == month
-        spectra = [ref.spectrum(x) for x in blocks]
-        cosine, sine = ([sum(column) for column in zip(*(spectrum[which] for spectrum in spectra))] for which in (0, 1))
-        assert month == month_words(N, len(blocks), cosine, sine)
-        for k in some_k(rng, N // 2, 4):
-            for y, exact in ((cosine[k], ref.exact_cosine), (sine[k], ref.exact_sine)):
-                of_sums = exact([sum(samples) for samples in zip(*blocks)], k)              # exact sums are linear
-                assert ref.exact_month(exact, blocks, k) == of_sums
-                assert ref.within_eighths(y, of_sums, len(blocks), N)
+        accounts = {owner: summed(rng, [x for x, by in zip(blocks, parties) if by == party]) for owner, party in OWNERS}
+        assert month == month_words(N, **accounts)
+
+
+def summed(rng, blocks):
+    """The account of a party with these blocks, each sum within its limit."""
+    N = len(blocks[0])
+    spectra = [ref.spectrum(x) for x in blocks]
+    cosine, sine = ([sum(column) for column in zip(*(spectrum[which] for spectrum in spectra))] for which in (0, 1))
+    for k in some_k(rng, N // 2, 4):
+        for y, exact in ((cosine[k], ref.exact_cosine), (sine[k], ref.exact_sine)):
+            of_sums = exact([sum(samples) for samples in zip(*blocks)], k)              # exact sums are linear
+            assert ref.exact_month(exact, blocks, k) == of_sums
+            assert ref.within_eighths(y, of_sums, len(blocks), N)
+    return len(blocks), cosine, sine
 
 
 def check_month_limit():
     """the limit n * N/8: reached exactly is within, one beyond is not; no blocks leave no room"""
-    for N, n, sign in itertools.product(ref.LENGTHS, (0, 1, 2, 3, 99_999, 100_000), (1, -1)):
+    for N, n, sign in itertools.product(ref.LENGTHS, (0, 1, 2, 3, 49_999, 50_000), (1, -1)):
         limit = n * N * ref.B // 8
         assert ref.within_eighths(5, 5 * ref.B + sign * limit, n, N)
         assert not ref.within_eighths(5, 5 * ref.B + sign * (limit + 1), n, N)
@@ -661,18 +714,22 @@ def check_month_limit():
 
 
 def check_words_of_no_month():
-    """words that no month left there: a length of none of the eleven is 0, a sum beyond 2^62 in size stays, others are added to"""
-    for length in (-1, -8, 3, 2048, 2 ** 32 + 8, 2 ** 63 - 1, -2 ** 63):
-        month = [length] + [9] * 1027
-        assert ref.month_length(month) == 0 and ref.month_sums(month, 0) == (16, 0, 0)
-        for other in (*ref.LENGTHS, 0, length % 2 ** 64):
-            assert ref.month_add(month, [1] * 2048, 0, other, 10 ** 6, 1025, 1025, ref.scratch_words(2048)) == (ref.Answer(13), month)
+    """words that no month left there: another number than a mark is the length 0, a sum beyond 2^62 in size stays, others are added to"""
+    mark = ref.EDITION << 16
+    words = (-mark - 8, mark - 2 ** 32 + 8, mark + 2 ** 32 + 8, 2 ** 63 - 1, -2 ** 63, mark - 1, mark, mark + 3, mark + 2048, mark + 65_536)
+    others = [(edition << 16) + N for edition in (0, 1, ref.EDITION - 10_000, ref.EDITION - 1, ref.EDITION + 1) for N in ref.LENGTHS]
+    for first in (*words, *others):
+        month = [first] + [9] * 2054
+        assert ref.month_length(month) == 0
+        for (_, party), other in itertools.product(OWNERS, (*ref.LENGTHS, 0, first % 2 ** 64, (first - mark) % 2 ** 64)):
+            assert ref.month_sums(month, party, 0) == (16, 0, 0) and ref.month_blocks(month, party) == (0, 9)
+            assert roomy_addition(month, party, other) == (ref.Answer(13), month)
     whole = 2 ** 62
     for held, then in ((whole, whole + 3), (-whole, 3 - whole), (whole + 1, whole + 1), (-whole - 1, -whole - 1), (2 ** 63 - 1, 2 ** 63 - 1),
                        (-2 ** 63, -2 ** 63), (whole - 1, whole + 2), (0, 3)):
-        month = added([1, 4] + [held] * 1026, [3])
-        assert month == [1, 5, then] + [held] * 1025                    # the sine is 0
-        assert ref.month_sums(month, 0) == (0, then, held)
+        for party, month in ((1, [mark + 1, 4] + [held] * 2053), (2, [mark + 1] + [held] * 1027 + [4] + [held] * 1026)):
+            changed = {1: 5, 2: then} if party == 1 else {1028: 5, 1029: then}          # the sine is 0
+            assert added(month, party, [3]) == [changed.get(place, word) for place, word in enumerate(month)]
 
 
 # --- The page ------------------------------------------------------------------

@@ -28,7 +28,7 @@ class SpectrumCall(NamedTuple):
 
 def random_block(rng, N):
     size = rng.choice((1, 9, 1000, 300_000, LARGEST_SAMPLE))
-    return [rng.randint(-size, size) for _ in range(N)]
+    return rng.choices(range(-size, size + 1), k=N)
 
 
 def wave(N, k, size, kind):
@@ -92,8 +92,8 @@ def broken(rng, numbers, N):
 
 
 def roomy(rng, length):
-    """A call with enough of everything for blocks of up to 2,048 samples, whatever the length."""
-    return SpectrumCall(random_block(rng, 2048), 0, length, UNBOUNDED, 1025, 1025, scratch_words(2048))
+    """A call with enough of everything for blocks of up to 2,048 samples, 256 again and again, whatever the length."""
+    return SpectrumCall(random_block(rng, 256) * 8, 0, length, UNBOUNDED, 1025, 1025, scratch_words(2048))
 
 
 def out_of_range(rng, N):

@@ -2,7 +2,7 @@
 //
 //     tests/differential [--seed S] [--seconds T | --rounds R] [--table FILE] [--item CLASS INDEX]
 //
-// Document 01 and requests (i) to (iii) and (v) to (vii) of document 02 are implemented here once more, and the exact sums are evaluated
+// Document 01 and requests (i) to (iii) and (v) to (viii) of document 02 are implemented here once more, and the exact sums are evaluated
 // term by term. The answer of every call, its counts, its largest rest, its results and the words that it must not touch are compared with
 // them. Each class of calls is gone through once, then in rounds until the time is up or R rounds are made. --table writes
 // docs/DISTANCES.md, --item repeats one item.
@@ -31,7 +31,7 @@ mod transforms;
 mod written;
 
 use random::Random;
-use record::{with_commas, ADD, FUNCTIONS, INVERSE, MARK, PAGE, READ, WRITE};
+use record::{with_commas, ADD_1, ADD_2, ADD_NEITHER, FUNCTIONS, INVERSE, MARK, PAGE, READ, SUMS, WRITE};
 use run::Run;
 use std::time::{Duration, Instant};
 
@@ -123,6 +123,7 @@ fn whole_run(run: &mut Run, words: &Words) -> u64 {
     require_rules(run);
     require_ties(run);
     require_digits(run);
+    require_parties(run);
     rounds
 }
 
@@ -160,13 +161,15 @@ fn one_item(run: &mut Run, seed: u64, name: &str, index: u64) -> u64 {
 
 // Two or three refusals that can hold together must have done so on some call.
 fn require_sets(run: &mut Run) {
-    for function in [0, 1, 2, READ, INVERSE, WRITE, MARK, ADD, PAGE] {
+    for function in [0, 1, 2, READ, INVERSE, WRITE, MARK, ADD_1, ADD_2, ADD_NEITHER, SUMS, PAGE] {
         let (order, impossible) = match function {
             READ => (&files::ORDER[..], &files::IMPOSSIBLE[..]),
             INVERSE => (&stored::ORDER[..], &[][..]),
             WRITE => (&written::ORDER[..], &[][..]),
             MARK => (&marked::ORDER[..], &[][..]),
-            ADD => (&months::ORDER[..], &[][..]),
+            ADD_1 | ADD_2 => (&months::ORDER[1..], &[][..]),
+            ADD_NEITHER => (&months::ORDER[..], &[][..]),
+            SUMS => (&months::READING_ORDER[..], &[][..]),
             PAGE => (&pages::ORDER[..], &[][..]),
             _ => (&[1, 2, 3, 4, 5, 6][..], &[][..]),
         };
@@ -197,6 +200,13 @@ fn require_ties(run: &mut Run) {
 fn require_digits(run: &mut Run) {
     if run.record.digits.iter().flatten().flatten().any(|&count| count == 0) {
         missing(run, format!("numbers in pages, of cosine and of sine, not negative and negative, by their digits: {:?}", run.record.digits));
+    }
+}
+
+// And at each length each party must have added blocks to months, and its sums have been held to exact ones.
+fn require_parties(run: &mut Run) {
+    if run.record.added.iter().chain(&run.record.month_sums).flatten().any(|&count| count == 0) {
+        missing(run, format!("blocks added to months and sums held to exact ones: {:?}, {:?}", run.record.added, run.record.month_sums));
     }
 }
 

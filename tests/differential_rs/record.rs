@@ -4,17 +4,22 @@ use crate::exact::{Part, ONE, PARTS};
 use std::collections::BTreeSet;
 
 // The functions of the library, in the order of FUNCTIONS.
-pub const FUNCTIONS: [&str; 12] =
-    ["Spectrum", "Cosine", "Pair", "counts", "read", "inverse DCT", "write", "mark", "month begin", "month add", "month sums", "page"];
+pub const FUNCTIONS: [&str; 15] = [
+    "Spectrum", "Cosine", "Pair", "counts", "read", "inverse DCT", "write", "mark", "month begin", "add, party 1", "add, party 2", "add, neither",
+    "month blocks", "month sums", "page",
+];
 pub const COUNTS: usize = 3;
 pub const READ: usize = 4;
 pub const INVERSE: usize = 5;
 pub const WRITE: usize = 6;
 pub const MARK: usize = 7;
 pub const BEGIN: usize = 8;
-pub const ADD: usize = 9;
-pub const SUMS: usize = 10;
-pub const PAGE: usize = 11;
+pub const ADD_1: usize = 9;
+pub const ADD_2: usize = 10;
+pub const ADD_NEITHER: usize = 11;
+pub const BLOCKS: usize = 12;
+pub const SUMS: usize = 13;
+pub const PAGE: usize = 14;
 
 pub fn function_of(kind: Kind) -> usize {
     match kind {
@@ -24,12 +29,21 @@ pub fn function_of(kind: Kind) -> usize {
     }
 }
 
+// of adding, by the party
+pub fn adding(party: usize) -> usize {
+    match party {
+        1 => ADD_1,
+        2 => ADD_2,
+        _ => ADD_NEITHER,
+    }
+}
+
 #[derive(Default)]
 pub struct Record {
     // calls by function and by the number answered
-    answers: [[u64; 17]; 12],
+    answers: [[u64; 17]; 15],
     // the sets of refusals whose conditions held on a call, by function
-    together: [BTreeSet<Vec<u32>>; 12],
+    together: [BTreeSet<Vec<u32>>; 15],
     // accepted blocks, and coefficients compared with their exact sums, by level
     pub blocks: [u64; 11],
     pub coefficients: [u64; 11],
@@ -40,9 +54,9 @@ pub struct Record {
     pub rules: [u64; 4],
     // accepted calls of Spectrum, Cosine and Pair that round a tie, whose rest is the largest that there is
     pub ties: [u64; 3],
-    // blocks added to months, and sums of months compared with their exact sums, by level
-    pub added: [u64; 11],
-    pub month_sums: [u64; 11],
+    // blocks added to months, and sums of months compared with their exact sums, by party and by level
+    pub added: [[u64; 11]; 2],
+    pub month_sums: [[u64; 11]; 2],
     // pages by level, and the numbers in their columns of cosine and sine: negative or not, by their digits
     pages: [u64; 11],
     pub digits: [[[u64; 10]; 2]; 2],
@@ -104,13 +118,15 @@ impl Record {
         lines.push(format!("rules of marks met     none: {none}, flat: {flat}, clipped: {clipped}, both: {both}"));
         let [spectrum, cosine, pair] = self.ties;
         lines.push(format!("calls with a tie       Spectrum: {spectrum}, Cosine: {cosine}, Pair: {pair}"));
-        lines.push(format!("added to months        {}", by_length(&self.added)));
-        lines.push(format!("sums held to exact     {}", by_length(&self.month_sums)));
+        for (i, (added, sums)) in self.added.iter().zip(&self.month_sums).enumerate() {
+            lines.push(format!("added by party {}       {}", i + 1, by_length(added)));
+            lines.push(format!("its sums held to exact {}", by_length(sums)));
+        }
         lines.push(format!("pages by length        {}", by_length(&self.pages)));
         for (function, name) in FUNCTIONS.iter().enumerate() {
             let of = &self.answers[function];
             let numbers: Vec<String> = (0..of.len()).filter(|&number| of[number] > 0).map(|number| format!("{}: {}", number, of[number])).collect();
-            lines.push(format!("answers of {:<11} {}", name, numbers.join(", ")));
+            lines.push(format!("answers of {:<12} {}", name, numbers.join(", ")));
         }
         lines.join("\n")
     }

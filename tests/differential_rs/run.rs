@@ -9,7 +9,7 @@ use crate::mealbis::{scratch_words, Size};
 use crate::months::{LentMonth, Month, FIRST_COSINE, FIRST_SINE};
 use crate::pages::Printing;
 use crate::random::Random;
-use crate::record::{function_of, Record, ADD, BEGIN, COUNTS, INVERSE, MARK, PAGE, READ, SUMS, WRITE};
+use crate::record::{adding, function_of, Record, BEGIN, BLOCKS, COUNTS, INVERSE, MARK, PAGE, READ, SUMS, WRITE};
 use crate::stored::{rounded, Stored, StoredAnswer};
 use crate::written::Writing;
 
@@ -66,7 +66,7 @@ impl Run {
         self.record.blocks[level] += call.kind.recordings() as u64;
         let blocks = call.blocks();
         let (mut of_wanted, mut wrong) = (0, Vec::new());
-        for k in sampled(call, wanted, random) {
+        for k in sampled(call.kind, call.length, wanted, random) {
             for (part, words) in parts(call.kind).iter().zip(results) {
                 let apart = distance(words[k], part.exact(&self.rules.circle, &blocks, k));
                 self.record.distance(level, *part, apart);
@@ -109,58 +109,62 @@ impl Run {
     }
 
     // the number that document 02 answers
-    pub fn add(&mut self, month: &mut LentMonth, call: &Call, random: &mut Random) -> u32 {
-        let holding = month.month.holding(call, &self.rules);
-        let held = (month.month.words[0], month.month.blocks());
-        let answer = month.month.add(call, &self.rules);
+    pub fn add(&mut self, month: &mut LentMonth, party: usize, call: &Call, random: &mut Random) -> u32 {
+        let holding = month.month.holding(party, call, &self.rules);
+        let held = (month.month.words[0], month.month.blocks(1), month.month.blocks(2));
+        let answer = month.month.add(party, call, &self.rules);
         let mut lent = LentCall::new(call, &answer, None, random);
         month.lent.expect(&month.month.words);
-        let number = lent.make(call, Beside::Month(month.lent.pointer()));
+        let number = lent.make(call, Beside::Month(month.lent.pointer(), party as Size));
 
         let mut wrong = lent.differences();
         wrong.extend(month.lent.difference());
         wrong.extend(wrong_number(number, answer.number));
         if answer.number == 0 {
-            self.record.added[call.length.trailing_zeros() as usize] += 1;
+            self.record.added[party - 1][call.length.trailing_zeros() as usize] += 1;
         }
-        self.record.answer(ADD, answer.number, &holding);
-        self.fail(wrong, || format!("added to a month of {} with {} blocks, {}", held.0, held.1, described(call)));
+        self.record.answer(adding(party), answer.number, &holding);
+        self.fail(wrong, || format!("party {party}: added to a month of {held:?}, its first word and block numbers, {}", described(call)));
         answer.number
     }
 
-    // The sums that stand in the month, begun before these calls of one length were accepted, for some k.
-    pub fn month_distances(&mut self, month: &LentMonth, history: &[Call], random: &mut Random) {
-        let length = history[0].length;
+    // The sums that stand in the party's account, for some k. The month was begun before these calls of the party were accepted.
+    pub fn month_distances(&mut self, month: &LentMonth, party: usize, history: &[Call], random: &mut Random) {
+        let (length, words) = (month.month.length(), month.account(party));
         let mut wrong = Vec::new();
-        for k in sampled(&history[0], random.below(length), random) {
+        for k in sampled(Kind::Spectrum, length, random.below(length), random) {
             for (part, first) in [(Part::CosineDft, FIRST_COSINE), (Part::SineDft, FIRST_SINE)] {
                 let exact = history.iter().map(|call| part.exact(&self.rules.circle, &call.blocks(), k)).sum();
-                let apart = distance(month.lent.words()[first + k], exact);
-                self.record.month_sums[length.trailing_zeros() as usize] += 1;
+                let apart = distance(words[first + k], exact);
+                self.record.month_sums[party - 1][length.trailing_zeros() as usize] += 1;
                 let (over, under) = part.limit(length);
                 if !within(apart, (history.len() * over, under)) {
                     wrong.push(format!("the sum in word {} is {} thousandths from the exact one", first + k, (apart * 1000) >> 80));
                 }
             }
         }
-        self.fail(wrong, || format!("a month of {} with {} blocks", length, history.len()));
+        self.fail(wrong, || format!("a month of {} with {} blocks of party {party}", length, history.len()));
     }
 
     // the length and the block number, too
-    pub fn sums(&mut self, month: &mut LentMonth, k: usize, random: &mut Random) {
-        let sums = month.month.sums(k);
-        let correct = if sums.is_some() { 0 } else { 16 };
+    pub fn sums(&mut self, month: &mut LentMonth, party: usize, k: usize, random: &mut Random) {
+        let (blocks, sums, holding) = (month.month.blocks(party), month.month.sums(party, k), month.month.holding_reading(party, k));
         let (cosine, sine) = sums.unwrap_or((0, 0));
-        let mut record = record("the two sums", &[cosine, sine], random);
+        let mut records = [record("the block number", &[blocks.unwrap_or(0)], random), record("the two sums", &[cosine, sine], random)];
         let lent = month.lent.pointer().cast();
-        let number = unsafe { mealbis_month_sums(lent, k as Size, record.pointer().cast()) };
-        let (length, blocks) = unsafe { (mealbis_month_length(lent) as usize, mealbis_month_blocks(lent)) };
+        let [told, told_sums] = records.each_mut().map(Lent::pointer);
+        let number_of_blocks = unsafe { mealbis_month_blocks(lent, party as Size, told.cast()) };
+        let number = unsafe { mealbis_month_sums(lent, party as Size, k as Size, told_sums.cast()) };
+        let length = unsafe { mealbis_month_length(lent) as usize };
 
-        let mut found = vec![month.lent.difference(), record.difference()];
+        let (correct_blocks, correct) = (if blocks.is_some() { 0 } else { 15 }, holding.first().copied().unwrap_or(0));
+        let mut found = vec![month.lent.difference()];
+        found.extend(records.iter().map(Lent::difference));
         found.push((length != month.month.length()).then(|| format!("the length is {length} and not {}", month.month.length())));
-        found.push((blocks != month.month.blocks()).then(|| format!("the block number is {blocks} and not {}", month.month.blocks())));
-        self.record.answer(SUMS, correct, &[]);
-        self.end(found, number, correct, || format!("the sums for {k} of a month of {}", month.month.words[0]));
+        found.push(wrong_number(number_of_blocks, correct_blocks));
+        self.record.answer(BLOCKS, correct_blocks, &[]);
+        self.record.answer(SUMS, correct, &holding);
+        self.end(found, number, correct, || format!("the block number and the sums for {k} of party {party}, first word {}", month.month.words[0]));
     }
 
     // ---- pages
@@ -315,11 +319,11 @@ struct LentCall {
     record: Lent<u64>,
 }
 
-// What is given to a call of Spectrum beside its own: the figures of a mark, or the words of a month.
+// What is given to a call of Spectrum beside its own: the figures of a mark, or the words of a month and the party.
 enum Beside {
     Nothing,
     Figures(i32, i32),
-    Month(*mut i64),
+    Month(*mut i64, Size),
 }
 
 impl LentCall {
@@ -364,8 +368,8 @@ impl LentCall {
                 (Kind::Spectrum, Beside::Figures(flat, clip)) => {
                     mealbis_mark(a, a_len, start, length, allowance, flat, clip, y, y_len, z, z_len, work, work_len, record.cast())
                 }
-                (Kind::Spectrum, Beside::Month(month)) => {
-                    mealbis_month_add(month.cast(), a, a_len, start, length, allowance, y, y_len, z, z_len, work, work_len, record.cast())
+                (Kind::Spectrum, Beside::Month(month, party)) => {
+                    mealbis_month_add(month.cast(), party, a, a_len, start, length, allowance, y, y_len, z, z_len, work, work_len, record.cast())
                 }
                 (Kind::Cosine, _) => mealbis_cosine(a, a_len, start, length, allowance, y, y_len, work, work_len, record.cast()),
                 (Kind::Pair, _) => mealbis_pair(a, a_len, b, b_len, start, length, allowance, y, y_len, z, z_len, work, work_len, record.cast()),
@@ -403,8 +407,8 @@ fn parts(kind: Kind) -> &'static [Part] {
 }
 
 // The k that are held to their exact sums: all for N up to 64 and for some longer blocks, else 0, 1, N/4, N/2, the last, the wanted one and random ones.
-fn sampled(call: &Call, wanted: usize, random: &mut Random) -> Vec<usize> {
-    let (n, listed) = (call.length, call.kind.listed(call.length));
+fn sampled(kind: Kind, n: usize, wanted: usize, random: &mut Random) -> Vec<usize> {
+    let listed = kind.listed(n);
     if n <= 64 || random.one_in(32) {
         return (0..listed).collect();
     }
