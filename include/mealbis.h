@@ -135,8 +135,8 @@
  *     alone or runs on another stack.
  *
  * Stack: a copy of the cosine table, 4,100 bytes, and frames whose number depends on the length
- * alone. Measured at length 1,024, in bytes: mealbis_cosine 7,344, mealbis_mark 7,232,
- * mealbis_month_add 7,232, mealbis_spectrum 7,168, mealbis_pair 7,088, mealbis_inverse_dct 4,184,
+ * alone. Measured at length 1,024, in bytes: mealbis_cosine 7,344, mealbis_month_add 7,248,
+ * mealbis_mark 7,232, mealbis_spectrum 7,168, mealbis_pair 7,088, mealbis_inverse_dct 4,184,
  * mealbis_page 168, mealbis_write 112, mealbis_counts 56, mealbis_read 56, the other calls on a month
  * 40 at most; shorter blocks take no more.
  * The proof does not speak of the stack: allow 8 KiB. tests/run_self_check.py measures it.
@@ -222,6 +222,7 @@ static inline const char *mealbis_reason(uint32_t number)
 #define MEALBIS_MOST_FILE_SAMPLES 4096
 #define MEALBIS_MOST_BLOCKS 50000 /* of a party in a month */
 #define MEALBIS_MONTH_WORDS 2055
+#define MEALBIS_MONTH_EDITION 40000 /* the version from which on months are laid out and made so */
 #define MEALBIS_SPECTRUM_WORDS(length) ((length) / 2 + 1)
 #define MEALBIS_SCRATCH_WORDS(length) (8 * (length) + 64)
 #define MEALBIS_FILE_BYTES(samples) (8 + 8 * (samples))
@@ -347,9 +348,8 @@ MEALBIS_CHECKED uint32_t mealbis_mark(
  * A month: sums of the spectra of many blocks of one length N, for two owners, the parties 1 and 2,
  * in 16,440 bytes that you keep. Write them by mealbis_month_begin and mealbis_month_add alone. Such
  * a month may be copied, stored and taken up again; its words are
- *   words[0]                 the mark: 65,536 * 40,000 + N, or 0 where beginning was refused. 40,000
- *                            is the edition: the version from which on months are so laid out and
- *                            so made
+ *   words[0]                 the mark: 65,536 * MEALBIS_MONTH_EDITION + N, or 0 where beginning was
+ *                            refused
  *   words[1] .. [1027]       the account of party 1
  *   words[1028] .. [2054]    the account of party 2
  * An account has 1,027 words; from its first, words[f], on they are
@@ -379,9 +379,9 @@ MEALBIS_CHECKED uint32_t mealbis_mark(
  * 0: mealbis_month_add answers 13 to every block of a party, and it stays as it is.
  *
  * In words that no month left there nothing overflows either, and nothing outside the month is
- * touched: where words[0] is no mark, 65,536 * 40,000 + N with one of the eleven lengths, the length
- * is read as 0; a block number is told as it stands, 50,000 or more is full, and a negative one goes
- * up by 1 as any other; a sum beyond 2^62 in size stays as it is.
+ * touched: where words[0] is the mark of none of the eleven lengths, the length is read as 0; a block
+ * number is told as it stands, 50,000 or more is full, and a negative one goes up by 1 as any other;
+ * a sum beyond 2^62 in size stays as it is.
  */
 typedef struct mealbis_month {
     int64_t words[MEALBIS_MONTH_WORDS];

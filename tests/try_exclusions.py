@@ -31,11 +31,14 @@ RIGHT = {
         "clippedFirst": "1", "sineOverlooked": "3", "lastOverlooked": "3", "firstCounted": "1", "levelPlain": "2", "beforeBlock": "3",
         "twelveFirst": "1", "toldAsSix": "12", "scratchCleared": "pos 9"}),
     "months": ("Excluded", {
-        "badBegun": "1", "oldUsable": "pos 0", "oldSums": "pos 0",
+        "badBegun": "1", "oldUsable": "0", "oldSums": "pos 0", "onlyOne": "pos 0", "unmarked": "pos 2621440008",
         "refusedCounted": "pos 0", "notCounted": "pos 1", "lastLeftOut": "pos 2", "toTheSines": "pos 0", "firstBlockAgain": "pos 5",
-        "fourteenFirst": "13", "notAlwaysOther": "13", "oneMore": "14",
-        "exchanged": "pos 0", "lastRefused": "0", "oneMore 2": "16", "anyLength": "0", "lengthLost": "2", "numberOfLength": "pos 1",
-        "numberOfSum": "pos 1"}),
+        "toTheOther": "pos 0", "countedThere": "pos 0", "refusedThere": "pos 0",
+        "threeAsTwo": "15", "zeroAsOne": "15", "thirteenFirst": "15", "fourteenFirst": "13", "notAlwaysOther": "13",
+        "oneMore": "14", "byBoth": "0", "byTheOther": "0", "earlierGoesOn": "13", "earlierWritten": "pos 7",
+        "numberOfOther": "pos 1", "numberOfThree": "15", "numberOfSum": "pos 1",
+        "exchanged": "pos 0", "lastRefused": "0", "oneMore 2": "16", "sixteenFirst": "15",
+        "anyLength": "0", "lengthLost": "2", "earlierLength": "0"}),
     "inverse": ("Excluded", {
         "firstTwice": "pos 1", "halfLeftOut": "pos 1", "roundedTwice": "pos 0", "beyondCleared": "pos 9", "limitAMillion": "0",
         "placeFromOne": "0", "placeLost": "1", "threeFirst": "2", "toldAsSix": "10"}),

@@ -15,7 +15,7 @@
 
 #define LONGEST MEALBIS_LONGEST_BLOCK
 #define STACK_PROMISED 8192
-#define MARK_OF(n) (INT64_C(65536) * 40000 + (n)) /* words[0] of a month of n */
+#define MARK_OF(n) (INT64_C(65536) * MEALBIS_MONTH_EDITION + (n)) /* words[0] of a month of n */
 #define ACCOUNT(party) ((party) == 1 ? 1 : 1028)  /* where a party's words begin */
 #define WORK(n) scratch, MEALBIS_SCRATCH_WORDS(n) /* just enough scratch for n samples, as two parameters */
 

@@ -190,7 +190,8 @@ pub extern "C" fn mealbis_month_add(
 ) -> u32
     ensures { λ r. ⌜ AddTold party (given (now (recording .entry)) start length allowance
         (buffers (now (cosine .entry)) (now (sine .entry)) (now (scratch .entry))))
-        (now (month .entry)) (now (month .exit)) (buffers (now (cosine .exit)) (now (sine .exit)) (now (scratch .exit))) (now (told .exit)) r ⌝ }
+        (now (month .entry)) (now (month .exit)) (buffers (now (cosine .exit)) (now (sine .exit)) (now (scratch .exit)))
+        (now (told .exit)) r ⌝ }
 {
     let answer = record::add_to(
         month,

@@ -2,7 +2,7 @@
 -- Assumes nothing.
 use mathlib.Core.Path.{_≡_}
 use mathlib.Core.Bool.{true, false}
-use Prim.Native.Nat.{_+_, _^_, _<_}
+use Prim.Native.Nat.{_^_}
 use lib.Dec.{lit<}
 use lib.IntN.{ℤ, _+ℤ_}
 use lib.Signed.{natAbs-le}

@@ -2,7 +2,7 @@
 -- Assumes nothing.
 use mathlib.Core.Path.{_≡_, refl, subst, _∙_}
 use mathlib.Core.Bool.{true, false, not, cond}
-use mathlib.Core.List.{List, [], _∷_}
+use mathlib.Core.List.{[], _∷_}
 use Prim.Native.Nat.{ℕ, zero, suc, _+_, _*_, _≤_, _<_}
 use native.Mathlib.Omega.{arith}
 use lib.IntN.{pos, _+ℤ_}
@@ -21,7 +21,7 @@ use Rattle.refusals.specs.declared.refusal.Outcome.the-variants.{Refused, Accep
 use Rattle.refusals.specs.Refusals.{refused, accepted}
 use Rattle.refusals.specs.Answers.{outcome}
 use Rattle.months.specs.Accounts.{accountWords, Holds, sumOver, AllAccepted}
-use Rattle.months.specs.Months.{marked, lengthOf, unknownParty, account, accountAt, newMonth, otherLength}
+use Rattle.months.specs.Months.{marked, lengthOf, account, accountAt, newMonth}
 use Rattle.months.specs.Laws.{AlwaysOther}
 use Rattle.months.specs.Promises.{BeginPromise}
 use Rattle.months.proofs.Lengths.{length-begun, length-small}
@@ -50,7 +50,8 @@ empty N p n small = record {
   beyond = λ k h l. (new-account N p (1 + k) (omega arith), new-account N p (514 + k) (omega arith));
 }
 
-pub promise : (N : ℕ) {answer : Outcome} → outcome answer ≡ cond (not (isLength N)) (refused 1) accepted → BeginPromise N (newMonth N) answer
+pub promise : (N : ℕ) {answer : Outcome} → outcome answer ≡ cond (not (isLength N)) (refused 1) accepted
+    → BeginPromise N (newMonth N) answer
 promise N told = record {
   verdict = told;
   words = refl;

@@ -3,7 +3,7 @@
 use mathlib.Core.Path.{_≡_, refl, ap}
 use mathlib.Core.Bool.{true, false≢true}
 use mathlib.Core.List.{List, [], _∷_}
-use Prim.Native.Nat.{ℕ, _*_}
+use Prim.Native.Nat.{_*_}
 use native.Mathlib.Omega.{arith}
 use lib.Dec.{leb, lit≤}
 use lib.IntN.{ℤ}
@@ -27,7 +27,7 @@ use Rattle.months.specs.declared.record.NumberAnswer.{NumberAnswer}
 use Rattle.months.specs.declared.record.SumsAnswer.{SumsAnswer}
 use Rattle.months.specs.Accounts.{blockNumber, cosineSum, plus, sumOver, eighths}
 use Rattle.months.specs.Months.{lengthOf, account, newMonth}
-use Rattle.months.specs.Runs.{readLength, lengthRead, tellsLength, Made, none, more, Run}
+use Rattle.months.specs.Runs.{readLength, lengthRead, tellsLength, Made, Calls, none, more, Run}
 use Rattle.months.specs.Isolation.{callsOf, seenBy}
 use Rattle.months.specs.Excluded.{BeginExcluded, AddExcluded, ReadExcluded, OthersNumber, OthersSee}
 use Rattle.months.proofs.Beginning.{promise}
@@ -90,12 +90,13 @@ unfolding rootOf halved unitStep step stepped firstQuarter onHalf onCircle K T
     sum exactCosine isLength level sumOver
 others-number month one two near = false≢true (no-distance _ _ (rw (one .cosine 1 (lit≤ tt)) at near))
 
+begun : {made : List Made} {month : List ℤ} → Calls (newMonth 1) made month → Run 1 made month
+unfolding isLength
+begun calls = record { start = newMonth 1; answer = Accepted; begun = promise 1 refl; calls = calls }
+
 pub others-see : OthersSee
-unfolding callsOf seenBy isLength
+unfolding callsOf seenBy
 others-see also =
-    let start = promise 1 {answer = Accepted} refl in
     let read : Made = record { party = 2; call = readLength; seen = lengthRead (lengthOf (newMonth 1)) } in
-    let one : Run 1 [] (newMonth 1) = record { start = newMonth 1; answer = Accepted; begun = start; calls = none } in
-    let other : Run 1 (read ∷ []) (newMonth 1) = record { start = newMonth 1; answer = Accepted; begun = start; calls = more read tellsLength none } in
-    let same = also 1 [] (read ∷ []) (newMonth 1) (newMonth 1) one other refl in
+    let same = also 1 [] (read ∷ []) (newMonth 1) (newMonth 1) (begun none) (begun (more read tellsLength none)) refl in
     omega (arith, ap length same)

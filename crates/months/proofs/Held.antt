@@ -18,7 +18,7 @@ use Rattle.months.specs.declared.account.Sums.{Sums}
 use Rattle.months.specs.declared.record.NumberAnswer.the-variants.{Blocks}
 use Rattle.months.specs.declared.record.SumsAnswer.the-variants.{Yielded}
 use Rattle.months.specs.Accounts.{mostBlocks}
-use Rattle.months.specs.Months.{lengthOf, unknownParty, account, yielded}
+use Rattle.months.specs.Months.{lengthOf, unknownParty, yielded}
 use Rattle.months.specs.Promises.{Given, AddPromise, NumberPromise, SumsPromise, Held, Adding}
 use Rattle.months.specs.Runs.{add, added, adds, Made, blockIn}
 use Rattle.months.proofs.Holding.{sums-fit}

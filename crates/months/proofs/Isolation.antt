@@ -1,4 +1,5 @@
--- Isolation: each call of a party is determined by the month's length and by that party's account; and what holds of one call holds of runs.
+-- Isolation: each call of a party is determined by the month's length and by that party's account; and what is so of one call is so of
+-- runs.
 -- Assumes nothing.
 use mathlib.Core.Path.{_≡_, refl, sym, ap, _∙_}
 use mathlib.Core.Bool.{Bool, true, false, cond}
@@ -7,7 +8,7 @@ use mathlib.Core.Logic.{⊎-elim}
 use Prim.Native.Nat.{ℕ, zero, suc, _+_, _-_, _/_, _≤_, _<_}
 use native.Mathlib.Omega.{arith}
 use lib.Dec.{eqb}
-use lib.IntN.{ℤ, pos, _+ℤ_}
+use lib.IntN.{ℤ, pos}
 use lib.ListN.{length, length-take}
 use lib.Seq.{ext-getD}
 use borrow.Author.Tests.{eqb-true, eqb-false}
@@ -16,19 +17,19 @@ use Rattle.words.specs.Words.{Samples, word}
 use Rattle.refusals.specs.Refusals.{accepted}
 use Rattle.refusals.proofs.Promises.{refuses, same-refusal, accepted-or-not}
 use Rattle.spectra.specs.declared.Answer.{Answer}
-use Rattle.spectra.specs.Answers.{verdictOf, spent}
+use Rattle.spectra.specs.Answers.{verdictOf}
 use Rattle.spectra.specs.Promises.{Buffers}
 use Rattle.spectra.proofs.Determined.{same-answer, none-spent, spent-alike, left-alike}
 use Rattle.months.specs.declared.record.NumberAnswer.{NumberAnswer}
 use Rattle.months.specs.declared.record.NumberAnswer.the-variants.{Refused as NotTold, Blocks}
 use Rattle.months.specs.declared.record.SumsAnswer.{SumsAnswer}
 use Rattle.months.specs.declared.record.SumsAnswer.the-variants.{Refused, Yielded}
-use Rattle.months.specs.Accounts.{accountWords, cosineSum, sineSum, plus, BlockAdded}
-use Rattle.months.specs.Months.{lengthOf, unknownParty, account, newMonth, addVerdict}
+use Rattle.months.specs.Accounts.{accountWords, cosineSum, sineSum, BlockAdded}
+use Rattle.months.specs.Months.{unknownParty, account, newMonth, addVerdict}
 use Rattle.months.specs.Answers.{verdictOfNumber, blocksOf, verdictOfSums, sumsOf}
 use Rattle.months.specs.Promises.{Given, callOf, AddPromise, NumberPromise, SumsPromise}
-use Rattle.months.specs.Runs.{PartyCall, Seen, added, numberRead, sumsRead, lengthRead, Keeps, adds, tellsNumber, tellsSums, tellsLength}
-use Rattle.months.specs.Runs.{Made, Calls, none, more, Run}
+use Rattle.months.specs.Runs.{PartyCall, Seen, numberRead, sumsRead, lengthRead}
+use Rattle.months.specs.Runs.{Keeps, adds, tellsNumber, tellsSums, tellsLength, Made, Calls, none, more}
 use Rattle.months.specs.Isolation.{Same, OneCall, callsOf, seenBy, Isolated}
 use Rattle.months.proofs.Steps.{length-stays, account-stays}
 
@@ -69,7 +70,7 @@ module _ {p : ℕ} {g : Given} {m m′ t t′ : List ℤ} {l k : Buffers} {a b :
     (one : AddPromise p g m m′ l a) (other : AddPromise p g t t′ k b) where
   verdicts : verdictOf a ≡ verdictOf b
   verdicts =
-      let e : addVerdict p m (callOf g) ≡ addVerdict p t (callOf g) = rw (same .length, same .account) refl in
+      let e : addVerdict p m (callOf g) ≡ addVerdict p t (callOf g) = rw (same .lengths, same .accounts) refl in
       one .verdict ∙ e ∙ sym (other .verdict)
 
   both-accepted : verdictOf a ≡ accepted → (a ≡ b) × (l ≡ k) × (account p m′ ≡ account p t′)
@@ -78,7 +79,7 @@ module _ {p : ℕ} {g : Given} {m m′ t t′ : List ℤ} {l k : Buffers} {a b :
       let done′ = other .done (sym verdicts ∙ e) .own in (
         same-answer a b verdicts (spent-alike (done .spectrum) (done′ .spectrum)),
         left-alike (done .spectrum) (done′ .spectrum),
-        block-alike (account-short p t) (rw (same .account) at (done .words)) (done′ .words),
+        block-alike (account-short p t) (rw (same .accounts) at (done .words)) (done′ .words),
       )
 
   both-refused : (verdictOf a ≡ accepted → ⊥) → (a ≡ b) × (l ≡ k) × (account p m′ ≡ account p t′)
@@ -88,14 +89,15 @@ module _ {p : ℕ} {g : Given} {m m′ t t′ : List ℤ} {l k : Buffers} {a b :
       let (month-stays′, buffers-stay′) = other .unchanged e′ in (
         same-answer a b verdicts (none-spent a e ∙ sym (none-spent b e′)),
         buffers-stay ∙ sym buffers-stay′,
-        ap (account p) month-stays ∙ same .account ∙ sym (ap (account p) month-stays′),
+        ap (account p) month-stays ∙ same .accounts ∙ sym (ap (account p) month-stays′),
       )
 
   adds-alike : (a ≡ b) × (l ≡ k) × (account p m′ ≡ account p t′)
   adds-alike = ⊎-elim both-accepted both-refused (accepted-or-not (verdictOf a))
 
 -- ---- reading: an answer is determined by its verdict and by what it tells
-same-number : (a b : NumberAnswer) → verdictOfNumber a ≡ verdictOfNumber b → (verdictOfNumber a ≡ accepted → blocksOf a ≡ blocksOf b) → a ≡ b
+same-number : (a b : NumberAnswer) → verdictOfNumber a ≡ verdictOfNumber b → (verdictOfNumber a ≡ accepted → blocksOf a ≡ blocksOf b)
+    → a ≡ b
 same-number (NotTold r) (NotTold s) e f = ap NotTold (same-refusal r s e)
 same-number (NotTold r) (Blocks n) e f = absurd (refuses r e)
 same-number (Blocks m) (NotTold s) e f = absurd (refuses s (sym e))
@@ -111,12 +113,12 @@ module _ {p : ℕ} {m t : List ℤ} (same : Same p m t) where
   numbers-alike : (a b : NumberAnswer) → NumberPromise p m a → NumberPromise p t b → a ≡ b
   numbers-alike a b one other =
       let verdicts = one .verdict ∙ sym (other .verdict) in
-      same-number a b verdicts (λ e. one .number e ∙ rw (same .account) (sym (other .number (sym verdicts ∙ e))))
+      same-number a b verdicts (λ e. one .number e ∙ rw (same .accounts) (sym (other .number (sym verdicts ∙ e))))
 
   sums-alike : (k : ℕ) (a b : SumsAnswer) → SumsPromise p m k a → SumsPromise p t k b → a ≡ b
   sums-alike k a b one other =
-      let verdicts : verdictOfSums a ≡ verdictOfSums b = one .verdict ∙ rw (same .length) (sym (other .verdict)) in
-      same-sums a b verdicts (λ e. one .sums e ∙ rw (same .account) (sym (other .sums (sym verdicts ∙ e))))
+      let verdicts : verdictOfSums a ≡ verdictOfSums b = one .verdict ∙ rw (same .lengths) (sym (other .verdict)) in
+      same-sums a b verdicts (λ e. one .sums e ∙ rw (same .accounts) (sym (other .sums (sym verdicts ∙ e))))
 
 -- ---- of one call
 module _ {p : ℕ} where
@@ -124,28 +126,28 @@ module _ {p : ℕ} where
       → (seen ≡ seen′) × Same p m′ t′
   own _ same (adds g m′ l a one) (adds h t′ k b other) =
       let (answers, buffers, accounts) = adds-alike same one other in
-      let lengths = length-stays (adds g m′ l a one) ∙ same .length ∙ sym (length-stays (adds h t′ k b other)) in
-      (cc, record { length = lengths; account = accounts })
+      let lengths = length-stays (adds g m′ l a one) ∙ same .lengths ∙ sym (length-stays (adds h t′ k b other)) in
+      (cc, record { lengths = lengths; accounts = accounts })
   own _ same (tellsNumber a one) (tellsNumber b other) = (ap numberRead (numbers-alike same a b one other), same)
   own _ same (tellsSums k a one) (tellsSums j b other) = (ap sumsRead (sums-alike same k a b one other), same)
-  own _ same tellsLength tellsLength = (ap lengthRead (same .length), same)
+  own _ same tellsLength tellsLength = (ap lengthRead (same .lengths), same)
 
 pub one-call : (p : ℕ) → unknownParty p ≡ false → OneCall p
 one-call p known = record {
   own = own;
-  others = λ q ne keeps. record { length = length-stays keeps; account = account-stays p known (λ e. ne (sym e)) keeps };
+  others = λ q ne keeps. record { lengths = length-stays keeps; accounts = account-stays p known (λ e. ne (sym e)) keeps };
 }
 
 -- ---- of runs
 module _ (p : ℕ) (known : unknownParty p ≡ false) where
   itself : (m : List ℤ) → Same p m m
-  itself m = record { length = refl; account = refl }
+  itself m = record { lengths = refl; accounts = refl }
 
   turned : {m t : List ℤ} → Same p m t → Same p t m
-  turned e = record { length = sym (e .length); account = sym (e .account) }
+  turned e = record { lengths = sym (e .lengths); accounts = sym (e .accounts) }
 
   joined : {m t u : List ℤ} → Same p m t → Same p t u → Same p m u
-  joined e f = record { length = e .length ∙ f .length; account = e .account ∙ f .account }
+  joined e f = record { lengths = e .lengths ∙ f .lengths; accounts = e .accounts ∙ f .accounts }
 
   -- a run as the party sees it: between its own calls its account stays
   data Own : List ℤ → List PartyCall → List Seen → List ℤ → Type 0 where
@@ -183,4 +185,4 @@ module _ (p : ℕ) (known : unknownParty p ≡ false) where
       let start : Same p (run .start) (run′ .start) = rw (run .begun .words, run′ .begun .words) (itself (newMonth N)) in
       let theirs : Own (run′ .start) (callsOf p made) (seenBy p made′) month′ = rw e (own-of (run′ .calls)) in
       let (seen, end) = alike (own-of (run .calls)) theirs start in
-      (seen, end .account)
+      (seen, end .accounts)

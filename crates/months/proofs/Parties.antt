@@ -1,10 +1,10 @@
 -- The two parties, and their accounts in a month: an account is lent by itself, and what is left in it leaves all other words as they were.
 -- Assumes nothing.
 use mathlib.Core.Path.{_≡_, refl, sym, ap, subst, _∙_}
-use mathlib.Core.Bool.{Bool, true, false, not, _||_, false≢true}
-use mathlib.Core.List.{List, _++_}
+use mathlib.Core.Bool.{Bool, true, false, _||_}
+use mathlib.Core.List.{List}
 use mathlib.Core.Logic.{_⊎_, inl, inr, ⊎-elim}
-use Prim.Native.Nat.{ℕ, zero, suc, _+_, _-_, _*_, _≤_, _<_}
+use Prim.Native.Nat.{ℕ, zero, suc, _+_, _-_, _≤_, _<_}
 use native.Mathlib.Omega.{arith}
 use lib.Dec.{eqb}
 use lib.IntN.{ℤ, pos}
@@ -38,7 +38,10 @@ account-fits p h = omega (arith, known p h)
 
 apart : (p q k : ℕ) → unknownParty p ≡ false → unknownParty q ≡ false → (q ≡ p → ⊥) → k < accountWords
     → (accountAt q + k < accountAt p) ⊎ (accountAt p + accountWords ≤ accountAt q + k)
-apart p q k h g ne l = ⊎-elim (λ o. inr (omega (arith, known p h, known q g))) (λ o. inl (omega (arith, known p h, known q g))) (le-or-lt p q)
+apart p q k h g ne l =
+    let of-p = known p h in
+    let of-q = known q g in
+    ⊎-elim (λ o. inr (omega arith)) (λ o. inl (omega arith)) (le-or-lt p q)
 
 pub account-word : (p : ℕ) (month : List ℤ) (k : ℕ) → k < accountWords → word (account p month) k ≡ word month (accountAt p + k)
 unfolding account

@@ -2,7 +2,7 @@
 -- Assumes nothing.
 use mathlib.Core.Path.{_≡_, refl, sym, subst, _∙_}
 use mathlib.Core.Bool.{Bool, true, false, cond}
-use mathlib.Core.List.{List, [], _∷_, _++_, append-nil, append-assoc}
+use mathlib.Core.List.{List, [], _++_, append-nil, append-assoc}
 use Prim.Native.Nat.{ℕ}
 use lib.Dec.{eqb}
 use lib.IntN.{ℤ}
@@ -38,7 +38,8 @@ module _ (p : ℕ) (known : unknownParty p ≡ false) where
 
 pub after-any-calls : {N : ℕ} {made : List Made} {month : List ℤ} → Run N made month → AfterAnyCalls N made month
 after-any-calls run =
-    let holds : (p : ℕ) → unknownParty p ≡ false → Holds _ _ _ = λ p known. held-after p known [] (run .begun .empty p known) (run .calls) in
+    let holds : (p : ℕ) → unknownParty p ≡ false → Holds _ _ _ =
+    λ p known. held-after p known [] (run .begun .empty p known) (run .calls) in
     record {
       length = length-after (run .calls) ∙ run .begun .length;
       holds = holds;

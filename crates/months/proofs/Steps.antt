@@ -1,13 +1,11 @@
 -- One call on a month, by its promise: what becomes of each party's account, and of the month's length.
 -- Assumes nothing.
 use mathlib.Core.Path.{_≡_, refl, sym, ap, _∙_}
-use mathlib.Core.Bool.{Bool, true, false, cond}
+use mathlib.Core.Bool.{false}
 use mathlib.Core.List.{List, [], _∷_, _++_, append-nil}
 use mathlib.Core.Logic.{⊎-elim}
 use Prim.Native.Nat.{ℕ}
-use lib.Dec.{eqb}
 use lib.IntN.{ℤ}
-use borrow.Author.Tests.{eqb-true, eqb-false}
 use Rattle.words.specs.Words.{Samples}
 use Rattle.refusals.specs.Refusals.{Verdict, refusedAt, accepted}
 use Rattle.refusals.proofs.Promises.{not-both, past-test, accepted-or-not}
@@ -15,7 +13,7 @@ use Rattle.spectra.specs.declared.Answer.{Answer}
 use Rattle.spectra.specs.Answers.{verdictOf}
 use Rattle.spectra.specs.Promises.{Buffers}
 use Rattle.months.specs.Accounts.{History, Holds}
-use Rattle.months.specs.Months.{lengthOf, unknownParty, account, otherLength, addVerdict}
+use Rattle.months.specs.Months.{lengthOf, unknownParty, account, otherLength}
 use Rattle.months.specs.Promises.{Given, blockOf, AddPromise}
 use Rattle.months.specs.Runs.{PartyCall, Seen, Keeps, adds, tellsNumber, tellsSums, tellsLength, ifAccepted, blockIn}
 use Rattle.months.proofs.Lengths.{length-same}
@@ -27,7 +25,8 @@ one-more : (v : Verdict) (x : Samples) {N : ℕ} {account : List ℤ} {history :
 one-more (refusedAt n i) x stays more = rw append-nil (stays not-both)
 one-more accepted x stays more = more refl
 
-module _ (p : ℕ) (g : Given) (month month′ : List ℤ) (lent′ : Buffers) (answer : Answer) (made : AddPromise p g month month′ lent′ answer) where
+module _ (p : ℕ) (g : Given) (month month′ : List ℤ) (lent′ : Buffers) (answer : Answer)
+    (made : AddPromise p g month month′ lent′ answer) where
   either : {A : Type 0} → (verdictOf answer ≡ accepted → A) → ((verdictOf answer ≡ accepted → ⊥) → A) → A
   either done unchanged = ⊎-elim done unchanged (accepted-or-not (verdictOf answer))
 

@@ -12,8 +12,8 @@ use Rattle.months.specs.Runs.{PartyCall, Seen, Keeps, Made, Run}
 
 -- two months of one length that agree in the account of the party p
 pub record Same (p : ℕ) (month other : List ℤ) : Type 0 where
-  pub length : lengthOf month ≡ lengthOf other
-  pub account : account p month ≡ account p other
+  pub lengths : lengthOf month ≡ lengthOf other
+  pub accounts : account p month ≡ account p other
 
 -- ---- of one call
 pub record OneCall (p : ℕ) : Type 0 where

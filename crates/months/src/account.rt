@@ -89,7 +89,8 @@ fn add_sums(account: &mut [i64], at: usize, coefficients: &[i32], n: usize)
 fn add_block(account: &mut [i64], length: usize, cosine: &[i32], sine: &[i32])
     requires { ⌜ (List·length (now account) ≡ accountWords) × (length ≤ 1024)
         × (length / 2 + 1 ≤ List·length (now cosine)) × (length / 2 + 1 ≤ List·length (now sine)) × (full (now account) ≡ false) ⌝ }
-    ensures { λ _. ⌜ BlockAdded length (word (now (cosine .entry))) (word (now (sine .entry))) (now (account .entry)) (now (account .exit)) ⌝ }
+    ensures { λ _. ⌜ BlockAdded length (word (now (cosine .entry))) (word (now (sine .entry)))
+        (now (account .entry)) (now (account .exit)) ⌝ }
 {
     let yields = length / 2 + 1;
     add_sums(account, COSINE_SUMS, cosine, yields);

@@ -1,10 +1,7 @@
 -- What Spectrum promises determines its outcome: the answer, and what it leaves in the buffers.
 -- Assumes nothing.
-use mathlib.Core.List.{List}
 use mathlib.Core.Path.{_≡_, refl, sym, ap, _∙_}
-use mathlib.Core.Logic.{⊎-elim}
 use Prim.Native.Nat.{ℕ}
-use lib.IntN.{ℤ}
 use Rattle.words.specs.Words.{Samples}
 use Rattle.words.proofs.Writing.{written-alike}
 use Rattle.counts.specs.declared.tally.Tally.{Tally}

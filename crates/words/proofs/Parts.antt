@@ -9,7 +9,6 @@ use native.Mathlib.Omega.{arith}
 use lib.IntN.{ℤ, pos}
 use lib.ListN.{length, take, drop, length-append, length-drop, drop-of-length-le, List·getD-append}
 use lib.Seq.{take-all, take-at, drop-at, length-take-le, getD-take, getD-drop, getD-append-add, ext-getD}
-use Rattle.whole.proofs.Cases.{le-or-lt}
 use Rattle.words.specs.Words.{word}
 
 abbrev pub part : ℕ → List ℤ → List ℤ
