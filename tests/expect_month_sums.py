@@ -52,7 +52,7 @@ def of_party(party, count):
 
 def both_parties():
     """The calls of both parties in one month."""
-    return [(i, 1 + i * 7 % 11 % 2) for i in range(450)]
+    return [(i, 1 + (i * 7 % 11 + i * 5 % 13 + i * 3 % 17) % 2) for i in range(450)]
 
 
 def run_length(samples, length, other):

@@ -125,9 +125,9 @@ enum Turns {
     Every(usize),
 }
 
-// The owner whose turn it is, 1 or 2.
+// The owner whose turn it is, 1 or 2, in no order.
 fn owner(turn: usize) -> usize {
-    1 + turn % 11 * 7 % 11 % 2
+    1 + (turn % 11 * 7 % 11 + turn % 13 * 5 % 13 + turn % 17 * 3 % 17) % 2
 }
 
 // The party that calls in a turn; 0 where none does.
