@@ -437,6 +437,9 @@ def check_itself(results):
 
 
 def main():
+    # where the gate runs in the background these are ignored, and what is started here would ignore them, too
+    for number in (signal.SIGINT, signal.SIGTERM, signal.SIGHUP):
+        signal.signal(number, signal.SIG_DFL)
     results = Results()
     with tempfile.TemporaryDirectory() as folder:
         copy = Copy(Path(folder))
