@@ -32,8 +32,8 @@ RIGHT = {
         "twelveFirst": "1", "toldAsSix": "12", "scratchCleared": "pos 9"}),
     "months": ("Excluded", {
         "badBegun": "1", "oldUsable": "0", "oldSums": "pos 0", "onlyOne": "pos 0", "unmarked": "pos 2621440008",
-        "refusedCounted": "pos 0", "notCounted": "pos 1", "lastLeftOut": "pos 2", "toTheSines": "pos 0", "firstBlockAgain": "pos 5",
-        "toTheOther": "pos 0", "countedThere": "pos 0", "refusedThere": "pos 0",
+        "refusedCounted": "pos 0", "notCounted": "pos 1", "lastLeftOut": "pos 2", "countedInASum": "pos 3", "toTheSines": "pos 0",
+        "firstBlockAgain": "pos 5", "toTheOther": "pos 0", "countedThere": "pos 0", "refusedThere": "pos 0",
         "threeAsTwo": "15", "zeroAsOne": "15", "thirteenFirst": "15", "fourteenFirst": "13", "notAlwaysOther": "13",
         "oneMore": "14", "byBoth": "0", "byTheOther": "0", "earlierGoesOn": "13", "earlierWritten": "pos 7",
         "numberOfOther": "pos 1", "numberOfThree": "15", "numberOfSum": "pos 1",

@@ -48,6 +48,7 @@ add-excluded _ _ _ = record {
   refusedCounted = λ p w. words-differ (ap (λ m. blockNumber (account 1 m)) (stays p tt .0)) w tt;
   notCounted = λ p w. words-differ (done-of p .own .words .number) w tt;
   lastLeftOut = λ p w. words-differ (done-of p .own .words .cosine 1 (lit≤ tt)) w tt;
+  countedInASum = λ p w. words-differ (done-of p .own .words .cosine 0 (lit≤ tt)) w tt;
   toTheSines = λ p w. words-differ (done-of p .own .words .sine 0 (lit≤ tt)) w tt;
   firstBlockAgain = λ p w. words-differ (done-of p .own .words .cosine 0 (lit≤ tt)) w tt;
   toTheOther = λ p w. words-differ (ap (λ a. cosineSum a 0) (done-of p .others .accounts 1 refl (λ e. omega arith))) w tt;

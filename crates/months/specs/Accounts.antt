@@ -5,7 +5,7 @@ use mathlib.Core.List.{List, [], _∷_}
 use mathlib.Core.Path.{_≡_}
 use Prim.Native.Nat.{ℕ, _+_, _*_, _/_, _^_, _≤_, _<_}
 use lib.IntN.{ℤ, pos, _+ℤ_}
-use lib.ListN.{length, replicate}
+use lib.ListN.{length}
 use lib.Signed.{leZ}
 use Rattle.words.specs.Words.{Samples, word}
 use Rattle.lengths.specs.Block.{AcceptedBlock, level}
@@ -30,10 +30,6 @@ cosineSum account k = word account (1 + k)
 
 abbrev pub sineSum : List ℤ → ℕ → ℤ
 sineSum account k = word account (514 + k)
-
--- an account of no blocks
-abbrev pub newAccount : List ℤ
-newAccount = replicate accountWords (pos 0)
 
 -- ---- adding: "adds each coefficient to a running 64-bit sum for its k, and one to the block number". No sum of an account is beyond 2^62
 -- in size (`Laws`). Where lent words that are no month's hold such a number, it stays

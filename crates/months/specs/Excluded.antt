@@ -53,10 +53,12 @@ module _ (month′ : List ℤ) (lent : Buffers) (answer : Answer) where
       AddPromise p (given recording start N 0 (buffers results results (nines (scratchWords N)))) before month′ lent answer
 
   pub record AddExcluded : Type 0 where
-    -- "A refused block leaves the month unchanged.": it is not counted. An accepted one is, and its coefficients, 4 and 2, are added
+    -- "A refused block leaves the month unchanged.": it is not counted. An accepted one is, and its coefficients, 4 and 2, are added;
+    -- 1 is added to the block number and not to the first sum
     pub refusedCounted : Never (Add 1 (newMonth 2) (pos 0 ∷ pos 1000001 ∷ []) 0 2) (blockNumber (account 1 month′)) (pos 1)
     pub notCounted : Never (Add 1 (newMonth 2) (pos 3 ∷ pos 1 ∷ []) 0 2) (blockNumber (account 1 month′)) (pos 0)
     pub lastLeftOut : Never (Add 2 (newMonth 2) (pos 3 ∷ pos 1 ∷ []) 0 2) (cosineSum (account 2 month′) 1) (pos 0)
+    pub countedInASum : Never (Add 1 (newMonth 1) (pos 3 ∷ []) 0 1) (cosineSum (account 1 month′) 0) (pos 4)
     pub toTheSines : Never (Add 1 (newMonth 1) (pos 3 ∷ []) 0 1) (sineSum (account 1 month′) 0) (pos 3)
     pub firstBlockAgain : Never (Add 1 (newMonth 1) (pos 3 ∷ pos 5 ∷ []) 1 1) (cosineSum (account 1 month′) 0) (pos 3)
     -- "sums and a block number for each of the parties": party 2's block in party 1's sums, or counted there; so is a refusal of party 2

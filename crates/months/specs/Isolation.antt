@@ -1,6 +1,6 @@
 -- Document 02, (viii): "One owner's answers, refusals and sums depend on the month's length and on that owner's own calls only." As
 -- statements about values, of one call and of runs: what is the same for the owner is the same in answer, buffers and account, whatever
--- the other party's calls are.
+-- the other party's calls are. `OneCall p` and `Isolated p` are proved of each party p, 1 and 2 (proofs/Isolation).
 use mathlib.Core.Bool.{cond}
 use mathlib.Core.List.{List, [], _∷_}
 use mathlib.Core.Path.{_≡_}

@@ -29,7 +29,7 @@ abbrev pub marked : ℕ → ℕ
 marked N = 65536 * edition + N
 
 -- "A month is begun for one length N": what stands in word 0 beside the mark. It is 0 where beginning was refused, and of words that are no
--- month's
+-- month's (below the mark the difference is 0, which is no length)
 abbrev pub lengthIn : ℤ → ℕ
 lengthIn (pos n) = let N = n - marked 0 in cond (isLength N) N 0
 lengthIn (negsuc n) = 0

@@ -1,6 +1,6 @@
 -- Document 02, (vi), "After any calls the sums equal those over the history of accepted blocks", and (viii): runs. A run is a month begun
 -- and then any calls of adding and reading, by any party, accepted or refused. Of each call it has the promise that the call keeps
--- (Promises), and nothing else.
+-- (Promises), and nothing else. `AfterAnyCalls` is proved of every run (proofs/Runs).
 use mathlib.Core.Bool.{false, cond}
 use mathlib.Core.List.{List, [], _∷_, _++_}
 use mathlib.Core.Path.{_≡_}
