@@ -11,7 +11,7 @@ use lib.IntN.{ℤ, pos, ◌+ℤ◌}
 use lib.Signed.{shr_z, ◌<ℤ◌, non_neg}
 use Rattle.whole.proofs.Difference.{int}
 use Rattle.whole.proofs.Size.{within-size}
-use Rattle.whole.proofs.Floor.{half-floor-near}
+use Rattle.whole.proofs.Rounding.{by-half, half-near}
 use Rattle.whole.proofs.Cases.{both}
 use Rattle.circle.specs.Circle.{step, K, T, IsQuarterWave}
 use Rattle.circle.specs.Laws.{AtEntry}
@@ -65,5 +65,5 @@ pub at_entry : (j : ℕ) → j ≤ 1024 → AtEntry j
 unfolding T int
 at_entry j h = record {
   falls = λ l. subst₂ ◌<ℤ◌ (stored_at (suc j) l) (stored_at j h) (falling stored stored_falls j (omega (arith, stored-length)));
-  near = within-size (half-floor-near (K j) (2 ^ 49) (lit< tt));
+  near = rw (by-half (K j) (2 ^ 49) (2 ^ 50) refl (lit< tt)) (within-size (half-near (K j) (2 ^ 49) (lit< tt)));
 }

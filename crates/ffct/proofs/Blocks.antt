@@ -17,7 +17,7 @@ use Rattle.ffct.specs.Transforms.{evens, foldedSums, foldedDifferences, alternat
 use Rattle.ffct.specs.Transforms.{cosineBeyond, sineBeyond, dctBeyond, apart, unrounded, rotated, rotationRest}
 use Rattle.ffct.specs.Transforms.{dctBy, cosineDft, sineDft, dct, spectrum, pair}
 use Rattle.lengths.proofs.Lengths.{len, pow-len, len-pos}
-use Rattle.ffct.proofs.Steps.{dctStep, cosineStep, sineStep, sine-step, cosine-low, cosine-high, sine-low, sine-high, dct-low, dct-middle, dct-high}
+use Rattle.ffct.proofs.Steps.{sine-step, cosine-low, cosine-high, sine-low, sine-high, dct-low, dct-middle, dct-high}
 use Rattle.ffct.proofs.Steps.{rearranged-source, rotated-zero, rotated-some, unrounded-low, unrounded-middle, unrounded-high}
 
 -- two blocks of level L are the same
@@ -39,7 +39,12 @@ dct-same-of zero H x y e = ap (λ z. record { at = λ k. z; products = 0; sums =
 dct-same-of (suc L) H x y e =
     let N = 2 ^ suc L in
     let moved = H (rearranged N x) (rearranged N y) (rw (pow-len (suc L)) (rearranged-same (len L) x y e)) in
-    ap₂ (dctStep N) moved.0 moved.1
+    ap₂ (λ C S. record {
+      at = rotated N C.at S.at;
+      products = C.products + S.products + (3 * (N / 2 - 1) + 1);
+      sums = C.sums + S.sums + 3 * (N / 2 - 1);
+      largestRest = max (max C.largestRest S.largestRest) (rotationRest N C.at S.at);
+    }) moved.0 moved.1
 
 pub dft-same : (L : ℕ) → DftSame L
 unfolding cosineDft dct
@@ -51,9 +56,19 @@ dft-same (suc zero) x y e = (
 )
 dft-same (suc (suc L)) x y e =
     let N = 2 ^ suc (suc L) in (
-      ap₂ (cosineStep N) (dft-same (suc L) (evens x) (evens y) even-same).0
-          (dct-same-of L (dft-same L) (foldedSums N x) (foldedSums N y) sum_same),
-      ap₂ (sineStep N) (dft-same (suc L) (evens x) (evens y) even-same).1
+      ap₂ (λ even odd. record {
+        at = λ k. cosineBeyond (N / 2) even.at k +ℤ dctBeyond (N / 4) odd.at k;
+        products = even.products + odd.products;
+        sums = even.sums + odd.sums + (N / 4 + N / 2);
+        largestRest = max even.largestRest odd.largestRest;
+      }) (dft-same (suc L) (evens x) (evens y) even-same).0 (dct-same-of L (dft-same L) (foldedSums N x) (foldedSums N y) sum_same),
+      ap₂ (λ even odd. record {
+        at = λ k. sineBeyond (N / 2) even.at k +ℤ dctBeyond (N / 4) odd.at (apart (N / 4) k);
+        products = even.products + odd.products;
+        sums = even.sums + odd.sums + (N / 4 + (N / 2 - 2));
+        largestRest = max even.largestRest odd.largestRest;
+      })
+          (dft-same (suc L) (evens x) (evens y) even-same).1
           (dct-same-of L (dft-same L) (foldedDifferences N x) (foldedDifferences N y) difference-same),
     )
   where

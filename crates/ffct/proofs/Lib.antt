@@ -12,4 +12,3 @@ pub mod Limits
 pub mod Sizes
 pub mod Blocks
 pub mod Rests
-pub mod Symmetry

@@ -15,34 +15,6 @@ use Rattle.ffct.specs.Transforms.{cosineBeyond, sineBeyond, dctBeyond, apart, un
 use Rattle.ffct.specs.Transforms.{dctBy, cosineDft, sineDft, dct}
 use Rattle.lengths.proofs.Lengths.{len, pow-len, quotient}
 
--- ---- one step of each transform, from what the transforms of its parts give
-abbrev pub dctStep : ℕ → Transform → Transform → Transform
-dctStep N C S =
-    record {
-      at = rotated N C.at S.at;
-      products = C.products + S.products + (3 * (N / 2 - 1) + 1);
-      sums = C.sums + S.sums + 3 * (N / 2 - 1);
-      largestRest = max (max C.largestRest S.largestRest) (rotationRest N C.at S.at);
-    }
-
-abbrev pub cosineStep : ℕ → Transform → Transform → Transform
-cosineStep N even odd =
-    record {
-      at = λ k. cosineBeyond (N / 2) even.at k +ℤ dctBeyond (N / 4) odd.at k;
-      products = even.products + odd.products;
-      sums = even.sums + odd.sums + (N / 4 + N / 2);
-      largestRest = max even.largestRest odd.largestRest;
-    }
-
-abbrev pub sineStep : ℕ → Transform → Transform → Transform
-sineStep N even odd =
-    record {
-      at = λ k. sineBeyond (N / 2) even.at k +ℤ dctBeyond (N / 4) odd.at (apart (N / 4) k);
-      products = even.products + odd.products;
-      sums = even.sums + odd.sums + (N / 4 + (N / 2 - 2));
-      largestRest = max even.largestRest odd.largestRest;
-    }
-
 -- ---- coefficients out of range
 module _ (N : ℕ) (f : ℕ → ℤ) (k : ℕ) where
   pub cosine-low : k ≤ N / 2 → cosineBeyond N f k ≡ f k

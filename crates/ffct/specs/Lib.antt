@@ -4,4 +4,3 @@ pub mod Counts
 pub mod Limits
 pub mod Orthogonality
 pub mod Examples
-pub mod Symmetry

@@ -1,5 +1,5 @@
 -- What the functions of the inverse DCT ask and promise of the numbers that they work on.
-use Rattle.std.specs.Prelude.{true, List, ◌≡◌, ℕ, zero, suc, ◌+◌, ◌-◌, ◌*◌, ◌/◌, ◌^◌, ◌≤◌, ◌<◌, ℤ, pos, negsuc, nat_abs, ◌+ℤ◌, ◌-ℤ◌, ◌*ℤ◌, length}
+use Rattle.std.specs.Prelude.{true, List, ◌≡◌, ℕ, ◌+◌, ◌-◌, ◌*◌, ◌/◌, ◌^◌, ◌≤◌, ◌<◌, ℤ, pos, nat_abs, ◌+ℤ◌, ◌-ℤ◌, ◌*ℤ◌, length}
 use Rattle.std.specs.Int.{w32}
 use Rattle.std.proofs.Common.{SFits}
 use Rattle.whole.specs.Round.{nearest}
@@ -51,13 +51,6 @@ pub record SumMade (m first turn : ℕ) (coefficients : List ℤ) (sum : Sum) : 
 -- ---- a value: (2 v − c · 2^30) / (N · 2^30) rounded to the nearest, c being coefficient 0 and v the sum with all coefficients once
 abbrev pub value_of : (v c : ℤ) → ℕ → ℤ
 value_of v c N = nearest (pos 2 *ℤ v -ℤ c *ℤ pos (2 ^ 30)) (N * 2 ^ 30)
-
--- 1 where quotient · 2^30 + rest, the rest being from 0 up and below 2^30, is negative and the rest is 0; else 0
-unfoldable pub lessAtTie : (quotient rest : ℤ) → ℤ
-lessAtTie (pos q) rest = pos 0
-lessAtTie (negsuc q) (pos zero) = pos 1
-lessAtTie (negsuc q) (pos (suc r)) = pos 0
-lessAtTie (negsuc q) (negsuc r) = pos 0
 
 pub record ValueReady (sum : Sum) (c : ℤ) (N : ℕ) : Type 0 where
   pub length-ok : isLength N ≡ true

@@ -3,33 +3,19 @@ ghost use Rattle.std.specs.Prelude.{◌≡◌, ◌≤◌, length};
 ghost use Rattle.words.specs.Words.{word, Written};
 ghost use Rattle.circle.specs.Circle.{IsQuarterWave};
 ghost use Rattle.inverse.specs.Inverse.{inverseDct};
-ghost use Rattle.inverse.specs.Steps.{held, Stored, lessAtTie, ValueReady, value_of, TwoReady, TwoMade};
+ghost use Rattle.inverse.specs.Steps.{held, Stored, ValueReady, value_of, TwoReady, TwoMade};
 
 use crate::sum::{Sum, add, every_other, subtract};
 use circle::quarter_wave;
 
-// 1 where quotient * 2^30 and the rest are negative together and the rest is 0, else 0. Only there can a tie be negative.
-fn less_at_tie(quotient: i64, rest: i64) -> i64
-    ensures { result ≡ lessAtTie quotient rest }
-{
-    if quotient < 0 {
-        if rest == 0 {
-            return 1;
-        }
-    }
-    0
-}
-
-// (2 v - c * 2^30) / (n * 2^30), rounded to the nearest, a tie going away from zero; c is coefficient 0 and v the sum with all coefficients
-// once: the floor of the quotient by 2^30, then the half of n, less 1 where that takes a tie down, and the floor of the quotient by n.
+// (2 v - c * 2^30) / (n * 2^30), rounded to the nearest, c being coefficient 0 and v the sum with all coefficients once: the floor of the
+// quotient by 2^30, then the half of n and the floor of the quotient by n.
 fn value(sum: Sum, c: i64, n: usize) -> i32
     requires { ValueReady sum c n }
     ensures { result ≡ value_of (held sum) c n }
 {
-    let low = sum.low >> 29;
-    let quotient = 2 * sum.high - c + low;
-    let half = (n / 2) as i64 - less_at_tie(quotient, sum.low - low * 536870912);
-    ((quotient + half) >> usize::trailing_zeros(n)) as i32
+    let quotient = 2 * sum.high - c + (sum.low >> 29);
+    ((quotient + (n / 2) as i64) >> usize::trailing_zeros(n)) as i32
 }
 
 // The values of i and n - 1 - i.

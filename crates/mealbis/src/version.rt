@@ -4,7 +4,7 @@ ghost use Rattle.std.specs.Prelude.{◌≡◌};
 
 #[unsafe(no_mangle)]
 pub extern "C" fn mealbis_version() -> u32
-    ensures { result ≡ 50000 }
+    ensures { result ≡ 40000 }
 {
-    50000
+    40000
 }

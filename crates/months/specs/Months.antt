@@ -17,7 +17,7 @@ monthWords = 1 + 2 * accountWords
 -- "Months begun earlier are closed before the change.": the edition is the version of the library from which on months have this layout and
 -- this rule of rounding. Words with another number in word 0, as an earlier version has left there, are no month's
 abbrev pub edition : ℕ
-edition = 50000
+edition = 40000
 
 abbrev pub marked : ℕ → ℕ
 marked N = 65536 * edition + N

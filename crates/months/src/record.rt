@@ -16,7 +16,7 @@ pub type Record = [i64; 2055];
 const MARK: usize = 0;
 
 // The version of the library from which on months have this layout and rule, and the mark of a month of that edition without its length.
-const EDITION: i64 = 50000;
+const EDITION: i64 = 40000;
 
 const MARKED: i64 = 65536 * EDITION;
 

@@ -4,4 +4,3 @@ pub mod Conditions
 pub mod Promises
 pub mod Calls
 pub mod Exclusion
-pub mod Symmetry

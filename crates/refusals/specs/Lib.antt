@@ -4,4 +4,3 @@ pub mod Passes
 pub mod Calls
 pub mod Tests
 pub mod Exclusion
-pub mod Symmetry

@@ -3,4 +3,3 @@ pub mod Determined
 pub mod MarkRules
 pub mod MarkRuns
 pub mod Excluded
-pub mod Symmetry

@@ -2,4 +2,3 @@ pub mod Answers
 pub mod Marks
 pub mod Promises
 pub mod Excluded
-pub mod Symmetry

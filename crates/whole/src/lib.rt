@@ -9,14 +9,13 @@ pub struct Rounded {
     pub rest: i64,
 }
 
-// The nearest multiple of 2^30, a tie going away from zero, divided by 2^30: the floor division by 2^30 of v + 2^29, less 1 where v is
-// negative. (A shift to the right copies the sign: so it is that division, and v >> 63 is -1 for a negative v and 0 for any other.) The rest
-// is v less 2^30 times the rounded number.
+// The nearest multiple of 2^30, a tie going to the larger, divided by 2^30, negative numbers too: the floor division by 2^30 of v + 2^29.
+// (A shift to the right copies the sign, so it is that division.) The rest is v less 2^30 times the rounded number.
 pub fn round(v: i64) -> Rounded
     requires { nat_abs v ≤ 2 ^ 62 }
     ensures { (result.value ≡ rounded v) × (result.rest ≡ rest_of v) }
 {
-    let value = (v + 536870912 + (v >> 63)) >> 30;
+    let value = (v + 536870912) >> 30;
     Rounded {
         value: value,
         rest: v - 1073741824 * value,

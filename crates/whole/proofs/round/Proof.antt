@@ -1,17 +1,17 @@
--- `whole::round` meets its contract: v and the half fit a word together, the first shift is 1 less where v is negative (`copied-sign`), and
--- the second is the floor division (`by-half`); 2^30 times the rounded number fits with v, from which it is not far. Assumes nothing.
+-- `whole::round` meets its contract: v and the half fit a word together, and the shift is the floor division (`by-half`); 2^30 times the
+-- rounded number fits with v, from which it is not far. Assumes nothing.
 use mathlib.Core.Path.{subst}
-use Prim.Native.Nat.{ℕ, ◌+◌, ◌^◌}
+use Prim.Native.Nat.{ℕ, ◌^◌}
 use native.Mathlib.Omega.{arith}
 use lib.Dec.{lit<}
-use lib.IntN.{neg_ℤ, ◌+ℤ◌, ◌-ℤ◌, ◌*ℤ◌}
+use lib.IntN.{◌+ℤ◌, ◌-ℤ◌, ◌*ℤ◌}
 use mir.Syntax.{w64}
 use mir.Val.{SFits, to_z, of_z}
 use lib.Signed.{shr_z}
 use Rattle.whole.specs.Round.{round, rest}
 use Rattle.whole.proofs.Difference.{int}
-use Rattle.whole.proofs.Size.{◌within◌, size-within, within-add, within-sub, within-eq, within-int, within-fits}
-use Rattle.whole.proofs.Rounding.{less, less-small, copied-sign, by-half, rounded-multiple, rest-within}
+use Rattle.whole.proofs.Size.{size-within, within-add, within-sub, within-eq, within-int, within-fits}
+use Rattle.whole.proofs.Rounding.{by-half, rounded-multiple, rest-within}
 use Rattle.whole.proofs.Words.{Word, word, done, asked, made, shifted}
 use Rattle.whole.proofs.Operations.{natural}
 use Rattle.whole.proofs.round.Statement.{statement}
@@ -25,31 +25,18 @@ half : Word w64 added (int added)
 half = natural (lit< tt)
 
 module _ (c : tie.Start) where
-  -- 1 less where v is negative: the shift that leaves the sign alone
-  abbrev signBits : ℕ
-  signBits = of_z w64 (shr_z (to_z w64 (of_z w64 c.args.v)) (2 ^ 63))
-
-  sign : Word w64 signBits (neg_ℤ (int (less c.args.v 0)))
-  sign = subst (Word w64 signBits) (copied-sign c.args.v c.requires) (shifted (2 ^ 63) (word c.ranges.v))
-
-  half-small : c.args.v +ℤ int added within 2 ^ 62 + added
-  half-small = within-add (size-within c.args.v c.requires) (within-int added)
-
-  with-half : Word w64 (done ◌+ℤ◌ (of_z w64 c.args.v) added) (c.args.v +ℤ int added)
-  with-half = made ◌+ℤ◌ (word c.ranges.v) half (within-fits half-small (lit< tt))
-
-  sum_fits : SFits w64 (c.args.v +ℤ int added -ℤ int (less c.args.v 0))
-  sum_fits = within-fits (within-sub half-small (less-small c.args.v 0)) (lit< tt)
+  sum_fits : SFits w64 (c.args.v +ℤ int added)
+  sum_fits = within-fits (within-add (size-within c.args.v c.requires) (within-int added)) (lit< tt)
 
   -- the bits of the rounded number, and of 2^30 times it
   abbrev valueBits : ℕ
-  valueBits = of_z w64 (shr_z (to_z w64 (done ◌+ℤ◌ (done ◌+ℤ◌ (of_z w64 c.args.v) added) signBits)) (2 ^ 30))
+  valueBits = of_z w64 (shr_z (to_z w64 (done ◌+ℤ◌ (of_z w64 c.args.v) added)) (2 ^ 30))
 
   value : Word w64 valueBits (round c.args.v)
   unfolding round
   value =
       subst (Word w64 valueBits) (by-half c.args.v added (2 ^ 30) (omega arith) (omega arith))
-      (shifted (2 ^ 30) (made ◌+ℤ◌ with-half sign sum_fits))
+      (shifted (2 ^ 30) (made ◌+ℤ◌ (word c.ranges.v) half sum_fits))
 
   multiple-fits : SFits w64 (int (2 ^ 30) *ℤ round c.args.v)
   multiple-fits =
@@ -74,8 +61,7 @@ pub round-spec : {M : Type 1} → statement M
 round-spec =
     tie.close
     (tie.spec
-    (λ c. asked ◌+ℤ◌ (word c.ranges.v) half (within-fits (half-small c) (lit< tt)))  -- add-value
-    (λ c. asked ◌+ℤ◌ (with-half c) (sign c) (sum_fits c))  -- add-value-2
+    (λ c. asked ◌+ℤ◌ (word c.ranges.v) half (sum_fits c))  -- add-value
     (λ c. asked ◌*ℤ◌ (power c) (value c) (multiple-fits c))  -- mul-t3
     (λ c. asked ◌-ℤ◌ (word c.ranges.v) (multiple c) (rest-fits c))  -- sub-t4
     returns)
