@@ -1,8 +1,8 @@
 // Between the samples and coefficients of 32 bits and the words of 64 bits that the transforms work in.
 ghost use Rattle.std.specs.Prelude.{true, ◌≡◌, ℕ, ◌+◌, ◌/◌, ◌≤◌, ◌<◌, pos, nat_abs, length};
 ghost use Rattle.words.specs.Words.{word, Written, TwoPut};
-ghost use Rattle.lengths.specs.Block.{isLength, largestSum};
-ghost use Rattle.blocks.specs.Buffers.{wordsFrom, inPairs, SumReady, SumPut, PartsReady, PartsPut};
+ghost use Rattle.lengths.specs.Block.{is_length, largest_sum};
+ghost use Rattle.blocks.specs.Buffers.{words_from, in_pairs, SumReady, SumPut, PartsReady, PartsPut};
 
 use counts::tally::Tally;
 
@@ -21,8 +21,8 @@ pub fn load(block: &[i32], w: &mut [i64])
 
 // The n samples of a block at the front of w, in pairs: each sample beside its mirror image.
 pub fn load_pairs(block: &[i32], n: usize, w: &mut [i64])
-    requires { (isLength n ≡ true) × (n ≤ length block.now) × (n ≤ length w.old) }
-    ensures { Written 0 n (inPairs n (word block.now)) w.old w.new }
+    requires { (is_length n ≡ true) × (n ≤ length block.now) × (n ≤ length w.old) }
+    ensures { Written 0 n (in_pairs n (word block.now)) w.old w.new }
 {
     if n == 1 {
         let x = block[0] as i64;
@@ -42,8 +42,8 @@ pub fn load_pairs(block: &[i32], n: usize, w: &mut [i64])
 // The m words of w from place `at` on.
 pub fn store(w: &[i64], at: usize, out: &mut [i32], m: usize)
     requires m_in_bounds { (at + m ≤ length w.now) × (m ≤ length out.old) }
-    requires by_index { (k : ℕ) → k < m → nat_abs (wordsFrom w.now at k) ≤ largestSum + 257 }
-    ensures { Written 0 m (wordsFrom w.now at) out.old out.new }
+    requires by_index { (k : ℕ) → k < m → nat_abs (words_from w.now at k) ≤ largest_sum + 257 }
+    ensures { Written 0 m (words_from w.now at) out.old out.new }
 {
     let mut k = 0;
     while k < m {
@@ -85,8 +85,8 @@ fn put_sum_and_difference(
 // Coefficient 0 and coefficient n / 2 of a cosine-DFT at `at`, where the sine-DFT is zero.
 fn store_ends(w: &[i64], at: usize, out: &mut [i32], n: usize)
     requires n_in_bounds { (at + n / 2 < length w.now) × (n / 2 < length out.old) }
-    requires by_index { (k : ℕ) → k < n / 2 + 1 → nat_abs (wordsFrom w.now at k) ≤ largestSum + 257 }
-    ensures { let C = wordsFrom w.now at in
+    requires by_index { (k : ℕ) → k < n / 2 + 1 → nat_abs (words_from w.now at k) ≤ largest_sum + 257 }
+    ensures { let C = words_from w.now at in
         TwoPut 0 (n / 2) (C 0) (C (n / 2)) out.old out.new }
 {
     let x = w[at] as i32;

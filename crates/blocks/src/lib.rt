@@ -4,7 +4,7 @@ pub mod buffers;
 ghost use Rattle.std.specs.Prelude.{◌+◌, ◌/◌, ◌≤◌, length};
 ghost use Rattle.words.specs.Words.{word};
 ghost use Rattle.lengths.specs.Block.{level};
-ghost use Rattle.ffct.specs.Transforms.{dct as dctOf, spectrum as spectrumOf, pair as pair_of};
+ghost use Rattle.ffct.specs.Transforms.{dct as dct_of, spectrum as spectrum_of, pair as pair_of};
 ghost use Rattle.circle.specs.Circle.{IsQuarterWave};
 ghost use Rattle.blocks.specs.Blocks.{Workable, DftsReady, DftsMade, SpectrumMade, CosineMade, PairMade};
 
@@ -34,7 +34,7 @@ pub fn spectrum_of(block: &[i32], cosine: &mut [i32], sine: &mut [i32], w: &mut 
     requires { Workable (length block.now) block.now w.old
         × (length block.now / 2 + 1 ≤ length cosine.old) × (length block.now / 2 + 1 ≤ length sine.old) }
     ensures { let n = length block.now in
-        SpectrumMade n (spectrumOf (level n) (word block.now)) cosine.old sine.old w.old
+        SpectrumMade n (spectrum_of (level n) (word block.now)) cosine.old sine.old w.old
         cosine.new sine.new w.new result }
 {
     let n = block.len();
@@ -49,7 +49,7 @@ pub fn spectrum_of(block: &[i32], cosine: &mut [i32], sine: &mut [i32], w: &mut 
 pub fn cosine_of(block: &[i32], coefficients: &mut [i32], w: &mut [i64]) -> Tally
     requires { Workable (length block.now) block.now w.old × (length block.now ≤ length coefficients.old) }
     ensures { let n = length block.now in
-        CosineMade n (dctOf (level n) (word block.now)) coefficients.old w.old
+        CosineMade n (dct_of (level n) (word block.now)) coefficients.old w.old
         coefficients.new w.new result }
 {
     let n = block.len();

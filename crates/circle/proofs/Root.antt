@@ -6,8 +6,8 @@ use Prim.Native.Nat.{ℕ, zero, suc, ◌+◌, ◌-◌, ◌*◌, ◌/◌, ◌^◌
 use native.Mathlib.Nat.{pow-suc, lt_of_le_of_lt, mul-le-mul_left, mul-le-mul}
 use native.Mathlib.Omega.{arith}
 use lib.Dec.{T, leb, leb→le, nleb→lt, lit<}
-use Rattle.whole.proofs.Cases.{le-or-lt}
-use Rattle.circle.specs.Circle.{B, rootOf, root, halved}
+use Rattle.whole.proofs.Cases.{le_or_lt}
+use Rattle.circle.specs.Circle.{B, root_of, root, halved}
 use Rattle.circle.specs.Laws.{IsRoot}
 
 either : (b : Bool) (v r : ℕ) → (T b → IsRoot v (r + 1)) → (T (not b) → IsRoot v r) → IsRoot v (cond b (r + 1) r)
@@ -21,33 +21,33 @@ longer v r h =
     (λ t. record { below = leb→le ((2 * r + 1) * (2 * r + 1)) v t; above = omega (arith, h.above) })
     (λ t. record { below = omega (arith, h.below); above = nleb→lt ((2 * r + 1) * (2 * r + 1)) v t })
 
-pub root-law : (digits v : ℕ) → v < 4 ^ digits → IsRoot v (rootOf digits v)
-unfolding rootOf
-root-law zero v h = record { below = zero-le; above = h }
-root-law (suc digits) v h = longer v (rootOf digits (v / 4)) (root-law digits (v / 4) (omega (arith, pow-suc 4 digits)))
+pub root_law : (digits v : ℕ) → v < 4 ^ digits → IsRoot v (root_of digits v)
+unfolding root_of
+root_law zero v h = record { below = zero-le; above = h }
+root_law (suc digits) v h = longer v (root_of digits (v / 4)) (root_law digits (v / 4) (omega (arith, pow-suc 4 digits)))
 
 -- ---- the halvings
-product-half : (b n : ℕ) → n ≤ 2 * b → b * n / 2 ≤ b * b
-product-half b n h = omega (arith, mul-le-mul_left b h)
+product_half : (b n : ℕ) → n ≤ 2 * b → b * n / 2 ≤ b * b
+product_half b n h = omega (arith, mul-le-mul_left b h)
 
-root-le : (b v r : ℕ) → v ≤ b * b → IsRoot v r → r ≤ b
-root-le b v r h i = ⊎_elim (λ l. l) (λ l. absurd (omega (arith, i.below, mul-le-mul l l))) (le-or-lt r b)
+root_le : (b v r : ℕ) → v ≤ b * b → IsRoot v r → r ≤ b
+root_le b v r h i = ⊎_elim (λ l. l) (λ l. absurd (omega (arith, i.below, mul-le-mul l l))) (le_or_lt r b)
 
 -- the root of B n / 2, where n is at most 2 B
-root-half : (n : ℕ) → n ≤ 2 * B → IsRoot (B * n / 2) (root (B * n / 2)) × (root (B * n / 2) ≤ B)
-root-half n h =
-    let u = product-half B n h in
-    let r = root-law 81 (B * n / 2) (lt_of_le_of_lt u (lit< tt)) in
-    (r, root-le B (B * n / 2) (root (B * n / 2)) u r)
+root_half : (n : ℕ) → n ≤ 2 * B → IsRoot (B * n / 2) (root (B * n / 2)) × (root (B * n / 2) ≤ B)
+root_half n h =
+    let u = product_half B n h in
+    let r = root_law 81 (B * n / 2) (lt_of_le_of_lt u (lit< tt)) in
+    (r, root_le B (B * n / 2) (root (B * n / 2)) u r)
 
-cosine-le : (times : ℕ) → (halved times).0 ≤ B
+cosine_le : (times : ℕ) → (halved times).0 ≤ B
 unfolding halved
-cosine-le zero = zero-le
-cosine-le (suc times) = (root-half (B + (halved times).0) (omega (arith, cosine-le times))).1
+cosine_le zero = zero-le
+cosine_le (suc times) = (root_half (B + (halved times).0) (omega (arith, cosine_le times))).1
 
 -- each halving takes whole-number roots, of the numbers that document 01 gives
 pub halving : (times : ℕ) →
     IsRoot (B * (B + (halved times).0) / 2) (halved (suc times)).0 × IsRoot (B * (B - (halved times).0) / 2) (halved (suc times)).1
 unfolding halved
 halving times =
-    ((root-half (B + (halved times).0) (omega (arith, cosine-le times))).0, (root-half (B - (halved times).0) (omega arith)).0)
+    ((root_half (B + (halved times).0) (omega (arith, cosine_le times))).0, (root_half (B - (halved times).0) (omega arith)).0)

@@ -10,29 +10,29 @@ use lib.ListN.{length, get_or}
 use lib.IntN.{ℤ, pos, negsuc, nat_abs}
 use lib.Signed.{lt_z, ◌<ℤ◌, lt_z_yes, non_neg}
 use Rattle.whole.proofs.Cases.{both, both_left, both_right}
-use Rattle.whole.proofs.Size.{◌within◌, size-within}
+use Rattle.whole.proofs.Size.{◌within◌, size_within}
 
 unfoldable pub small : ℤ → ℕ → Bool
 small z m = leb (nat_abs z) m
 
-pub small-within : (z : ℤ) (m : ℕ) → T (small z m) → z within m
+pub small_within : (z : ℤ) (m : ℕ) → T (small z m) → z within m
 unfolding small
-small-within z m t = size-within z (leb→le _ _ t)
+small_within z m t = size_within z (leb→le _ _ t)
 
 -- entry j, and 0 past the end
 unfoldable pub entry : List ℤ → ℕ → ℤ
 entry xs j = get_or xs j (pos 0)
 
 -- every entry is of size at most m
-unfoldable pub allSmall : ℕ → List ℤ → Bool
-allSmall m [] = true
-allSmall m (x ∷ xs) = both (small x m) (allSmall m xs)
+unfoldable pub all_small : ℕ → List ℤ → Bool
+all_small m [] = true
+all_small m (x ∷ xs) = both (small x m) (all_small m xs)
 
-pub all_small : (m : ℕ) (xs : List ℤ) → T (allSmall m xs) → (j : ℕ) → entry xs j within m
-unfolding allSmall entry
-all_small m [] t j = size-within (pos 0) (omega arith)
-all_small m (x ∷ xs) t zero = small-within x m (both_left _ _ t)
-all_small m (x ∷ xs) t (suc j) = all_small m xs (both_right _ _ t) j
+pub all_small_lem : (m : ℕ) (xs : List ℤ) → T (all_small m xs) → (j : ℕ) → entry xs j within m
+unfolding all_small entry
+all_small_lem m [] t j = size_within (pos 0) (omega arith)
+all_small_lem m (x ∷ xs) t zero = small_within x m (both_left _ _ t)
+all_small_lem m (x ∷ xs) t (suc j) = all_small_lem m xs (both_right _ _ t) j
 
 -- two lists are the same
 unfoldable pub equal : ℤ → ℤ → Bool
@@ -76,12 +76,12 @@ falling (x ∷ y ∷ xs) t zero h = lt_z_yes (both_left _ _ t)
 falling (x ∷ y ∷ xs) t (suc j) h = falling (y ∷ xs) (both_right _ _ t) j (omega arith)
 
 -- no entry is negative
-unfoldable pub noneBelow : List ℤ → Bool
-noneBelow [] = true
-noneBelow (x ∷ xs) = both (non_neg x) (noneBelow xs)
+unfoldable pub none_below : List ℤ → Bool
+none_below [] = true
+none_below (x ∷ xs) = both (non_neg x) (none_below xs)
 
-pub none_below : (xs : List ℤ) → T (noneBelow xs) → (j : ℕ) → T (non_neg (entry xs j))
-unfolding noneBelow entry
-none_below [] t j = tt
-none_below (x ∷ xs) t zero = both_left _ _ t
-none_below (x ∷ xs) t (suc j) = none_below xs (both_right _ _ t) j
+pub none_below_lem : (xs : List ℤ) → T (none_below xs) → (j : ℕ) → T (non_neg (entry xs j))
+unfolding none_below entry
+none_below_lem [] t j = tt
+none_below_lem (x ∷ xs) t zero = both_left _ _ t
+none_below_lem (x ∷ xs) t (suc j) = none_below_lem xs (both_right _ _ t) j

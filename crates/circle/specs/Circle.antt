@@ -8,15 +8,15 @@ abbrev pub B : ℕ
 B = 2 ^ 80
 
 -- the root of v, rounded down, for v below 4 ^ digits: the root of v / 4 has one binary digit less
-unfoldable pub rootOf : ℕ → ℕ → ℕ
-rootOf zero v = 0
-rootOf (suc digits) v =
-    let r = 2 * rootOf digits (v / 4) in
+unfoldable pub root_of : ℕ → ℕ → ℕ
+root_of zero v = 0
+root_of (suc digits) v =
+    let r = 2 * root_of digits (v / 4) in
     cond (leb ((r + 1) * (r + 1)) v) (r + 1) r
 
 -- every number that is halved below is under 4 ^ 81
 abbrev pub root : ℕ → ℕ
-root v = rootOf 81 v
+root v = root_of 81 v
 
 -- "From the pair (0, B), halve ten times: (c, s) becomes (root of B(B + c)/2, root of B(B − c)/2), the half taken before
 -- the root, both from the old c."
@@ -32,8 +32,8 @@ pub record Point : Type 0 where
   pub s : ℤ
 
 -- "The last pair is the unit step."
-unfoldable pub unitStep : Point
-unitStep = record { c = pos (halved 10).0; s = pos (halved 10).1 }
+unfoldable pub unit_step : Point
+unit_step = record { c = pos (halved 10).0; s = pos (halved 10).1 }
 
 -- "the new pair is (c·c1 − s·s1)/B and (s·c1 + c·s1)/B, where (c1, s1) is the unit step"
 unfoldable pub step : Point → Point → Point
@@ -46,28 +46,28 @@ step one old =
 -- "From (B, 0), step j times"
 unfoldable pub stepped : ℕ → Point
 stepped zero = record { c = pos B; s = pos 0 }
-stepped (suc j) = step unitStep (stepped j)
+stepped (suc j) = step unit_step (stepped j)
 
 -- "K(j) is the c reached, for j = 0 .. 1,023, and K(1024) is 0."
-unfoldable pub firstQuarter : ℕ → ℤ
-firstQuarter j = cond (ltb j 1024) (stepped j).c (pos 0)
+unfoldable pub first_quarter : ℕ → ℤ
+first_quarter j = cond (ltb j 1024) (stepped j).c (pos 0)
 
 -- "For the other places K(2048 − j) = −K(j) ..": a wave that is given on the first quarter, at the places 0 .. 2,048
-unfoldable pub onHalf : (ℕ → ℤ) → ℕ → ℤ
-onHalf quarter j = cond (leb j 1024) (quarter j) (neg_ℤ (quarter (2048 - j)))
+unfoldable pub on_half : (ℕ → ℤ) → ℕ → ℤ
+on_half quarter j = cond (leb j 1024) (quarter j) (neg_ℤ (quarter (2048 - j)))
 
 -- ".. and K(4096 − j) = K(j). Places are taken modulo 4,096.": the same wave at every place
-unfoldable pub onCircle : (ℕ → ℤ) → ℕ → ℤ
-onCircle quarter place =
+unfoldable pub on_circle : (ℕ → ℤ) → ℕ → ℤ
+on_circle quarter place =
     let j = place % 4096 in
-    cond (leb j 2048) (onHalf quarter j) (onHalf quarter (4096 - j))
+    cond (leb j 2048) (on_half quarter j) (on_half quarter (4096 - j))
 
 unfoldable pub K : ℕ → ℤ
-K place = onCircle firstQuarter place
+K place = on_circle first_quarter place
 
 -- the sine's place is p − 1,024: modulo 4,096 that is p + 3,072 (p - 1024 on natural numbers would stop at 0)
-abbrev pub sineAt : ℕ → ℤ
-sineAt place = K (place + 3072)
+abbrev pub sine_at : ℕ → ℤ
+sine_at place = K (place + 3072)
 
 -- "The stored quarter wave T has 1,025 entries: T(j) = (K(j) + 2^49)/2^50, rounded down."
 unfoldable pub T : ℕ → ℤ

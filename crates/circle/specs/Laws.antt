@@ -1,6 +1,6 @@
 -- What is proved of the circle, as statements: each is proved for all places in proofs/.
 use Rattle.std.specs.Prelude.{◌≡◌, ℕ, suc, ◌+◌, ◌-◌, ◌*◌, ◌^◌, ◌≤◌, ◌<◌, pos, neg_ℤ, nat_abs, ◌+ℤ◌, ◌-ℤ◌, ◌*ℤ◌, ◌<ℤ◌}
-use Rattle.circle.specs.Circle.{B, K, T, sineAt}
+use Rattle.circle.specs.Circle.{B, K, T, sine_at}
 
 -- the whole-number root: r² ≤ v < (r + 1)²
 pub record IsRoot (v r : ℕ) : Type 0 where
@@ -10,7 +10,7 @@ pub record IsRoot (v r : ℕ) : Type 0 where
 -- K at the place p: its symmetries and its size
 pub record AtPlace (p : ℕ) : Type 0 where
   pub period : K (p + 4096) ≡ K p
-  pub halfTurn : K (p + 2048) ≡ neg_ℤ (K p)
+  pub half_turn : K (p + 2048) ≡ neg_ℤ (K p)
   pub supplement : p ≤ 2048 → K (2048 - p) ≡ neg_ℤ (K p)
   pub mirrored : (m : ℕ) → p ≤ 4096 * m → K (4096 * m - p) ≡ K p
   pub size : nat_abs (K p) ≤ B
@@ -29,9 +29,9 @@ pub record AtEntry (j : ℕ) : Type 0 where
   pub near : nat_abs (T j *ℤ pos (2 ^ 50) -ℤ K j) ≤ 2 ^ 49
 
 -- the addition law for the places p and q, within 2^40 units of B
-abbrev pub additionError : ℕ
-additionError = 2 ^ 40
+abbrev pub addition_error : ℕ
+addition_error = 2 ^ 40
 
 pub record Addition (p q : ℕ) : Type 0 where
-  pub cosine : nat_abs (K p *ℤ K q -ℤ sineAt p *ℤ sineAt q -ℤ pos B *ℤ K (p + q)) ≤ additionError * B
-  pub sine : nat_abs (sineAt p *ℤ K q +ℤ K p *ℤ sineAt q -ℤ pos B *ℤ sineAt (p + q)) ≤ additionError * B
+  pub cosine : nat_abs (K p *ℤ K q -ℤ sine_at p *ℤ sine_at q -ℤ pos B *ℤ K (p + q)) ≤ addition_error * B
+  pub sine : nat_abs (sine_at p *ℤ K q +ℤ K p *ℤ sine_at q -ℤ pos B *ℤ sine_at (p + q)) ≤ addition_error * B

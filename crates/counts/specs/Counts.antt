@@ -2,8 +2,8 @@
 use Rattle.std.specs.Prelude.{◌≡◌, ℕ, suc, ◌^◌, ◌≤◌, pos}
 use Rattle.words.specs.Words.{Samples}
 use Rattle.lengths.specs.Block.{level}
-use Rattle.ffct.specs.Transforms.{Transform, cosineDft, sineDft, dct, spectrum, pair}
-use Rattle.ffct.specs.Counts.{dctProducts, dctSums, spectrumProducts, spectrumSums, pairProducts, pair_sums}
+use Rattle.ffct.specs.Transforms.{Transform, cosine_dft, sine_dft, dct, spectrum, pair}
+use Rattle.ffct.specs.Counts.{dct_products, dct_sums, spectrum_products, spectrum_sums, pair_products, pair_sums}
 use Rattle.counts.specs.declared.cost.Cost.{Cost}
 use Rattle.counts.specs.declared.Level.{Level}
 use Rattle.counts.specs.declared.Counts.{Counts}
@@ -17,21 +17,21 @@ pub record Costs (transform : ℕ → Samples → Transform) (L : ℕ) (cost : C
 pub record LevelCosts (n : ℕ) (costs : Level) : Type 0 where
   pub below : ℕ
   pub is : n ≡ 2 ^ suc below
-  pub ofCosine : Costs cosineDft (suc below) costs.cosine
-  pub ofSine : Costs sineDft (suc below) costs.sine
-  pub ofDct : Costs dct below costs.dct
+  pub of_cosine : Costs cosine_dft (suc below) costs.cosine
+  pub of_sine : Costs sine_dft (suc below) costs.sine
+  pub of_dct : Costs dct below costs.dct
 
 -- all six counts of the level L, by the definitions
 pub record SixCounts (L : ℕ) (counts : Counts) : Type 0 where
-  pub ofDct : Costs dct L counts.dct
-  pub ofSpectrum : (x : Samples) → (counts.spectrum.products ≡ (spectrum L x).products) × (counts.spectrum.sums ≡ (spectrum L x).sums)
-  pub ofPair : (x y : Samples) → (counts.pair.products ≡ (pair L x y).products) × (counts.pair.sums ≡ (pair L x y).sums)
+  pub of_dct : Costs dct L counts.dct
+  pub of_spectrum : (x : Samples) → (counts.spectrum.products ≡ (spectrum L x).products) × (counts.spectrum.sums ≡ (spectrum L x).sums)
+  pub of_pair : (x y : Samples) → (counts.pair.products ≡ (pair L x y).products) × (counts.pair.sums ≡ (pair L x y).sums)
 
 -- and by the closed forms, N = 1 apart
 pub record SixPublished (N : ℕ) (counts : Counts) : Type 0 where
-  pub ofDct : (pos counts.dct.products ≡ dctProducts (level N)) × (pos counts.dct.sums ≡ dctSums (level N))
-  pub ofSpectrum : 2 ≤ N →
-      (pos counts.spectrum.products ≡ spectrumProducts (level N)) × (pos counts.spectrum.sums ≡ spectrumSums (level N))
-  pub ofPair : 2 ≤ N → (pos counts.pair.products ≡ pairProducts (level N)) × (pos counts.pair.sums ≡ pair_sums (level N))
-  pub nothingAtOne : N ≡ 1 →
+  pub of_dct : (pos counts.dct.products ≡ dct_products (level N)) × (pos counts.dct.sums ≡ dct_sums (level N))
+  pub of_spectrum : 2 ≤ N →
+      (pos counts.spectrum.products ≡ spectrum_products (level N)) × (pos counts.spectrum.sums ≡ spectrum_sums (level N))
+  pub of_pair : 2 ≤ N → (pos counts.pair.products ≡ pair_products (level N)) × (pos counts.pair.sums ≡ pair_sums (level N))
+  pub nothing_at_one : N ≡ 1 →
       (counts.spectrum.products ≡ 0) × (counts.spectrum.sums ≡ 0) × (counts.pair.products ≡ 0) × (counts.pair.sums ≡ 0)

@@ -15,7 +15,7 @@ pub record Tallied (p a r : ℕ) (before after : Tally) : Type 0 where
 
 -- what a transform t makes
 abbrev pub TalliedAs : Transform → Tally → Tally → Type 0
-TalliedAs t before after = Tallied t.products t.sums t.largestRest before after
+TalliedAs t before after = Tallied t.products t.sums t.largest_rest before after
 
 -- a sums more, and nothing else
 pub record Summed (a : ℕ) (before after : Tally) : Type 0 where

@@ -3,7 +3,7 @@ pub mod cost;
 pub mod tally;
 
 ghost use Rattle.std.specs.Prelude.{true, ◌≡◌, ◌+◌, ◌-◌, ◌*◌, ◌/◌, ◌^◌, ◌≤◌};
-ghost use Rattle.lengths.specs.Block.{isLength, level};
+ghost use Rattle.lengths.specs.Block.{is_length, level};
 ghost use Rattle.counts.specs.Counts.{LevelCosts, SixCounts};
 
 use cost::{Cost, plus};
@@ -95,7 +95,7 @@ fn level_counts(top: u32) -> Level
 
 // (23), (21) and (22): all six counts of n samples, n at least 2, from their level.
 fn six_counts(costs: Level, n: u64) -> Counts
-    requires { LevelCosts n costs × (isLength n ≡ true) × (2 ≤ n) × (n ≤ 1024) }
+    requires { LevelCosts n costs × (is_length n ≡ true) × (2 ≤ n) × (n ≤ 1024) }
     ensures { SixCounts (level n) result }
 {
     let joining = Cost {
@@ -112,7 +112,7 @@ fn six_counts(costs: Level, n: u64) -> Counts
 
 // All six counts of n samples, n one of the eleven lengths. One sample costs nothing.
 pub fn counts_of(n: usize) -> Counts
-    requires { isLength n ≡ true }
+    requires { is_length n ≡ true }
     ensures { SixCounts (level n) result }
 {
     if n == 1 {

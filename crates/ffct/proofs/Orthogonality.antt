@@ -1,6 +1,6 @@
 -- The cosines of the DCT are orthogonal, and the exact sums give the block back. With n w = 1024 as in Sums: twice a product of two cosines
 -- is B times the sum of two cosines, by the addition law, and the sums of these over all places are known without error. Coefficients near
--- the exact sums give the block back too, as nearly (`inverse-of-near`).
+-- the exact sums give the block back too, as nearly (`inverse_of_near`).
 -- Assumes nothing.
 use mathlib.Core.Path.{◌≡◌, refl, sym, ◌∙◌, ap, ap₂}
 use mathlib.Core.Logic.{⊎_elim}
@@ -10,45 +10,45 @@ use native.Mathlib.Omega.{arith}
 use lib.Dec.{lit<}
 use lib.IntN.{ℤ, pos, neg_ℤ, nat_abs, ◌+ℤ◌, ◌-ℤ◌, ◌*ℤ◌, +ℤ_invr}
 use Rattle.whole.specs.Sum.{sum}
-use Rattle.whole.proofs.Cases.{le-or-lt, same_or_not}
+use Rattle.whole.proofs.Cases.{le_or_lt, same_or_not}
 use Rattle.whole.proofs.Difference.{int, parts, diff}
 use Rattle.whole.proofs.Ring.{expand, *ℤ-assoc, +ℤ-*ℤ}
-use Rattle.whole.proofs.Size.{near, ◌within◌, size-within, within-size, within-int, within-eq, within-le, within-add, within-mul}
-use Rattle.whole.proofs.Size.{within-trans, within-cancel}
-use Rattle.whole.proofs.Sums.{sum-cong, sum-add, sum-sub, sum-neg, sum-scale, sum-scaled, sum_same, sum-halves, sum_first, sum-reverse}
-use Rattle.whole.proofs.Sums.{sum-swap, sum-within, sum_one}
-use Rattle.circle.specs.Circle.{B, K, sineAt}
-use Rattle.circle.specs.Laws.{additionError}
-use Rattle.circle.proofs.Places.{mirror, opposite, turns-on, half-turn-on}
-use Rattle.circle.proofs.Wave.{K-within, K-start}
+use Rattle.whole.proofs.Size.{near, ◌within◌, size_within, within_size, within_int, within_eq, within_le, within_add, within_mul}
+use Rattle.whole.proofs.Size.{within_trans, within_cancel}
+use Rattle.whole.proofs.Sums.{sum_cong, sum_add, sum_sub, sum_neg, sum_scale, sum_scaled, sum_same, sum_halves, sum_first, sum_reverse}
+use Rattle.whole.proofs.Sums.{sum_swap, sum_within, sum_one}
+use Rattle.circle.specs.Circle.{B, K, sine_at}
+use Rattle.circle.specs.Laws.{addition_error}
+use Rattle.circle.proofs.Places.{mirror, opposite, turns_on, half_turn_on}
+use Rattle.circle.proofs.Wave.{K_within, K_start}
 use Rattle.words.specs.Words.{Samples}
-use Rattle.lengths.specs.Block.{topLevel}
-use Rattle.ffct.specs.Exact.{exactDct}
+use Rattle.lengths.specs.Block.{top_level}
+use Rattle.ffct.specs.Exact.{exact_dct}
 use Rattle.ffct.specs.Transforms.{apart}
-use Rattle.ffct.specs.Orthogonality.{cosineProduct, orthogonalError, Orthogonal, exactInverse, Inverts}
-use Rattle.lengths.proofs.Lengths.{len, pow-len, per, len-per}
-use Rattle.ffct.proofs.Sums.{dct-place, self-negated}
-use Rattle.ffct.proofs.Splits.{near-sum}
+use Rattle.ffct.specs.Orthogonality.{cosine_product, orthogonal_error, Orthogonal, exact_inverse, Inverts}
+use Rattle.lengths.proofs.Lengths.{len, pow_len, per, len_per}
+use Rattle.ffct.proofs.Sums.{dct_place, self_negated}
+use Rattle.ffct.proofs.Splits.{near_sum}
 
 start : K 0 ≡ int B
 unfolding int
-start = K-start
+start = K_start
 
 -- ---- the sum of the cosines at n places from 0 on, each the n-th part of j half turns behind the one before
 unfoldable cosines : ℕ → ℕ → ℕ → ℤ
 cosines w n j = sum n (λ k. K (2 * w * j * k))
 
-cosines-none : (w n : ℕ) → cosines w n 0 ≡ int B *ℤ int n
+cosines_none : (w n : ℕ) → cosines w n 0 ≡ int B *ℤ int n
 unfolding cosines
-cosines-none w n = sum-cong n _ (λ k. int B) (λ k h. ap K {x = 2 * w * 0 * k} {y = 0} (omega arith) ∙ start) ∙ sum_same n (int B)
+cosines_none w n = sum_cong n _ (λ k. int B) (λ k h. ap K {x = 2 * w * 0 * k} {y = 0} (omega arith) ∙ start) ∙ sum_same n (int B)
 
 -- an odd number of half turns: all but the first cancel
-cosines-odd : (w n j : ℕ) → n * w ≡ 1024 → j % 2 ≡ 1 → cosines w n j ≡ int B
+cosines_odd : (w n j : ℕ) → n * w ≡ 1024 → j % 2 ≡ 1 → cosines w n j ≡ int B
 unfolding cosines
-cosines-odd w zero j q o = absurd (omega arith)
-cosines-odd w (suc n) j q o =
+cosines_odd w zero j q o = absurd (omega arith)
+cosines_odd w (suc n) j q o =
     sum_first n (λ k. K (2 * w * j * k))
-    ∙ ap₂ ◌+ℤ◌ (ap K {x = 2 * w * j * 0} {y = 0} (omega arith) ∙ start) (self-negated (sum n f) turned)
+    ∙ ap₂ ◌+ℤ◌ (ap K {x = 2 * w * j * 0} {y = 0} (omega arith) ∙ start) (self_negated (sum n f) turned)
     ∙ simp diff (omega near)
   where
     f : ℕ → ℤ
@@ -58,16 +58,16 @@ cosines-odd w (suc n) j q o =
     places r k h = omega (arith, ap (λ t. 2 * w * j * t) h, ap (λ t. 2 * j * t) q)
 
     turned : sum n f ≡ neg_ℤ (sum n f)
-    turned = sum-reverse n f ∙ sum-cong n _ _ (λ k h. opposite _ _ (j / 2) (places (n - 1 - k) k (omega arith))) ∙ sum-neg n f
+    turned = sum_reverse n f ∙ sum_cong n _ _ (λ k h. opposite _ _ (j / 2) (places (n - 1 - k) k (omega arith))) ∙ sum_neg n f
 
 -- an even number of them, more than 0 and less than 2 n: the second half of the sum is minus the first, or both are 0
-cosines-even : (L w j : ℕ) → len L * w ≡ 1024 → 0 < j → j < 2 * len L → j % 2 ≡ 0 → cosines w (len L) j ≡ int 0
+cosines_even : (L w j : ℕ) → len L * w ≡ 1024 → 0 < j → j < 2 * len L → j % 2 ≡ 0 → cosines w (len L) j ≡ int 0
 unfolding cosines
-cosines-even zero w j q p l e = absurd (omega arith)
-cosines-even (suc L) w j q p l e =
-    sum-halves (len L) f
+cosines_even zero w j q p l e = absurd (omega arith)
+cosines_even (suc L) w j q p l e =
+    sum_halves (len L) f
     ∙ ⊎_elim
-    (λ h. again h (below ∙ cosines-even L (2 * w) (j / 2) (omega arith) (omega arith) (omega arith) h))
+    (λ h. again h (below ∙ cosines_even L (2 * w) (j / 2) (omega arith) (omega arith) (omega arith) h))
     (λ h. opposed h)
     (same_or_not (j / 2 % 2) 0)
   where
@@ -75,36 +75,36 @@ cosines-even (suc L) w j q p l e =
     f = λ k. K (2 * w * j * k)
 
     below : sum (len L) f ≡ sum (len L) (λ k. K (2 * (2 * w) * (j / 2) * k))
-    below = sum-cong (len L) _ _ (λ k l. ap K (omega (arith, ap (λ t. 2 * w * k * t) {x = j} {y = 2 * (j / 2)} (omega arith))))
+    below = sum_cong (len L) _ _ (λ k l. ap K (omega (arith, ap (λ t. 2 * w * k * t) {x = j} {y = 2 * (j / 2)} (omega arith))))
 
     again : j / 2 % 2 ≡ 0 → sum (len L) f ≡ int 0 → sum (len L) f +ℤ sum (len L) (λ k. f (len L + k)) ≡ int 0
     again h z =
         let rest : j ≡ 4 * (j / 4) = omega arith in
-        ap₂ ◌+ℤ◌ z (sum-cong (len L) _ _ (λ k l. turns-on _ _ (j / 4) (omega (arith, ap (λ t. t * j) q))) ∙ z) ∙ simp diff
+        ap₂ ◌+ℤ◌ z (sum_cong (len L) _ _ (λ k l. turns_on _ _ (j / 4) (omega (arith, ap (λ t. t * j) q))) ∙ z) ∙ simp diff
 
     opposed : (j / 2 % 2 ≡ 0 → ⊥) → sum (len L) f +ℤ sum (len L) (λ k. f (len L + k)) ≡ int 0
     opposed h =
         let rest : j ≡ 4 * (j / 4) + 2 = omega arith in
         ap (λ z. sum (len L) f +ℤ z)
-        (sum-cong (len L) _ _ (λ k l. half-turn-on _ _ (j / 4) (omega (arith, ap (λ t. t * j) q))) ∙ sum-neg (len L) f)
+        (sum_cong (len L) _ _ (λ k l. half_turn_on _ _ (j / 4) (omega (arith, ap (λ t. t * j) q))) ∙ sum_neg (len L) f)
         ∙ (unfold int in +ℤ_invr (sum (len L) f))
 
 -- one of each
-cosines-both : (L w i j : ℕ) → len L * w ≡ 1024 → 0 < i → i < 2 * len L → 0 < j → j < 2 * len L → (i + j) % 2 ≡ 1 →
+cosines_both : (L w i j : ℕ) → len L * w ≡ 1024 → 0 < i → i < 2 * len L → 0 < j → j < 2 * len L → (i + j) % 2 ≡ 1 →
     cosines w (len L) i +ℤ cosines w (len L) j ≡ int B
-cosines-both L w i j q pi li pj lj o = ⊎_elim
-    (λ e. rw (cosines-even L w i q pi li e, cosines-odd w (len L) j q (omega arith)) (simp diff (omega near)))
-    (λ e. rw (cosines-odd w (len L) i q (omega arith), cosines-even L w j q pj lj (omega arith)) (simp diff (omega near)))
+cosines_both L w i j q pi li pj lj o = ⊎_elim
+    (λ e. rw (cosines_even L w i q pi li e, cosines_odd w (len L) j q (omega arith)) (simp diff (omega near)))
+    (λ e. rw (cosines_odd w (len L) i q (omega arith), cosines_even L w j q pj lj (omega arith)) (simp diff (omega near)))
     (same_or_not (i % 2) 0)
 
 -- ---- twice a product of two cosines, where d is as far from 0 as p is from q, and the sum of such products
-product-near : (p q d : ℕ) → K (p + 4095 * q) ≡ K d →
-    int 2 *ℤ (K p *ℤ K q) -ℤ int B *ℤ (K (p + q) +ℤ K d) within orthogonalError 1
-product-near p q d e =
-    let far = near-sum p (4095 * q) in
+product_near : (p q d : ℕ) → K (p + 4095 * q) ≡ K d →
+    int 2 *ℤ (K p *ℤ K q) -ℤ int B *ℤ (K (p + q) +ℤ K d) within orthogonal_error 1
+product_near p q d e =
+    let far = near_sum p (4095 * q) in
     let back = rw (mirror (4095 * q) q q (omega arith), opposite (4095 * q + 3072) (q + 3072) (q + 1) (omega arith), e) at far in
-    within-le
-    (within-eq (joined (int B) (K p) (K q) (sineAt p) (sineAt q) (K (p + q)) (K d)) (within-add (near-sum p q) back))
+    within_le
+    (within_eq (joined (int B) (K p) (K q) (sine_at p) (sine_at q) (K (p + q)) (K d)) (within_add (near_sum p q) back))
     (omega arith)
   where
     joined : (b c d s t u v : ℤ) →
@@ -114,21 +114,21 @@ product-near p q d e =
 unfoldable products : ℕ → ℕ → ℕ → ℕ → ℤ
 products w n r c = sum n (λ k. K ((2 * r + 1) * k * w) *ℤ K ((2 * c + 1) * k * w))
 
-products-exact : (w n r c : ℕ) → n * w ≡ 1024 → cosineProduct n r c ≡ products w n r c
-unfolding cosineProduct products
-products-exact w n r c q =
-    sum-cong n _ _ (λ k h. ap₂ (λ i j. K i *ℤ K j) (dct-place w n ((2 * r + 1) * k) q) (dct-place w n ((2 * c + 1) * k) q))
+products_exact : (w n r c : ℕ) → n * w ≡ 1024 → cosine_product n r c ≡ products w n r c
+unfolding cosine_product products
+products_exact w n r c q =
+    sum_cong n _ _ (λ k h. ap₂ (λ i j. K i *ℤ K j) (dct_place w n ((2 * r + 1) * k) q) (dct_place w n ((2 * c + 1) * k) q))
 
-products-near : (w n r c : ℕ) →
-    int 2 *ℤ products w n r c -ℤ int B *ℤ (cosines w n (r + c + 1) +ℤ cosines w n (apart r c)) within orthogonalError n
+products_near : (w n r c : ℕ) →
+    int 2 *ℤ products w n r c -ℤ int B *ℤ (cosines w n (r + c + 1) +ℤ cosines w n (apart r c)) within orthogonal_error n
 unfolding products cosines apart
-products-near w n r c =
-    within-eq
-    (sum-sub n _ _
-    ∙ ap₂ ◌-ℤ◌ (sum-scale n (int 2) _) (sum-scale n (int B) _ ∙ ap (λ z. int B *ℤ z) (sum-add n _ _)))
-    (sum-within n
+products_near w n r c =
+    within_eq
+    (sum_sub n _ _
+    ∙ ap₂ ◌-ℤ◌ (sum_scale n (int 2) _) (sum_scale n (int B) _ ∙ ap (λ z. int B *ℤ z) (sum_add n _ _)))
+    (sum_within n
     (λ k. int 2 *ℤ (K (p k) *ℤ K (q k)) -ℤ int B *ℤ (K (2 * w * (r + c + 1) * k) +ℤ K (2 * w * apart r c * k)))
-    (λ k h. rw (ap K {x = 2 * w * (r + c + 1) * k} {y = p k + q k} (omega arith)) (product-near (p k) (q k) _ (far k))))
+    (λ k h. rw (ap K {x = 2 * w * (r + c + 1) * k} {y = p k + q k} (omega arith)) (product_near (p k) (q k) _ (far k))))
   where
     p : ℕ → ℕ
     p = λ k. (2 * r + 1) * k * w
@@ -138,54 +138,54 @@ products-near w n r c =
 
     far : (k : ℕ) → K (p k + 4095 * q k) ≡ K (2 * w * apart r c * k)
     far k = ⊎_elim
-        (λ l. turns-on _ _ (q k) (omega (arith, ap (λ t. 2 * w * k * t) {x = r} {y = c + apart r c} (omega arith))))
+        (λ l. turns_on _ _ (q k) (omega (arith, ap (λ t. 2 * w * k * t) {x = r} {y = c + apart r c} (omega arith))))
         (λ l. mirror _ _ (q k) (omega (arith, ap (λ t. 2 * w * k * t) {x = c} {y = r + apart r c} (omega arith))))
-        (le-or-lt c r)
+        (le_or_lt c r)
 
 -- ---- the cosines are orthogonal
-module _ (L r c : ℕ) (l : L ≤ topLevel) (hr : r < 2 ^ L) (hc : c < 2 ^ L) where
-  sums-near : {z : ℤ} → cosines (per L) (len L) (r + c + 1) +ℤ cosines (per L) (len L) (apart r c) ≡ z →
-      int 2 *ℤ cosineProduct (2 ^ L) r c -ℤ int B *ℤ z within orthogonalError (2 ^ L)
-  sums-near e = rw (pow-len L, products-exact (per L) (len L) r c (len-per L l), ← e) (products-near (per L) (len L) r c)
+module _ (L r c : ℕ) (l : L ≤ top_level) (hr : r < 2 ^ L) (hc : c < 2 ^ L) where
+  sums_near : {z : ℤ} → cosines (per L) (len L) (r + c + 1) +ℤ cosines (per L) (len L) (apart r c) ≡ z →
+      int 2 *ℤ cosine_product (2 ^ L) r c -ℤ int B *ℤ z within orthogonal_error (2 ^ L)
+  sums_near e = rw (pow_len L, products_exact (per L) (len L) r c (len_per L l), ← e) (products_near (per L) (len L) r c)
 
-  pub same-near : r ≡ c →
-      int 2 *ℤ cosineProduct (2 ^ L) r c -ℤ int B *ℤ int B -ℤ int (2 ^ L) *ℤ (int B *ℤ int B) within orthogonalError (2 ^ L)
+  pub same_near : r ≡ c →
+      int 2 *ℤ cosine_product (2 ^ L) r c -ℤ int B *ℤ int B -ℤ int (2 ^ L) *ℤ (int B *ℤ int B) within orthogonal_error (2 ^ L)
   unfolding apart
-  same-near e =
-      within-eq (moved (int 2 *ℤ cosineProduct (2 ^ L) r c) (int B) (int (2 ^ L)))
-      (sums-near
-      (ap₂ ◌+ℤ◌ (cosines-odd (per L) (len L) (r + c + 1) (len-per L l) (omega arith))
-      (ap (cosines (per L) (len L)) {x = apart r c} {y = 0} (omega arith) ∙ cosines-none (per L) (len L)
-      ∙ ap (λ n. int B *ℤ int n) (sym (pow-len L)))))
+  same_near e =
+      within_eq (moved (int 2 *ℤ cosine_product (2 ^ L) r c) (int B) (int (2 ^ L)))
+      (sums_near
+      (ap₂ ◌+ℤ◌ (cosines_odd (per L) (len L) (r + c + 1) (len_per L l) (omega arith))
+      (ap (cosines (per L) (len L)) {x = apart r c} {y = 0} (omega arith) ∙ cosines_none (per L) (len L)
+      ∙ ap (λ n. int B *ℤ int n) (sym (pow_len L)))))
     where
       moved : (z b n : ℤ) → z -ℤ b *ℤ (b +ℤ b *ℤ n) ≡ z -ℤ b *ℤ b -ℤ n *ℤ (b *ℤ b)
       moved z b n = simp expand
 
-  pub other-near : (r ≡ c → ⊥) → int 2 *ℤ cosineProduct (2 ^ L) r c -ℤ int B *ℤ int B within orthogonalError (2 ^ L)
+  pub other_near : (r ≡ c → ⊥) → int 2 *ℤ cosine_product (2 ^ L) r c -ℤ int B *ℤ int B within orthogonal_error (2 ^ L)
   unfolding apart
-  other-near o =
-      let e = pow-len L in
-      sums-near
-      (cosines-both L (per L) (r + c + 1) (apart r c) (len-per L l) (omega arith) (omega arith) (omega arith) (omega arith) (omega arith))
+  other_near o =
+      let e = pow_len L in
+      sums_near
+      (cosines_both L (per L) (r + c + 1) (apart r c) (len_per L l) (omega arith) (omega arith) (omega arith) (omega arith) (omega arith))
 
-pub orthogonal : (L m n : ℕ) → L ≤ topLevel → m < 2 ^ L → n < 2 ^ L → Orthogonal (2 ^ L) m n
+pub orthogonal : (L m n : ℕ) → L ≤ top_level → m < 2 ^ L → n < 2 ^ L → Orthogonal (2 ^ L) m n
 unfolding int
 orthogonal L m n l hm hn =
-    record { same = λ e. within-size (same-near L m n l hm hn e); other = λ o. within-size (other-near L m n l hm hn (λ e. omega arith)) }
+    record { same = λ e. within_size (same_near L m n l hm hn e); other = λ o. within_size (other_near L m n l hm hn (λ e. omega arith)) }
 
 -- ---- exact sums are additive, and so is their inverse
-pub dct-sub : (N : ℕ) (x y : Samples) (k : ℕ) → exactDct N (λ n. x n -ℤ y n) k ≡ exactDct N x k -ℤ exactDct N y k
-unfolding exactDct
-dct-sub N x y k = sum-cong N _ _ (λ n h. out (x n) (y n) (K ((2 * n + 1) * k * 1024 / N))) ∙ sum-sub N _ _
+pub dct_sub : (N : ℕ) (x y : Samples) (k : ℕ) → exact_dct N (λ n. x n -ℤ y n) k ≡ exact_dct N x k -ℤ exact_dct N y k
+unfolding exact_dct
+dct_sub N x y k = sum_cong N _ _ (λ n h. out (x n) (y n) (K ((2 * n + 1) * k * 1024 / N))) ∙ sum_sub N _ _
   where
     out : (x y z : ℤ) → (x -ℤ y) *ℤ z ≡ x *ℤ z -ℤ y *ℤ z
     out x y z = simp expand
 
-pub inverse-add : (N : ℕ) (E e : ℕ → ℤ) (n : ℕ) → exactInverse N (λ k. E k +ℤ e k) n ≡ exactInverse N E n +ℤ exactInverse N e n
-unfolding exactInverse
-inverse-add N E e n =
+pub inverse_add : (N : ℕ) (E e : ℕ → ℤ) (n : ℕ) → exact_inverse N (λ k. E k +ℤ e k) n ≡ exact_inverse N E n +ℤ exact_inverse N e n
+unfolding exact_inverse
+inverse_add N E e n =
     ap (λ z. (E 0 +ℤ e 0) *ℤ pos B +ℤ pos 2 *ℤ z)
-    (sum-cong (N - 1) _ _ (λ i h. +ℤ-*ℤ (E (i + 1)) (e (i + 1)) (c i)) ∙ sum-add (N - 1) (λ i. E (i + 1) *ℤ c i) (λ i. e (i + 1) *ℤ c i))
+    (sum_cong (N - 1) _ _ (λ i h. +ℤ-*ℤ (E (i + 1)) (e (i + 1)) (c i)) ∙ sum_add (N - 1) (λ i. E (i + 1) *ℤ c i) (λ i. e (i + 1) *ℤ c i))
     ∙ joined (E 0) (e 0) (pos B) (pos 2) (sum (N - 1) (λ i. E (i + 1) *ℤ c i)) (sum (N - 1) (λ i. e (i + 1) *ℤ c i))
   where
     c : ℕ → ℤ
@@ -195,14 +195,14 @@ inverse-add N E e n =
     joined u v b t y z = simp expand
 
 -- of multiples: d(k) is c(k) b below N
-pub inverse-scale : (N : ℕ) (c d : ℕ → ℤ) (b : ℤ) (n : ℕ) → 0 < N → ((k : ℕ) → k < N → c k *ℤ b ≡ d k) →
-    exactInverse N c n *ℤ b ≡ exactInverse N d n
-unfolding exactInverse
-inverse-scale N c d b n l h =
+pub inverse_scale : (N : ℕ) (c d : ℕ → ℤ) (b : ℤ) (n : ℕ) → 0 < N → ((k : ℕ) → k < N → c k *ℤ b ≡ d k) →
+    exact_inverse N c n *ℤ b ≡ exact_inverse N d n
+unfolding exact_inverse
+inverse_scale N c d b n l h =
     gathered (c 0) (pos B) (pos 2) (sum (N - 1) (λ i. c (i + 1) *ℤ z i))
     ∙ ap₂ (λ u s. u *ℤ pos B +ℤ pos 2 *ℤ s) (h 0 l)
-    (sym (sum-scaled (N - 1) (λ i. c (i + 1) *ℤ z i) b)
-    ∙ sum-cong (N - 1) _ _ (λ i k. turned (c (i + 1)) (z i) ∙ ap (λ u. u *ℤ z i) (h (i + 1) (omega arith))))
+    (sym (sum_scaled (N - 1) (λ i. c (i + 1) *ℤ z i) b)
+    ∙ sum_cong (N - 1) _ _ (λ i k. turned (c (i + 1)) (z i) ∙ ap (λ u. u *ℤ z i) (h (i + 1) (omega arith))))
   where
     z : ℕ → ℤ
     z = λ i. K ((2 * n + 1) * (i + 1) * 1024 / N)
@@ -214,92 +214,92 @@ inverse-scale N c d b n l h =
     turned u v = simp expand
 
 -- a term once and N - 1 terms twice, each at most t in size
-pub twice-within : (N : ℕ) (a : ℤ) (f : ℕ → ℤ) {t : ℕ} → 0 < N → a within t → ((i : ℕ) → i < N - 1 → f i within t) →
+pub twice_within : (N : ℕ) (a : ℤ) (f : ℕ → ℤ) {t : ℕ} → 0 < N → a within t → ((i : ℕ) → i < N - 1 → f i within t) →
     a +ℤ int 2 *ℤ sum (N - 1) f within (2 * N - 1) * t
-twice-within N a f {t} l h g =
-    within-le (within-add h (within-mul (within-int 2) (sum-within (N - 1) f g)))
+twice_within N a f {t} l h g =
+    within_le (within_add h (within_mul (within_int 2) (sum_within (N - 1) f g)))
     (omega (arith, ap (λ n. n * t) {x = 2 * N - 1} {y = 2 * (N - 1) + 1} (omega arith)))
 
-pub inverse-size : (N : ℕ) (e : ℕ → ℤ) (n : ℕ) {m : ℕ} → 0 < N → ((k : ℕ) → k < N → e k within m) →
-    exactInverse N e n within (2 * N - 1) * (m * B)
-unfolding exactInverse int
-inverse-size N e n l h =
-    twice-within N _ _ l (within-mul (h 0 l) (within-int B)) (λ i k. within-mul (h (i + 1) (omega arith)) (K-within _))
+pub inverse_size : (N : ℕ) (e : ℕ → ℤ) (n : ℕ) {m : ℕ} → 0 < N → ((k : ℕ) → k < N → e k within m) →
+    exact_inverse N e n within (2 * N - 1) * (m * B)
+unfolding exact_inverse int
+inverse_size N e n l h =
+    twice_within N _ _ l (within_mul (h 0 l) (within_int B)) (λ i k. within_mul (h (i + 1) (omega arith)) (K_within _))
 
 -- ---- and the inverse gives the block back
-first-place : (N a : ℕ) → K (a * 0 * 1024 / N) ≡ int B
-first-place N a = ap K {x = a * 0 * 1024 / N} {y = 0} (omega (arith, div-le_self (a * 0 * 1024) N)) ∙ start
+first_place : (N a : ℕ) → K (a * 0 * 1024 / N) ≡ int B
+first_place N a = ap K {x = a * 0 * 1024 / N} {y = 0} (omega (arith, div-le_self (a * 0 * 1024) N)) ∙ start
 
 -- the first term once and the others twice is all of them twice, less the first
-all-twice : (a s : ℤ) → a +ℤ int 2 *ℤ s ≡ int 2 *ℤ (a +ℤ s) -ℤ a
-all-twice a s = rw (parts a, parts s) (simp diff (omega near))
+all_twice : (a s : ℤ) → a +ℤ int 2 *ℤ s ≡ int 2 *ℤ (a +ℤ s) -ℤ a
+all_twice a s = rw (parts a, parts s) (simp diff (omega near))
 
-inverse-sum : (N : ℕ) (E : ℕ → ℤ) (n : ℕ) → 0 < N →
-    exactInverse N E n ≡ int 2 *ℤ sum N (λ k. E k *ℤ K ((2 * n + 1) * k * 1024 / N)) -ℤ E 0 *ℤ int B
-unfolding exactInverse int
-inverse-sum zero E n l = absurd (omega arith)
-inverse-sum (suc N) E n l =
+inverse_sum : (N : ℕ) (E : ℕ → ℤ) (n : ℕ) → 0 < N →
+    exact_inverse N E n ≡ int 2 *ℤ sum N (λ k. E k *ℤ K ((2 * n + 1) * k * 1024 / N)) -ℤ E 0 *ℤ int B
+unfolding exact_inverse int
+inverse_sum zero E n l = absurd (omega arith)
+inverse_sum (suc N) E n l =
     ap (λ m. E 0 *ℤ int B +ℤ int 2 *ℤ sum m (λ i. f (i + 1))) {x = suc N - 1} {y = N} (omega arith)
-    ∙ all-twice (E 0 *ℤ int B) (sum N (λ i. f (i + 1)))
+    ∙ all_twice (E 0 *ℤ int B) (sum N (λ i. f (i + 1)))
     ∙ ap (λ z. int 2 *ℤ z -ℤ E 0 *ℤ int B)
-    (ap (λ z. E 0 *ℤ z +ℤ sum N (λ i. f (i + 1))) (sym (first-place (suc N) (2 * n + 1))) ∙ sym (sum_first N f))
+    (ap (λ z. E 0 *ℤ z +ℤ sum N (λ i. f (i + 1))) (sym (first_place (suc N) (2 * n + 1))) ∙ sym (sum_first N f))
   where
     f : ℕ → ℤ
     f = λ k. E k *ℤ K ((2 * n + 1) * k * 1024 / suc N)
 
 -- the sum over k of the sums over the samples, as a sum over the samples
-inverse-spread : (N : ℕ) (x : Samples) (n : ℕ) → 0 < N →
-    exactInverse N (exactDct N x) n ≡ sum N (λ i. x i *ℤ (int 2 *ℤ cosineProduct N i n -ℤ int B *ℤ int B))
-unfolding exactDct cosineProduct
-inverse-spread N x n l =
-    inverse-sum N (exactDct N x) n l
+inverse_spread : (N : ℕ) (x : Samples) (n : ℕ) → 0 < N →
+    exact_inverse N (exact_dct N x) n ≡ sum N (λ i. x i *ℤ (int 2 *ℤ cosine_product N i n -ℤ int B *ℤ int B))
+unfolding exact_dct cosine_product
+inverse_spread N x n l =
+    inverse_sum N (exact_dct N x) n l
     ∙ ap₂ ◌-ℤ◌
-    (ap (λ z. int 2 *ℤ z) twice ∙ sym (sum-scale N (int 2) (λ i. x i *ℤ cosineProduct N i n)))
+    (ap (λ z. int 2 *ℤ z) twice ∙ sym (sum_scale N (int 2) (λ i. x i *ℤ cosine_product N i n)))
     once
-    ∙ sym (sum-sub N _ _)
-    ∙ sum-cong N _ _ (λ i h. gathered (x i) (cosineProduct N i n) (int 2) (int B *ℤ int B))
+    ∙ sym (sum_sub N _ _)
+    ∙ sum_cong N _ _ (λ i h. gathered (x i) (cosine_product N i n) (int 2) (int B *ℤ int B))
   where
     c : ℕ → ℕ → ℤ
     c = λ i k. K ((2 * i + 1) * k * 1024 / N)
 
-    twice : sum N (λ k. sum N (λ i. x i *ℤ c i k) *ℤ c n k) ≡ sum N (λ i. x i *ℤ cosineProduct N i n)
+    twice : sum N (λ k. sum N (λ i. x i *ℤ c i k) *ℤ c n k) ≡ sum N (λ i. x i *ℤ cosine_product N i n)
     twice =
-        sum-cong N _ _ (λ k h. sym (sum-scaled N (λ i. x i *ℤ c i k) (c n k)))
-        ∙ sum-swap N N (λ k i. x i *ℤ c i k *ℤ c n k)
-        ∙ sum-cong N _ _ (λ i h. sum-cong N _ _ (λ k g. *ℤ-assoc (x i) (c i k) (c n k)) ∙ sum-scale N (x i) (λ k. c i k *ℤ c n k))
+        sum_cong N _ _ (λ k h. sym (sum_scaled N (λ i. x i *ℤ c i k) (c n k)))
+        ∙ sum_swap N N (λ k i. x i *ℤ c i k *ℤ c n k)
+        ∙ sum_cong N _ _ (λ i h. sum_cong N _ _ (λ k g. *ℤ-assoc (x i) (c i k) (c n k)) ∙ sum_scale N (x i) (λ k. c i k *ℤ c n k))
 
     once : sum N (λ i. x i *ℤ c i 0) *ℤ int B ≡ sum N (λ i. x i *ℤ (int B *ℤ int B))
     once =
-        sym (sum-scaled N (λ i. x i *ℤ c i 0) (int B))
-        ∙ sum-cong N _ _ (λ i h. ap (λ z. x i *ℤ z *ℤ int B) (first-place N (2 * i + 1)) ∙ *ℤ-assoc (x i) (int B) (int B))
+        sym (sum_scaled N (λ i. x i *ℤ c i 0) (int B))
+        ∙ sum_cong N _ _ (λ i h. ap (λ z. x i *ℤ z *ℤ int B) (first_place N (2 * i + 1)) ∙ *ℤ-assoc (x i) (int B) (int B))
 
     gathered : (x c t b : ℤ) → t *ℤ (x *ℤ c) -ℤ x *ℤ b ≡ x *ℤ (t *ℤ c -ℤ b)
     gathered x c t b = simp expand
 
-pub inverse-near : (L : ℕ) (x : Samples) (n : ℕ) {X : ℕ} → L ≤ topLevel → n < 2 ^ L → ((i : ℕ) → i < 2 ^ L → x i within X) →
-    exactInverse (2 ^ L) (exactDct (2 ^ L) x) n -ℤ x n *ℤ (int (2 ^ L) *ℤ (int B *ℤ int B)) within 2 ^ L * (X * orthogonalError (2 ^ L))
-inverse-near L x n l hn b =
-    rw (inverse-spread (2 ^ L) x n (omega arith))
+pub inverse_near : (L : ℕ) (x : Samples) (n : ℕ) {X : ℕ} → L ≤ top_level → n < 2 ^ L → ((i : ℕ) → i < 2 ^ L → x i within X) →
+    exact_inverse (2 ^ L) (exact_dct (2 ^ L) x) n -ℤ x n *ℤ (int (2 ^ L) *ℤ (int B *ℤ int B)) within 2 ^ L * (X * orthogonal_error (2 ^ L))
+inverse_near L x n l hn b =
+    rw (inverse_spread (2 ^ L) x n (omega arith))
     (sum_one (2 ^ L) n _ (x n *ℤ (int (2 ^ L) *ℤ (int B *ℤ int B))) hn
-    (within-eq (out (x n) _ (int (2 ^ L) *ℤ (int B *ℤ int B))) (within-mul (b n hn) (same-near L n n l hn hn refl)))
-    (λ i h o. within-mul (b i h) (other-near L i n l h hn o)))
+    (within_eq (out (x n) _ (int (2 ^ L) *ℤ (int B *ℤ int B))) (within_mul (b n hn) (same_near L n n l hn hn refl)))
+    (λ i h o. within_mul (b i h) (other_near L i n l h hn o)))
   where
     out : (x y z : ℤ) → x *ℤ (y -ℤ z) ≡ x *ℤ y -ℤ x *ℤ z
     out x y z = simp expand
 
 -- and so do coefficients c that are within e of the exact sums, as nearly as they are: the errors of the 2 N - 1 terms, and the circle's
-module _ (L : ℕ) (x : Samples) (c : ℕ → ℤ) (n : ℕ) {X e : ℕ} (l : L ≤ topLevel) (hn : n < 2 ^ L) (b : (i : ℕ) → i < 2 ^ L → x i within X)
-    (h : (k : ℕ) → k < 2 ^ L → c k *ℤ int B -ℤ exactDct (2 ^ L) x k within e) where
+module _ (L : ℕ) (x : Samples) (c : ℕ → ℤ) (n : ℕ) {X e : ℕ} (l : L ≤ top_level) (hn : n < 2 ^ L) (b : (i : ℕ) → i < 2 ^ L → x i within X)
+    (h : (k : ℕ) → k < 2 ^ L → c k *ℤ int B -ℤ exact_dct (2 ^ L) x k within e) where
   abbrev E : ℕ → ℤ
-  E = exactDct (2 ^ L) x
+  E = exact_dct (2 ^ L) x
 
-  error-is : exactInverse (2 ^ L) (λ k. c k *ℤ int B -ℤ E k) n ≡ exactInverse (2 ^ L) c n *ℤ int B -ℤ exactInverse (2 ^ L) E n
-  error-is =
-      moved (exactInverse (2 ^ L) E n) (exactInverse (2 ^ L) (λ k. c k *ℤ int B -ℤ E k) n)
-      ∙ ap (λ z. z -ℤ exactInverse (2 ^ L) E n)
+  error_is : exact_inverse (2 ^ L) (λ k. c k *ℤ int B -ℤ E k) n ≡ exact_inverse (2 ^ L) c n *ℤ int B -ℤ exact_inverse (2 ^ L) E n
+  error_is =
+      moved (exact_inverse (2 ^ L) E n) (exact_inverse (2 ^ L) (λ k. c k *ℤ int B -ℤ E k) n)
+      ∙ ap (λ z. z -ℤ exact_inverse (2 ^ L) E n)
       (sym
-      (inverse-scale (2 ^ L) c (λ k. E k +ℤ (c k *ℤ int B -ℤ E k)) (int B) n (omega arith) (λ k i. split (c k *ℤ int B) (E k))
-      ∙ inverse-add (2 ^ L) E (λ k. c k *ℤ int B -ℤ E k) n))
+      (inverse_scale (2 ^ L) c (λ k. E k +ℤ (c k *ℤ int B -ℤ E k)) (int B) n (omega arith) (λ k i. split (c k *ℤ int B) (E k))
+      ∙ inverse_add (2 ^ L) E (λ k. c k *ℤ int B -ℤ E k) n))
     where
       moved : (u v : ℤ) → v ≡ u +ℤ v -ℤ u
       moved u v = rw (parts u, parts v) (simp diff (omega near))
@@ -307,16 +307,16 @@ module _ (L : ℕ) (x : Samples) (c : ℕ → ℤ) (n : ℕ) {X e : ℕ} (l : L 
       split : (u v : ℤ) → u ≡ v +ℤ (u -ℤ v)
       split u v = rw (parts u, parts v) (simp diff (omega near))
 
-  pub inverse-of-near : exactInverse (2 ^ L) c n -ℤ x n *ℤ (int (2 ^ L) *ℤ int B)
-      within (2 * 2 ^ L - 1) * e + 2 ^ L * (X * (2 ^ L * (2 * additionError)))
-  inverse-of-near =
-      within-cancel B (lit< tt)
-      (within-le
-      (within-eq (out (exactInverse (2 ^ L) c n) (x n) (int (2 ^ L)) (int B))
-      (within-trans (exactInverse (2 ^ L) c n *ℤ int B) (exactInverse (2 ^ L) E n) (x n *ℤ (int (2 ^ L) *ℤ (int B *ℤ int B)))
-      (within-eq error-is (inverse-size (2 ^ L) (λ k. c k *ℤ int B -ℤ E k) n (omega arith) h))
-      (inverse-near L x n l hn b)))
-      (shared B (2 * 2 ^ L - 1) e (2 ^ L) X additionError))
+  pub inverse_of_near : exact_inverse (2 ^ L) c n -ℤ x n *ℤ (int (2 ^ L) *ℤ int B)
+      within (2 * 2 ^ L - 1) * e + 2 ^ L * (X * (2 ^ L * (2 * addition_error)))
+  inverse_of_near =
+      within_cancel B (lit< tt)
+      (within_le
+      (within_eq (out (exact_inverse (2 ^ L) c n) (x n) (int (2 ^ L)) (int B))
+      (within_trans (exact_inverse (2 ^ L) c n *ℤ int B) (exact_inverse (2 ^ L) E n) (x n *ℤ (int (2 ^ L) *ℤ (int B *ℤ int B)))
+      (within_eq error_is (inverse_size (2 ^ L) (λ k. c k *ℤ int B -ℤ E k) n (omega arith) h))
+      (inverse_near L x n l hn b)))
+      (shared B (2 * 2 ^ L - 1) e (2 ^ L) X addition_error))
     where
       out : (u x n b : ℤ) → u *ℤ b -ℤ x *ℤ (n *ℤ (b *ℤ b)) ≡ b *ℤ (u -ℤ x *ℤ (n *ℤ b))
       out u x n b = simp expand
@@ -324,6 +324,6 @@ module _ (L : ℕ) (x : Samples) (c : ℕ → ℤ) (n : ℕ) {X e : ℕ} (l : L 
       shared : (b m e n x a : ℕ) → m * (e * b) + n * (x * (n * (2 * (a * b)))) ≤ b * (m * e + n * (x * (n * (2 * a))))
       shared b m e n x a = omega arith
 
-pub inverts : (L : ℕ) (x : Samples) (X n : ℕ) → L ≤ topLevel → n < 2 ^ L → ((i : ℕ) → i < 2 ^ L → nat_abs (x i) ≤ X) → Inverts (2 ^ L) x X n
+pub inverts : (L : ℕ) (x : Samples) (X n : ℕ) → L ≤ top_level → n < 2 ^ L → ((i : ℕ) → i < 2 ^ L → nat_abs (x i) ≤ X) → Inverts (2 ^ L) x X n
 unfolding int
-inverts L x X n l hn b = record { near = within-size (inverse-near L x n l hn (λ i h. size-within (x i) (b i h))) }
+inverts L x X n l hn b = record { near = within_size (inverse_near L x n l hn (λ i h. size_within (x i) (b i h))) }

@@ -4,60 +4,60 @@ use mathlib.Core.Path.{◌≡◌, refl}
 use Prim.Native.Nat.{ℕ, zero, suc, ◌*◌, ◌-◌, ◌^◌, ◌<◌, ◌≤◌}
 use native.Mathlib.Omega.{arith}
 use lib.IntN.{ℤ}
-use Rattle.whole.proofs.Largest.{largest-least}
+use Rattle.whole.proofs.Largest.{largest_least}
 use Rattle.whole.proofs.Powers.{pow_pos}
-use Rattle.whole.proofs.Rounding.{rest-size}
+use Rattle.whole.proofs.Rounding.{rest_size_lem}
 use Rattle.words.specs.Words.{Samples}
-use Rattle.ffct.specs.Transforms.{evens, foldedSums, foldedDifferences, rearranged, rotationRest}
-use Rattle.ffct.specs.Transforms.{dctBy, cosineDft, sineDft, dct, spectrum, pair}
+use Rattle.ffct.specs.Transforms.{evens, folded_sums, folded_differences, rearranged, rotation_rest}
+use Rattle.ffct.specs.Transforms.{dct_by, cosine_dft, sine_dft, dct, spectrum, pair}
 use Rattle.ffct.specs.Limits.{RestLimits}
 use Rattle.lengths.proofs.Lengths.{len}
-use Rattle.ffct.proofs.Steps.{cosine-rest, sine-rest, dct-rest}
+use Rattle.ffct.proofs.Steps.{cosine_rest, sine_rest, dct_rest}
 
-rotation-small : (N : ℕ) (C S : ℕ → ℤ) → rotationRest N C S ≤ 2 ^ 29
-unfolding rotationRest
-rotation-small N C S = largest-least (N - 1) _ (2 ^ 29) (λ i h. rest-size _)
+rotation_small : (N : ℕ) (C S : ℕ → ℤ) → rotation_rest N C S ≤ 2 ^ 29
+unfolding rotation_rest
+rotation_small N C S = largest_least (N - 1) _ (2 ^ 29) (λ i h. rest_size_lem _)
 
 -- of the DFTs of a level, and of its DCT, which is made of them
 abbrev DftSmall : ℕ → Type 0
-DftSmall L = (x : Samples) → ((cosineDft L x).largestRest ≤ 2 ^ 29) × ((sineDft L x).largestRest ≤ 2 ^ 29)
+DftSmall L = (x : Samples) → ((cosine_dft L x).largest_rest ≤ 2 ^ 29) × ((sine_dft L x).largest_rest ≤ 2 ^ 29)
 
-dct-small-of : (L : ℕ) → DftSmall L → (x : Samples) → (dct L x).largestRest ≤ 2 ^ 29
-dct-small-of zero H x = unfold dct dctBy in omega arith
-dct-small-of (suc L) H x =
+dct_small_of : (L : ℕ) → DftSmall L → (x : Samples) → (dct L x).largest_rest ≤ 2 ^ 29
+dct_small_of zero H x = unfold dct dct_by in omega arith
+dct_small_of (suc L) H x =
     let z = rearranged (2 * len L) x in
-    omega (arith, dct-rest L x, H z, rotation-small (2 * len L) (cosineDft (suc L) z).at (sineDft (suc L) z).at)
+    omega (arith, dct_rest L x, H z, rotation_small (2 * len L) (cosine_dft (suc L) z).at (sine_dft (suc L) z).at)
 
-dft-small : (L : ℕ) → DftSmall L
-dft-small zero x = unfold cosineDft in omega arith
-dft-small (suc zero) x = unfold cosineDft in omega arith
-dft-small (suc (suc L)) x =
-    let even = dft-small (suc L) (evens x) in
-    let odd = dct-small-of L (dft-small L) in
+dft_small : (L : ℕ) → DftSmall L
+dft_small zero x = unfold cosine_dft in omega arith
+dft_small (suc zero) x = unfold cosine_dft in omega arith
+dft_small (suc (suc L)) x =
+    let even = dft_small (suc L) (evens x) in
+    let odd = dct_small_of L (dft_small L) in
     omega (
       arith,
-      cosine-rest L x,
-      sine-rest L x,
+      cosine_rest L x,
+      sine_rest L x,
       even,
-      odd (foldedSums (4 * len L) x),
-      odd (foldedDifferences (4 * len L) x),
+      odd (folded_sums (4 * len L) x),
+      odd (folded_differences (4 * len L) x),
     )
 
 -- of four samples or fewer the DFTs round nothing
-dft-none : (L : ℕ) (x : Samples) → 2 ^ L < 8 → ((cosineDft L x).largestRest ≡ 0) × ((sineDft L x).largestRest ≡ 0)
-unfolding cosineDft dctBy
-dft-none zero x h = (refl, refl)
-dft-none (suc zero) x h = (refl, refl)
-dft-none (suc (suc zero)) x h = (refl, refl)
-dft-none (suc (suc (suc L))) x h = absurd (omega (arith, pow_pos L))
+dft_none : (L : ℕ) (x : Samples) → 2 ^ L < 8 → ((cosine_dft L x).largest_rest ≡ 0) × ((sine_dft L x).largest_rest ≡ 0)
+unfolding cosine_dft dct_by
+dft_none zero x h = (refl, refl)
+dft_none (suc zero) x h = (refl, refl)
+dft_none (suc (suc zero)) x h = (refl, refl)
+dft_none (suc (suc (suc L))) x h = absurd (omega (arith, pow_pos L))
 
-pub rest-limits : (L : ℕ) (x : Samples) → RestLimits L x
+pub rest_limits : (L : ℕ) (x : Samples) → RestLimits L x
 unfolding spectrum pair
-rest-limits L x = record {
-  dctSmall = dct-small-of L (dft-small L) x;
-  spectrumSmall = omega (arith, dft-small L x);
-  pairSmall = λ y. omega (arith, dft-small L x, dft-small L y);
-  dctNone = λ e. rw e (unfold dct dctBy in refl);
-  spectrumNone = λ h. omega (arith, dft-none L x (omega arith));
-  pairNone = λ y h. omega (arith, dft-none L x (omega arith), dft-none L y (omega arith));
+rest_limits L x = record {
+  dct_small = dct_small_of L (dft_small L) x;
+  spectrum_small = omega (arith, dft_small L x);
+  pair_small = λ y. omega (arith, dft_small L x, dft_small L y);
+  dct_none = λ e. rw e (unfold dct dct_by in refl);
+  spectrum_none = λ h. omega (arith, dft_none L x (omega arith));
+  pair_none = λ y h. omega (arith, dft_none L x (omega arith), dft_none L y (omega arith));
 }

@@ -7,69 +7,69 @@ use Prim.Native.Nat.{ℕ, zero, suc, ◌+◌, ◌*◌, ◌-◌, ◌<◌}
 use native.Mathlib.Omega.{arith}
 use lib.IntN.{ℤ, neg_ℤ, neg_ℤ-neg_ℤ, ◌+ℤ◌, ◌-ℤ◌, ◌*ℤ◌}
 use Rattle.whole.specs.Sum.{sum}
-use Rattle.whole.proofs.Cases.{le-or-lt}
+use Rattle.whole.proofs.Cases.{le_or_lt}
 use Rattle.whole.proofs.Difference.{int, parts, diff}
 use Rattle.whole.proofs.Ring.{expand, *ℤ-negℤ, negℤ-*ℤ}
-use Rattle.whole.proofs.Size.{near, ◌within◌, size-within, within-eq, within-mul}
-use Rattle.whole.proofs.Sums.{sum-cong, sum-add, sum-sub, sum-scale, sum-halves, sum-reverse, sum-even-odd, sum-within}
-use Rattle.circle.specs.Circle.{B, K, sineAt}
-use Rattle.circle.specs.Laws.{additionError}
+use Rattle.whole.proofs.Size.{near, ◌within◌, size_within, within_eq, within_mul}
+use Rattle.whole.proofs.Sums.{sum_cong, sum_add, sum_sub, sum_scale, sum_halves, sum_reverse, sum_even_odd, sum_within}
+use Rattle.circle.specs.Circle.{B, K, sine_at}
+use Rattle.circle.specs.Laws.{addition_error}
 use Rattle.circle.proofs.Places.{mirror, opposite}
 use Rattle.circle.proofs.Addition.{addition}
 use Rattle.words.specs.Words.{Samples}
-use Rattle.ffct.specs.Transforms.{evens, foldedSums, foldedDifferences, alternate, rearranged, apart}
-use Rattle.ffct.proofs.Steps.{rearranged-near, rearranged-far}
-use Rattle.ffct.proofs.Sums.{cosSum, sinSum, dctSum}
+use Rattle.ffct.specs.Transforms.{evens, folded_sums, folded_differences, alternate, rearranged, apart}
+use Rattle.ffct.proofs.Steps.{rearranged_near, rearranged_far}
+use Rattle.ffct.proofs.Sums.{cos_sum, sin_sum, dct_sum}
 
 -- a sum of 2 m terms, its far half folded back onto its near half
 sum_folded : (m : ℕ) (f : ℕ → ℤ) → sum (2 * m) f ≡ sum m (λ i. f i +ℤ f (2 * m - 1 - i))
 sum_folded m f =
-    sum-halves m f
-    ∙ ap (λ z. sum m f +ℤ z) (sum-reverse m (λ i. f (m + i)) ∙ sum-cong m _ (λ i. f (2 * m - 1 - i)) (λ i h. ap f (omega arith)))
-    ∙ sym (sum-add m f (λ i. f (2 * m - 1 - i)))
+    sum_halves m f
+    ∙ ap (λ z. sum m f +ℤ z) (sum_reverse m (λ i. f (m + i)) ∙ sum_cong m _ (λ i. f (2 * m - 1 - i)) (λ i h. ap f (omega arith)))
+    ∙ sym (sum_add m f (λ i. f (2 * m - 1 - i)))
 
 -- the even places of 4 m, and the odd ones folded
-even-and-folded : (m : ℕ) (f : ℕ → ℤ) →
+even_and_folded : (m : ℕ) (f : ℕ → ℤ) →
     sum (2 * (2 * m)) f ≡ sum (2 * m) (λ i. f (2 * i)) +ℤ sum m (λ i. f (2 * i + 1) +ℤ f (4 * m - 2 * i - 1))
-even-and-folded m f =
-    sum-even-odd (2 * m) f ∙ ap (λ z. sum (2 * m) (λ i. f (2 * i)) +ℤ z) (sum_folded m (λ i. f (2 * i + 1)) ∙ sum-cong m _ _ far)
+even_and_folded m f =
+    sum_even_odd (2 * m) f ∙ ap (λ z. sum (2 * m) (λ i. f (2 * i)) +ℤ z) (sum_folded m (λ i. f (2 * i + 1)) ∙ sum_cong m _ _ far)
   where
     far : (i : ℕ) → i < m → f (2 * i + 1) +ℤ f (2 * (2 * m - 1 - i) + 1) ≡ f (2 * i + 1) +ℤ f (4 * m - 2 * i - 1)
     far i h = ap (λ j. f (2 * i + 1) +ℤ f j) {x = 2 * (2 * m - 1 - i) + 1} {y = 4 * m - 2 * i - 1} (omega arith)
 
 -- ---- (−1)^n
-pub alternate-mul : (n : ℕ) (z t : ℤ) → alternate n z *ℤ t ≡ z *ℤ alternate n t
+pub alternate_mul : (n : ℕ) (z t : ℤ) → alternate n z *ℤ t ≡ z *ℤ alternate n t
 unfolding alternate
-alternate-mul zero z t = refl
-alternate-mul (suc n) z t = negℤ-*ℤ (alternate n z) t ∙ ap neg_ℤ (alternate-mul n z t) ∙ sym (*ℤ-negℤ z (alternate n t))
+alternate_mul zero z t = refl
+alternate_mul (suc n) z t = negℤ-*ℤ (alternate n z) t ∙ ap neg_ℤ (alternate_mul n z t) ∙ sym (*ℤ-negℤ z (alternate n t))
 
-alternate-neg : (n : ℕ) (z : ℤ) → alternate n (neg_ℤ z) ≡ neg_ℤ (alternate n z)
+alternate_neg : (n : ℕ) (z : ℤ) → alternate n (neg_ℤ z) ≡ neg_ℤ (alternate n z)
 unfolding alternate
-alternate-neg zero z = refl
-alternate-neg (suc n) z = ap neg_ℤ (alternate-neg n z)
+alternate_neg zero z = refl
+alternate_neg (suc n) z = ap neg_ℤ (alternate_neg n z)
 
-alternate-twice : (n : ℕ) (z : ℤ) → alternate n (alternate n z) ≡ z
+alternate_twice : (n : ℕ) (z : ℤ) → alternate n (alternate n z) ≡ z
 unfolding alternate
-alternate-twice zero z = refl
-alternate-twice (suc n) z = ap neg_ℤ (alternate-neg n (alternate n z)) ∙ neg_ℤ-neg_ℤ _ ∙ alternate-twice n z
+alternate_twice zero z = refl
+alternate_twice (suc n) z = ap neg_ℤ (alternate_neg n (alternate n z)) ∙ neg_ℤ-neg_ℤ _ ∙ alternate_twice n z
 
 -- n half turns: between places whose sum, and whose difference, is known
-half-turns : (n p q m : ℕ) → p + q ≡ 4096 * m + 2048 * n → K p ≡ alternate n (K q)
+half_turns : (n p q m : ℕ) → p + q ≡ 4096 * m + 2048 * n → K p ≡ alternate n (K q)
 unfolding alternate
-half-turns zero p q m h = mirror p q m (omega arith)
-half-turns (suc zero) p q m h = opposite p q m (omega arith)
-half-turns (suc (suc n)) p q m h = half-turns n p q (m + 1) (omega arith) ∙ sym (neg_ℤ-neg_ℤ (alternate n (K q)))
+half_turns zero p q m h = mirror p q m (omega arith)
+half_turns (suc zero) p q m h = opposite p q m (omega arith)
+half_turns (suc (suc n)) p q m h = half_turns n p q (m + 1) (omega arith) ∙ sym (neg_ℤ-neg_ℤ (alternate n (K q)))
 
-half-turns-on : (n p q m : ℕ) → q ≡ p + (4096 * m + 2048 * n) → K p ≡ alternate n (K q)
-half-turns-on n p q m h = mirror p (4095 * p) p (omega arith) ∙ half-turns n (4095 * p) q (p + m) (omega arith)
+half_turns_on : (n p q m : ℕ) → q ≡ p + (4096 * m + 2048 * n) → K p ≡ alternate n (K q)
+half_turns_on n p q m h = mirror p (4095 * p) p (omega arith) ∙ half_turns n (4095 * p) q (p + m) (omega arith)
 
 -- ---- (12)
 module _ (w m : ℕ) (x : Samples) (k : ℕ) (q : 4 * m * w ≡ 1024) where
-  pub cos-split : cosSum w (2 * (2 * m)) x k ≡ cosSum (2 * w) (2 * m) (evens x) k +ℤ dctSum (4 * w) m (foldedSums (4 * m) x) k
-  unfolding cosSum dctSum
-  cos-split =
-      even-and-folded m (λ i. x i *ℤ K (4 * w * i * k))
-      ∙ ap₂ ◌+ℤ◌ (sum-cong (2 * m) _ _ (λ i h. ap (λ p. x (2 * i) *ℤ K p) (omega arith))) (sum-cong m _ _ folded)
+  pub cos_split : cos_sum w (2 * (2 * m)) x k ≡ cos_sum (2 * w) (2 * m) (evens x) k +ℤ dct_sum (4 * w) m (folded_sums (4 * m) x) k
+  unfolding cos_sum dct_sum
+  cos_split =
+      even_and_folded m (λ i. x i *ℤ K (4 * w * i * k))
+      ∙ ap₂ ◌+ℤ◌ (sum_cong (2 * m) _ _ (λ i h. ap (λ p. x (2 * i) *ℤ K p) (omega arith))) (sum_cong m _ _ folded)
     where
       joined : (a b : ℤ) {u v t : ℤ} → u ≡ t → v ≡ t → a *ℤ u +ℤ b *ℤ v ≡ (a +ℤ b) *ℤ t
       joined a b {u} {v} {t} e f = rw (e, f, parts a, parts b, parts t) (simp diff (omega near))
@@ -84,12 +84,12 @@ module _ (w m : ℕ) (x : Samples) (k : ℕ) (q : 4 * m * w ≡ 1024) where
           joined (x (2 * i + 1)) (x (4 * m - 2 * i - 1)) (ap K (omega arith)) (mirror _ _ k (places i (4 * m - 2 * i - 1) (omega arith)))
 
   -- ---- (15), with (14) for the place k of the sine and d = N/4 − k of the DCT
-  sin-folded : (d : ℕ) → ((i : ℕ) → K ((2 * i + 1) * d * (4 * w)) ≡ alternate i (sineAt (4 * w * (2 * i + 1) * k))) →
-      sinSum w (2 * (2 * m)) x k ≡ sinSum (2 * w) (2 * m) (evens x) k +ℤ dctSum (4 * w) m (foldedDifferences (4 * m) x) d
-  unfolding sinSum dctSum
-  sin-folded d identity =
-      even-and-folded m (λ i. x i *ℤ sineAt (4 * w * i * k))
-      ∙ ap₂ ◌+ℤ◌ (sum-cong (2 * m) _ _ (λ i h. ap (λ p. x (2 * i) *ℤ sineAt p) (omega arith))) (sum-cong m _ _ folded)
+  sin_folded : (d : ℕ) → ((i : ℕ) → K ((2 * i + 1) * d * (4 * w)) ≡ alternate i (sine_at (4 * w * (2 * i + 1) * k))) →
+      sin_sum w (2 * (2 * m)) x k ≡ sin_sum (2 * w) (2 * m) (evens x) k +ℤ dct_sum (4 * w) m (folded_differences (4 * m) x) d
+  unfolding sin_sum dct_sum
+  sin_folded d identity =
+      even_and_folded m (λ i. x i *ℤ sine_at (4 * w * i * k))
+      ∙ ap₂ ◌+ℤ◌ (sum_cong (2 * m) _ _ (λ i h. ap (λ p. x (2 * i) *ℤ sine_at p) (omega arith))) (sum_cong m _ _ folded)
     where
       joined : (a b t : ℤ) {v : ℤ} → v ≡ neg_ℤ t → a *ℤ t +ℤ b *ℤ v ≡ (a -ℤ b) *ℤ t
       joined a b t {v} f = rw (f, parts a, parts b, parts t) (simp diff (omega near))
@@ -98,21 +98,21 @@ module _ (w m : ℕ) (x : Samples) (k : ℕ) (q : 4 * m * w ≡ 1024) where
       places i r h = omega (arith, ap (λ t. 4 * w * k * t) h, ap (λ t. 4 * t * k) q)
 
       folded : (i : ℕ) → i < m →
-          x (2 * i + 1) *ℤ sineAt (4 * w * (2 * i + 1) * k) +ℤ x (4 * m - 2 * i - 1) *ℤ sineAt (4 * w * (4 * m - 2 * i - 1) * k)
+          x (2 * i + 1) *ℤ sine_at (4 * w * (2 * i + 1) * k) +ℤ x (4 * m - 2 * i - 1) *ℤ sine_at (4 * w * (4 * m - 2 * i - 1) * k)
           ≡ alternate i (x (2 * i + 1) -ℤ x (4 * m - 2 * i - 1)) *ℤ K ((2 * i + 1) * d * (4 * w))
       folded i h =
           joined (x (2 * i + 1)) (x (4 * m - 2 * i - 1)) _ (opposite _ _ (k + 1) (places i (4 * m - 2 * i - 1) (omega arith)))
-          ∙ ap (λ z. (x (2 * i + 1) -ℤ x (4 * m - 2 * i - 1)) *ℤ z) (sym (alternate-twice i _) ∙ ap (alternate i) (sym (identity i)))
-          ∙ sym (alternate-mul i (x (2 * i + 1) -ℤ x (4 * m - 2 * i - 1)) (K ((2 * i + 1) * d * (4 * w))))
+          ∙ ap (λ z. (x (2 * i + 1) -ℤ x (4 * m - 2 * i - 1)) *ℤ z) (sym (alternate_twice i _) ∙ ap (alternate i) (sym (identity i)))
+          ∙ sym (alternate_mul i (x (2 * i + 1) -ℤ x (4 * m - 2 * i - 1)) (K ((2 * i + 1) * d * (4 * w))))
 
-  pub sin-split : sinSum w (2 * (2 * m)) x k
-      ≡ sinSum (2 * w) (2 * m) (evens x) k +ℤ dctSum (4 * w) m (foldedDifferences (4 * m) x) (apart m k)
+  pub sin_split : sin_sum w (2 * (2 * m)) x k
+      ≡ sin_sum (2 * w) (2 * m) (evens x) k +ℤ dct_sum (4 * w) m (folded_differences (4 * m) x) (apart m k)
   unfolding apart
-  sin-split =
+  sin_split =
       ⊎_elim
-      (λ l. sin-folded (apart m k) (λ i. half-turns i _ _ 1 (below i (apart m k) (omega arith))))
-      (λ l. sin-folded (apart m k) (λ i. half-turns-on i _ _ 1 (above i (apart m k) (omega arith))))
-      (le-or-lt k m)
+      (λ l. sin_folded (apart m k) (λ i. half_turns i _ _ 1 (below i (apart m k) (omega arith))))
+      (λ l. sin_folded (apart m k) (λ i. half_turns_on i _ _ 1 (above i (apart m k) (omega arith))))
+      (le_or_lt k m)
     where
       below : (i d : ℕ) → k + d ≡ m → (2 * i + 1) * d * (4 * w) + (4 * w * (2 * i + 1) * k + 3072) ≡ 4096 * 1 + 2048 * i
       below i d h = omega (arith, ap (λ t. (2 * i + 1) * (4 * w) * t) h, ap (λ t. (2 * i + 1) * t) q)
@@ -122,39 +122,39 @@ module _ (w m : ℕ) (x : Samples) (k : ℕ) (q : 4 * m * w ≡ 1024) where
 
 -- ---- (16), (17)
 module _ (w m : ℕ) (x : Samples) (k : ℕ) (q : 2 * m * w ≡ 1024) where
-  pub dct-rearranged : dctSum w (2 * m) x k ≡ sum (2 * m) (λ i. rearranged (2 * m) x i *ℤ K (4 * w * i * k + k * w))
-  unfolding dctSum
-  dct-rearranged =
-      sum-even-odd m (λ i. x i *ℤ K ((2 * i + 1) * k * w))
-      ∙ sym (sum-add m _ _)
-      ∙ sum-cong m _ _ (λ i h. ap₂ ◌+ℤ◌ (near-half i h) (far-half i h))
+  pub dct_rearranged : dct_sum w (2 * m) x k ≡ sum (2 * m) (λ i. rearranged (2 * m) x i *ℤ K (4 * w * i * k + k * w))
+  unfolding dct_sum
+  dct_rearranged =
+      sum_even_odd m (λ i. x i *ℤ K ((2 * i + 1) * k * w))
+      ∙ sym (sum_add m _ _)
+      ∙ sum_cong m _ _ (λ i h. ap₂ ◌+ℤ◌ (near_half i h) (far_half i h))
       ∙ sym (sum_folded m (λ i. rearranged (2 * m) x i *ℤ K (4 * w * i * k + k * w)))
     where
-      near-half : (i : ℕ) → i < m → x (2 * i) *ℤ K ((2 * (2 * i) + 1) * k * w) ≡ rearranged (2 * m) x i *ℤ K (4 * w * i * k + k * w)
-      near-half i h = ap₂ ◌*ℤ◌ (sym (rearranged-near m x i h)) (ap K (omega arith))
+      near_half : (i : ℕ) → i < m → x (2 * i) *ℤ K ((2 * (2 * i) + 1) * k * w) ≡ rearranged (2 * m) x i *ℤ K (4 * w * i * k + k * w)
+      near_half i h = ap₂ ◌*ℤ◌ (sym (rearranged_near m x i h)) (ap K (omega arith))
 
       places : (i r : ℕ) → r + i + 1 ≡ 2 * m → (2 * (2 * i + 1) + 1) * k * w + (4 * w * r * k + k * w) ≡ 4096 * k
       places i r h = omega (arith, ap (λ t. 4 * w * k * t) h, ap (λ t. 4 * t * k) q)
 
-      far-half : (i : ℕ) → i < m →
+      far_half : (i : ℕ) → i < m →
           x (2 * i + 1) *ℤ K ((2 * (2 * i + 1) + 1) * k * w)
           ≡ rearranged (2 * m) x (2 * m - 1 - i) *ℤ K (4 * w * (2 * m - 1 - i) * k + k * w)
-      far-half i h = ap₂ ◌*ℤ◌ (sym (rearranged-far m x i h)) (mirror _ _ k (places i (2 * m - 1 - i) (omega arith)))
+      far_half i h = ap₂ ◌*ℤ◌ (sym (rearranged_far m x i h)) (mirror _ _ k (places i (2 * m - 1 - i) (omega arith)))
 
 -- ---- (18): the sum turned by k w, from the cosine sum and the sine sum, by the addition law
-pub near-sum : (p q : ℕ) → K p *ℤ K q -ℤ sineAt p *ℤ sineAt q -ℤ int B *ℤ K (p + q) within additionError * B
-near-sum p q = unfold int in size-within _ (addition p q).cosine
+pub near_sum : (p q : ℕ) → K p *ℤ K q -ℤ sine_at p *ℤ sine_at q -ℤ int B *ℤ K (p + q) within addition_error * B
+near_sum p q = unfold int in size_within _ (addition p q).cosine
 
 module _ (w n : ℕ) (y : Samples) (k : ℕ) {X : ℕ} (b : (i : ℕ) → i < n → y i within X) where
-  pub turned : K (k * w) *ℤ cosSum w n y k -ℤ sineAt (k * w) *ℤ sinSum w n y k -ℤ int B *ℤ sum n (λ i. y i *ℤ K (4 * w * i * k + k * w))
-      within n * (X * (additionError * B))
-  unfolding cosSum sinSum
+  pub turned : K (k * w) *ℤ cos_sum w n y k -ℤ sine_at (k * w) *ℤ sin_sum w n y k -ℤ int B *ℤ sum n (λ i. y i *ℤ K (4 * w * i * k + k * w))
+      within n * (X * (addition_error * B))
+  unfolding cos_sum sin_sum
   turned =
-      within-eq
-      (sum-cong n _ _ (λ i h. spread (int B) (K (k * w)) (sineAt (k * w)) (y i) (K (p i)) (sineAt (p i)) (K (p i + k * w)))
-      ∙ sum-sub n _ _
-      ∙ ap₂ ◌-ℤ◌ (sum-sub n _ _ ∙ ap₂ ◌-ℤ◌ (sum-scale n (K (k * w)) _) (sum-scale n (sineAt (k * w)) _)) (sum-scale n (int B) _))
-      (sum-within n _ (λ i h. within-mul (b i h) (near-sum (p i) (k * w))))
+      within_eq
+      (sum_cong n _ _ (λ i h. spread (int B) (K (k * w)) (sine_at (k * w)) (y i) (K (p i)) (sine_at (p i)) (K (p i + k * w)))
+      ∙ sum_sub n _ _
+      ∙ ap₂ ◌-ℤ◌ (sum_sub n _ _ ∙ ap₂ ◌-ℤ◌ (sum_scale n (K (k * w)) _) (sum_scale n (sine_at (k * w)) _)) (sum_scale n (int B) _))
+      (sum_within n _ (λ i h. within_mul (b i h) (near_sum (p i) (k * w))))
     where
       p : ℕ → ℕ
       p = λ i. 4 * w * i * k

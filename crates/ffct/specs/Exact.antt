@@ -1,28 +1,28 @@
 -- Document 01, "The cosine circle": the exact sums, before the division by 2^80, and distances from them.
 use Rattle.std.specs.Prelude.{ℕ, ◌+◌, ◌*◌, ◌/◌, ◌≤◌, ℤ, pos, nat_abs, ◌+ℤ◌, ◌-ℤ◌, ◌*ℤ◌}
 use Rattle.whole.specs.Sum.{sum}
-use Rattle.circle.specs.Circle.{B, K, sineAt}
+use Rattle.circle.specs.Circle.{B, K, sine_at}
 use Rattle.words.specs.Words.{Samples}
 
 -- "cosine-DFT(k) is the sum of x(n)·K(nk·4096/N)"
-unfoldable pub exactCosine : ℕ → Samples → ℕ → ℤ
-exactCosine N x k = sum N (λ n. x n *ℤ K (n * k * 4096 / N))
+unfoldable pub exact_cosine : ℕ → Samples → ℕ → ℤ
+exact_cosine N x k = sum N (λ n. x n *ℤ K (n * k * 4096 / N))
 
--- "sine-DFT(k) of x(n)·K(nk·4096/N − 1024)"; `sineAt p` is K at p − 1,024
-unfoldable pub exactSine : ℕ → Samples → ℕ → ℤ
-exactSine N x k = sum N (λ n. x n *ℤ sineAt (n * k * 4096 / N))
+-- "sine-DFT(k) of x(n)·K(nk·4096/N − 1024)"; `sine_at p` is K at p − 1,024
+unfoldable pub exact_sine : ℕ → Samples → ℕ → ℤ
+exact_sine N x k = sum N (λ n. x n *ℤ sine_at (n * k * 4096 / N))
 
 -- "DCT(k) of x(n)·K((2n+1)k·1024/N)"
-unfoldable pub exactDct : ℕ → Samples → ℕ → ℤ
-exactDct N x k = sum N (λ n. x n *ℤ K ((2 * n + 1) * k * 1024 / N))
+unfoldable pub exact_dct : ℕ → Samples → ℕ → ℤ
+exact_dct N x k = sum N (λ n. x n *ℤ K ((2 * n + 1) * k * 1024 / N))
 
 -- "Pair's exact real(k) is the sum of a(n)·K(nk·4096/N) + b(n)·K(nk·4096/N − 1024)"
-unfoldable pub exactReal : ℕ → Samples → Samples → ℕ → ℤ
-exactReal N a b k = sum N (λ n. a n *ℤ K (n * k * 4096 / N) +ℤ b n *ℤ sineAt (n * k * 4096 / N))
+unfoldable pub exact_real : ℕ → Samples → Samples → ℕ → ℤ
+exact_real N a b k = sum N (λ n. a n *ℤ K (n * k * 4096 / N) +ℤ b n *ℤ sine_at (n * k * 4096 / N))
 
 -- "its exact imaginary(k) that of b(n)·K(nk·4096/N) − a(n)·K(nk·4096/N − 1024)"
-unfoldable pub exactImaginary : ℕ → Samples → Samples → ℕ → ℤ
-exactImaginary N a b k = sum N (λ n. b n *ℤ K (n * k * 4096 / N) -ℤ a n *ℤ sineAt (n * k * 4096 / N))
+unfoldable pub exact_imaginary : ℕ → Samples → Samples → ℕ → ℤ
+exact_imaginary N a b k = sum N (λ n. b n *ℤ K (n * k * 4096 / N) -ℤ a n *ℤ sine_at (n * k * 4096 / N))
 
 -- ---- distances
 
@@ -41,8 +41,8 @@ abbrev pub eighth : ℕ → Limit
 eighth N = record { over = N; under = 8 }
 
 -- (N + 1)/4
-abbrev pub quarterOfNext : ℕ → Limit
-quarterOfNext N = record { over = N + 1; under = 4 }
+abbrev pub quarter_of_next : ℕ → Limit
+quarter_of_next N = record { over = N + 1; under = 4 }
 
 -- N/4
 abbrev pub quarter : ℕ → Limit

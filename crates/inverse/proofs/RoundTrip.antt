@@ -1,5 +1,5 @@
 -- A block sent through the DCT and back: no coefficient is refused, and each sample comes back within N. The errors are those of the
--- coefficients and of the circle (`inverse-of-near` of ffct), of T° and of the rounding of the value.
+-- coefficients and of the circle (`inverse_of_near` of ffct), of T° and of the rounding of the value.
 -- Assumes nothing.
 use mathlib.Core.Path.{◌≡◌, ap, subst, ◌∙◌}
 use Prim.Native.Nat.{ℕ, ◌+◌, ◌-◌, ◌*◌, ◌/◌, ◌^◌, ◌≤◌, ◌<◌}
@@ -11,40 +11,40 @@ use Rattle.whole.specs.Sum.{sum}
 use Rattle.whole.proofs.Cases.{both, below, below_at}
 use Rattle.whole.proofs.Difference.{int, parts, diff}
 use Rattle.whole.proofs.Ring.{expand}
-use Rattle.whole.proofs.Rounding.{half-near}
-use Rattle.whole.proofs.Size.{near, ◌within◌, size-within, within-size, within-int, within-eq, within-le, within-mul, within-trans}
-use Rattle.whole.proofs.Sums.{sum-sub, sum-scaled, sum-within}
+use Rattle.whole.proofs.Rounding.{half_near}
+use Rattle.whole.proofs.Size.{near, ◌within◌, size_within, within_size, within_int, within_eq, within_le, within_mul, within_trans}
+use Rattle.whole.proofs.Sums.{sum_sub, sum_scaled, sum_within}
 use Rattle.circle.specs.Circle.{B, K}
-use Rattle.circle.specs.Laws.{additionError}
+use Rattle.circle.specs.Laws.{addition_error}
 use Rattle.words.specs.Words.{Samples}
-use Rattle.lengths.specs.Block.{topLevel, largestSample, AcceptedBlock}
-use Rattle.ffct.specs.Exact.{exactDct}
-use Rattle.ffct.specs.Orthogonality.{exactInverse}
+use Rattle.lengths.specs.Block.{top_level, largest_sample, AcceptedBlock}
+use Rattle.ffct.specs.Exact.{exact_dct}
+use Rattle.ffct.specs.Orthogonality.{exact_inverse}
 use Rattle.ffct.specs.Transforms.{dct}
-use Rattle.lengths.proofs.Lengths.{len, pow-len, per, len-per}
-use Rattle.ffct.proofs.Sums.{dct-exact, dct-size}
-use Rattle.ffct.proofs.Rotation.{coefficient-size}
+use Rattle.lengths.proofs.Lengths.{len, pow_len, per, len_per}
+use Rattle.ffct.proofs.Sums.{dct_exact, dct_size}
+use Rattle.ffct.proofs.Rotation.{coefficient_size}
 use Rattle.ffct.proofs.Limits.{limits}
-use Rattle.ffct.proofs.Orthogonality.{inverse-of-near}
-use Rattle.inverse.specs.Inverse.{T°, inverseSum, inverseDct, largestCoefficient}
+use Rattle.ffct.proofs.Orthogonality.{inverse_of_near}
+use Rattle.inverse.specs.Inverse.{T°, inverse_sum, inverse_dct, largest_coefficient}
 use Rattle.inverse.specs.Laws.{RoundTrip}
-use Rattle.inverse.proofs.Waves.{wave-near}
+use Rattle.inverse.proofs.Waves.{wave_near}
 
 -- ---- the sum with T°, times 2^50, is near the sum with K: their first terms are equal, and T°(p) 2^50 is within 2^49 of K(p)
-first-gone : (a s u h r : ℤ) → int 2 *ℤ (s *ℤ r -ℤ u) ≡ (a *ℤ h +ℤ int 2 *ℤ s) *ℤ r -ℤ (a *ℤ (h *ℤ r) +ℤ int 2 *ℤ u)
-first-gone a s u h r = rw (parts a, parts s, parts u, parts h, parts r) (simp diff (omega near))
+first_gone : (a s u h r : ℤ) → int 2 *ℤ (s *ℤ r -ℤ u) ≡ (a *ℤ h +ℤ int 2 *ℤ s) *ℤ r -ℤ (a *ℤ (h *ℤ r) +ℤ int 2 *ℤ u)
+first_gone a s u h r = rw (parts a, parts s, parts u, parts h, parts r) (simp diff (omega near))
 
 sum_near : (N : ℕ) (c : ℕ → ℤ) (n : ℕ) {C : ℕ} → ((k : ℕ) → k < N → c k within C) →
-    inverseSum N c n *ℤ int (2 ^ 50) -ℤ exactInverse N c n within (N - 1) * (C * 2 ^ 50)
-unfolding inverseSum exactInverse int
+    inverse_sum N c n *ℤ int (2 ^ 50) -ℤ exact_inverse N c n within (N - 1) * (C * 2 ^ 50)
+unfolding inverse_sum exact_inverse int
 sum_near N c n h =
-    within-le
-    (within-eq
-    (ap (λ z. int 2 *ℤ z) (sum-sub (N - 1) _ _ ∙ ap (λ z. z -ℤ sum (N - 1) k) (sum-scaled (N - 1) t (int (2 ^ 50))))
-    ∙ first-gone (c 0) (sum (N - 1) t) (sum (N - 1) k) (int (2 ^ 30)) (int (2 ^ 50)))
-    (within-mul (within-int 2)
-    (sum-within (N - 1) _
-    (λ i l. within-eq (out (c (i + 1)) (T° (p i)) (K (p i)) (int (2 ^ 50))) (within-mul (h (i + 1) (omega arith)) (wave-near (p i)))))))
+    within_le
+    (within_eq
+    (ap (λ z. int 2 *ℤ z) (sum_sub (N - 1) _ _ ∙ ap (λ z. z -ℤ sum (N - 1) k) (sum_scaled (N - 1) t (int (2 ^ 50))))
+    ∙ first_gone (c 0) (sum (N - 1) t) (sum (N - 1) k) (int (2 ^ 30)) (int (2 ^ 50)))
+    (within_mul (within_int 2)
+    (sum_within (N - 1) _
+    (λ i l. within_eq (out (c (i + 1)) (T° (p i)) (K (p i)) (int (2 ^ 50))) (within_mul (h (i + 1) (omega arith)) (wave_near (p i)))))))
     (omega arith)
   where
     p : ℕ → ℕ
@@ -60,19 +60,19 @@ sum_near N c n h =
     out a u v r = simp expand
 
 -- so is the value, times N 2^80: its rounding adds half of that at most
-value-near : (N : ℕ) (c : ℕ → ℤ) (n : ℕ) {C : ℕ} → 0 < N → ((k : ℕ) → k < N → c k within C) →
-    inverseDct N c n *ℤ int (N * B) -ℤ exactInverse N c n within N * 2 ^ 79 + (N - 1) * (C * 2 ^ 50)
-unfolding inverseDct
-value-near N c n l h =
-    within-le
-    (within-trans (inverseDct N c n *ℤ int (N * B)) (inverseSum N c n *ℤ int (2 ^ 50)) (exactInverse N c n)
-    (within-eq (scaled (inverseDct N c n) (inverseSum N c n) (N * 2 ^ 30) (2 ^ 50) (N * B) (omega arith))
-    (within-mul (rounded (inverseSum N c n) (N * 2 ^ 30) (N * 2 ^ 29) (omega arith) (omega arith)) (within-int (2 ^ 50))))
+value_near : (N : ℕ) (c : ℕ → ℤ) (n : ℕ) {C : ℕ} → 0 < N → ((k : ℕ) → k < N → c k within C) →
+    inverse_dct N c n *ℤ int (N * B) -ℤ exact_inverse N c n within N * 2 ^ 79 + (N - 1) * (C * 2 ^ 50)
+unfolding inverse_dct
+value_near N c n l h =
+    within_le
+    (within_trans (inverse_dct N c n *ℤ int (N * B)) (inverse_sum N c n *ℤ int (2 ^ 50)) (exact_inverse N c n)
+    (within_eq (scaled (inverse_dct N c n) (inverse_sum N c n) (N * 2 ^ 30) (2 ^ 50) (N * B) (omega arith))
+    (within_mul (rounded (inverse_sum N c n) (N * 2 ^ 30) (N * 2 ^ 29) (omega arith) (omega arith)) (within_int (2 ^ 50))))
     (sum_near N c n h))
     (omega arith)
   where
     rounded : (v : ℤ) (m h : ℕ) → 2 * h ≡ m → 0 < h → nearest v m *ℤ int m -ℤ v within h
-    rounded v m h e l = subst (λ m. nearest v m *ℤ int m -ℤ v within h) e (half-near v h l)
+    rounded v m h e l = subst (λ m. nearest v m *ℤ int m -ℤ v within h) e (half_near v h l)
 
     scaled : (v s : ℤ) (m r b : ℕ) → m * r ≡ b → (v *ℤ int m -ℤ s) *ℤ int r ≡ v *ℤ int b -ℤ s *ℤ int r
     scaled v s m r b e = rw (← e, parts v, parts s) (simp diff (omega near))
@@ -81,10 +81,10 @@ value-near N c n l h =
 -- N B they are at most N at the eleven lengths, which the checker computes
 abbrev error : ℕ → ℕ
 error N =
-    (2 * N - 1) * ((N + 1) * B / 4) + N * (largestSample * (N * (2 * additionError)))
-    + (N * 2 ^ 79 + (N - 1) * (largestCoefficient N * 2 ^ 50))
+    (2 * N - 1) * ((N + 1) * B / 4) + N * (largest_sample * (N * (2 * addition_error)))
+    + (N * 2 ^ 79 + (N - 1) * (largest_coefficient N * 2 ^ 50))
 
-small : (L : ℕ) → L ≤ topLevel → error (2 ^ L) / (2 ^ L * B) ≤ 2 ^ L
+small : (L : ℕ) → L ≤ top_level → error (2 ^ L) / (2 ^ L * B) ≤ 2 ^ L
 unfolding both below
 small L h = leb→le _ _ (below_at 11 (λ L. leb (error (2 ^ L) / (2 ^ L * B)) (2 ^ L)) tt L (omega arith))
 
@@ -94,35 +94,35 @@ module _ {L : ℕ} {x : Samples} (a : AcceptedBlock L x) where
   c = (dct L x).at
 
   abbrev v : ℕ → ℤ
-  v = inverseDct (2 ^ L) c
+  v = inverse_dct (2 ^ L) c
 
-  sample-within : (i : ℕ) → i < 2 ^ L → x i within largestSample
-  sample-within i h = size-within (x i) (a.range i h)
+  sample_within : (i : ℕ) → i < 2 ^ L → x i within largest_sample
+  sample_within i h = size_within (x i) (a.range i h)
 
-  exact-within : (k : ℕ) → exactDct (2 ^ L) x k within 2 ^ L * (largestSample * B)
-  exact-within k =
-      rw (pow-len L, dct-exact (per L) (len L) x k (len-per L a.level-ok))
-      (dct-size (per L) (len L) x k (λ i h. sample-within i (omega (arith, pow-len L))))
+  exact_within : (k : ℕ) → exact_dct (2 ^ L) x k within 2 ^ L * (largest_sample * B)
+  exact_within k =
+      rw (pow_len L, dct_exact (per L) (len L) x k (len_per L a.level_ok))
+      (dct_size (per L) (len L) x k (λ i h. sample_within i (omega (arith, pow_len L))))
 
-  coefficient-near : (k : ℕ) → k < 2 ^ L → c k *ℤ int B -ℤ exactDct (2 ^ L) x k within (2 ^ L + 1) * B / 4
+  coefficient_near : (k : ℕ) → k < 2 ^ L → c k *ℤ int B -ℤ exact_dct (2 ^ L) x k within (2 ^ L + 1) * B / 4
   unfolding int
-  coefficient-near k h = size-within _ (omega (arith, ((limits L x a).dct k h).near))
+  coefficient_near k h = size_within _ (omega (arith, ((limits L x a).dct k h).near))
 
-  coefficient-within : (k : ℕ) → k < 2 ^ L → c k within largestCoefficient (2 ^ L)
-  coefficient-within k h =
-      within-le (coefficient-size B (c k) (exactDct (2 ^ L) x k) (lit< tt) (coefficient-near k h) (exact-within k)) (omega arith)
+  coefficient_within : (k : ℕ) → k < 2 ^ L → c k within largest_coefficient (2 ^ L)
+  coefficient_within k h =
+      within_le (coefficient_size B (c k) (exact_dct (2 ^ L) x k) (lit< tt) (coefficient_near k h) (exact_within k)) (omega arith)
 
-  value-within : (n : ℕ) → n < 2 ^ L → v n -ℤ x n within error (2 ^ L) / (2 ^ L * B)
-  value-within n h =
-      coefficient-size (2 ^ L * B) (v n -ℤ x n) (exactInverse (2 ^ L) c n -ℤ x n *ℤ (int (2 ^ L) *ℤ int B)) (omega arith)
-      (within-eq (moved (v n) (x n) (exactInverse (2 ^ L) c n) (2 ^ L) B) (value-near (2 ^ L) c n (omega arith) coefficient-within))
-      (inverse-of-near L x c n a.level-ok h sample-within coefficient-near)
+  value_within : (n : ℕ) → n < 2 ^ L → v n -ℤ x n within error (2 ^ L) / (2 ^ L * B)
+  value_within n h =
+      coefficient_size (2 ^ L * B) (v n -ℤ x n) (exact_inverse (2 ^ L) c n -ℤ x n *ℤ (int (2 ^ L) *ℤ int B)) (omega arith)
+      (within_eq (moved (v n) (x n) (exact_inverse (2 ^ L) c n) (2 ^ L) B) (value_near (2 ^ L) c n (omega arith) coefficient_within))
+      (inverse_of_near L x c n a.level_ok h sample_within coefficient_near)
     where
       moved : (v x s : ℤ) (n b : ℕ) → v *ℤ int (n * b) -ℤ s ≡ (v -ℤ x) *ℤ int (n * b) -ℤ (s -ℤ x *ℤ (int n *ℤ int b))
       moved v x s n b = rw (parts v, parts x, parts s) (simp diff (omega near))
 
 pub round_trip : (L : ℕ) (x : Samples) → AcceptedBlock L x → RoundTrip L x
 round_trip L x a = record {
-  stored = λ k h. within-size (coefficient-within a k h);
-  back = λ n h. omega (arith, within-size (value-within a n h), small L a.level-ok);
+  stored = λ k h. within_size (coefficient_within a k h);
+  back = λ n h. omega (arith, within_size (value_within a n h), small L a.level_ok);
 }

@@ -6,28 +6,28 @@ use Prim.Native.Nat.{ℕ, ◌+◌, ◌-◌, ◌*◌, ◌^◌, ◌≤◌, ◌<◌
 use native.Mathlib.Omega.{arith}
 use lib.IntN.{ℤ, nat_abs}
 use Rattle.whole.proofs.Difference.{int}
-use Rattle.whole.proofs.Rounding.{nearest-size}
-use Rattle.whole.proofs.Size.{◌within◌, size-within, within-int, within-le, within-mul, within-fits}
-use Rattle.lengths.specs.Block.{isLength}
-use Rattle.lengths.proofs.ElevenLengths.{length-le, length-pos}
-use Rattle.ffct.proofs.Orthogonality.{twice-within}
-use Rattle.inverse.specs.Inverse.{inverseSum, inverseDct, largestCoefficient}
+use Rattle.whole.proofs.Rounding.{nearest_size}
+use Rattle.whole.proofs.Size.{◌within◌, size_within, within_int, within_le, within_mul, within_fits}
+use Rattle.lengths.specs.Block.{is_length}
+use Rattle.lengths.proofs.ElevenLengths.{length_le, length_pos}
+use Rattle.ffct.proofs.Orthogonality.{twice_within}
+use Rattle.inverse.specs.Inverse.{inverse_sum, inverse_dct, largest_coefficient}
 use Rattle.inverse.specs.Laws.{ValuesFit}
-use Rattle.inverse.proofs.Waves.{wave-small}
+use Rattle.inverse.proofs.Waves.{wave_small}
 
-sum-size : (N : ℕ) (c : ℕ → ℤ) (n : ℕ) {C : ℕ} → 0 < N → ((k : ℕ) → k < N → c k within C) →
-    inverseSum N c n within (2 * N - 1) * (C * 2 ^ 30)
-unfolding inverseSum int
-sum-size N c n l h =
-    twice-within N _ _ l (within-mul (h 0 l) (within-int (2 ^ 30))) (λ i k. within-mul (h (i + 1) (omega arith)) (wave-small _))
+sum_size : (N : ℕ) (c : ℕ → ℤ) (n : ℕ) {C : ℕ} → 0 < N → ((k : ℕ) → k < N → c k within C) →
+    inverse_sum N c n within (2 * N - 1) * (C * 2 ^ 30)
+unfolding inverse_sum int
+sum_size N c n l h =
+    twice_within N _ _ l (within_mul (h 0 l) (within_int (2 ^ 30))) (λ i k. within_mul (h (i + 1) (omega arith)) (wave_small _))
 
-values-within : (N : ℕ) (c : ℕ → ℤ) → isLength N ≡ true → ((k : ℕ) → k < N → nat_abs (c k) ≤ largestCoefficient N) → (n : ℕ)
-    → inverseDct N c n within (2 * N - 1) * 1000001
-unfolding inverseDct
-values-within N c e h n =
-    let l = length-pos N e in
-    nearest-size (inverseSum N c n) (N * 2 ^ 30) (omega arith)
-    (within-le (sum-size N c n l (λ k i. size-within (c k) (h k i))) (omega arith))
+values_within : (N : ℕ) (c : ℕ → ℤ) → is_length N ≡ true → ((k : ℕ) → k < N → nat_abs (c k) ≤ largest_coefficient N) → (n : ℕ)
+    → inverse_dct N c n within (2 * N - 1) * 1000001
+unfolding inverse_dct
+values_within N c e h n =
+    let l = length_pos N e in
+    nearest_size (inverse_sum N c n) (N * 2 ^ 30) (omega arith)
+    (within_le (sum_size N c n l (λ k i. size_within (c k) (h k i))) (omega arith))
 
-pub values-fit : (N : ℕ) (c : ℕ → ℤ) → isLength N ≡ true → ((k : ℕ) → k < N → nat_abs (c k) ≤ largestCoefficient N) → ValuesFit N c
-values-fit N c e h n i = within-fits (values-within N c e h n) (omega (arith, length-le N e))
+pub values_fit : (N : ℕ) (c : ℕ → ℤ) → is_length N ≡ true → ((k : ℕ) → k < N → nat_abs (c k) ≤ largest_coefficient N) → ValuesFit N c
+values_fit N c e h n i = within_fits (values_within N c e h n) (omega (arith, length_le N e))

@@ -5,33 +5,33 @@ use Prim.Native.Nat.{ℕ, ◌+◌, ◌*◌, ◌^◌, ◌≤◌}
 use native.Mathlib.Omega.{arith}
 use lib.IntN.{ℤ, pos, neg_ℤ, ◌-ℤ◌, ◌*ℤ◌}
 use Rattle.whole.proofs.Difference.{int, parts, diff}
-use Rattle.whole.proofs.Size.{near, ◌within◌, size-within, within-neg, within-eq, within-⊖}
-use Rattle.circle.specs.Circle.{firstQuarter, K, T}
-use Rattle.circle.proofs.Places.{on-mirror, on-opposite, on-turns, on-quarter, on_both, K-quarter}
+use Rattle.whole.proofs.Size.{near, ◌within◌, size_within, within_neg, within_eq, within-⊖}
+use Rattle.circle.specs.Circle.{first_quarter, K, T}
+use Rattle.circle.proofs.Places.{on_mirror, on_opposite, on_turns, on_quarter, on_both, K_quarter}
 use Rattle.circle.proofs.Stored.{at_entry}
-use Rattle.circle.proofs.Laws.{known-places}
-use Rattle.ffct.proofs.Sizes.{entry-within}
+use Rattle.circle.proofs.Laws.{known_places}
+use Rattle.ffct.proofs.Sizes.{entry_within}
 use Rattle.inverse.specs.Inverse.{T°}
 
-pub wave-turns : (i j m : ℕ) → i ≡ j + 4096 * m → T° i ≡ T° j
+pub wave_turns : (i j m : ℕ) → i ≡ j + 4096 * m → T° i ≡ T° j
 unfolding T°
-wave-turns i j m h = on-turns T i j m h
+wave_turns i j m h = on_turns T i j m h
 
-pub wave-mirror : (i j m : ℕ) → i + j ≡ 4096 * m → T° i ≡ T° j
+pub wave_mirror : (i j m : ℕ) → i + j ≡ 4096 * m → T° i ≡ T° j
 unfolding T°
-wave-mirror i j m h = on-mirror T i j m h
+wave_mirror i j m h = on_mirror T i j m h
 
-pub wave-opposite : (i j m : ℕ) → i + j ≡ 4096 * m + 2048 → T° i ≡ neg_ℤ (T° j)
+pub wave_opposite : (i j m : ℕ) → i + j ≡ 4096 * m + 2048 → T° i ≡ neg_ℤ (T° j)
 unfolding T°
-wave-opposite i j m h = on-opposite T known-places.last i j m h
+wave_opposite i j m h = on_opposite T known_places.last i j m h
 
-pub wave-start : T° 0 ≡ pos (2 ^ 30)
+pub wave_start : T° 0 ≡ pos (2 ^ 30)
 unfolding T°
-wave-start = on-quarter T 0 (omega arith) ∙ known-places.first
+wave_start = on_quarter T 0 (omega arith) ∙ known_places.first
 
-pub wave-small : (p : ℕ) → T° p within 2 ^ 30
+pub wave_small : (p : ℕ) → T° p within 2 ^ 30
 unfolding T°
-wave-small p = on_both (λ a b. a within 2 ^ 30) (λ a b h. within-neg h) T T entry-within p
+wave_small p = on_both (λ a b. a within 2 ^ 30) (λ a b h. within_neg h) T T entry_within p
 
 -- |T°(p) 2^50 - K(p)| ≤ 2^49
 abbrev Near : ℤ → ℤ → Type 0
@@ -42,10 +42,10 @@ negated t k h =
     let h' = within-⊖ _ _ _ (simp diff at (rw (parts t, parts k) at h)) in
     rw (parts t, parts k) (simp diff (omega near))
 
-on-first : (j : ℕ) → j ≤ 1024 → Near (T j) (firstQuarter j)
+on_first : (j : ℕ) → j ≤ 1024 → Near (T j) (first_quarter j)
 unfolding int
-on-first j h = within-eq (ap (λ k. T j *ℤ pos (2 ^ 50) -ℤ k) (K-quarter j h)) (size-within _ (at_entry j h).near)
+on_first j h = within_eq (ap (λ k. T j *ℤ pos (2 ^ 50) -ℤ k) (K_quarter j h)) (size_within _ (at_entry j h).near)
 
-pub wave-near : (p : ℕ) → Near (T° p) (K p)
+pub wave_near : (p : ℕ) → Near (T° p) (K p)
 unfolding T° K
-wave-near p = on_both Near negated T firstQuarter on-first p
+wave_near p = on_both Near negated T first_quarter on_first p

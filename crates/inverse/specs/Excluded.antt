@@ -14,17 +14,17 @@ module _ (values : List ℤ) (answer : Outcome) where
 
   pub record Excluded : Type 0 where
     -- "plus twice the sum over k from 1": coefficient 0 twice, too
-    pub firstTwice : Never (Inverse (pos 2 ∷ pos 0 ∷ []) 2 2) (word values 0) (pos 2)
+    pub first_twice : Never (Inverse (pos 2 ∷ pos 0 ∷ []) 2 2) (word values 0) (pos 2)
     -- "rounded once to the nearest whole number, a tie going to the larger": without the half; and rounded by 2^30 and then by N, where
     -- −1 + 1.41 is 0.41
-    pub halfLeftOut : Never (Inverse (pos 1 ∷ pos 0 ∷ []) 2 2) (word values 0) (pos 0)
-    pub roundedTwice : Never (Inverse (negsuc 1 ∷ pos 2 ∷ []) 2 2) (word values 0) (pos 1)
+    pub half_left_out : Never (Inverse (pos 1 ∷ pos 0 ∷ []) 2 2) (word values 0) (pos 0)
+    pub rounded_twice : Never (Inverse (negsuc 1 ∷ pos 2 ∷ []) 2 2) (word values 0) (pos 1)
     -- "words beyond N stay"
-    pub beyondCleared : Never (Inverse (pos 7 ∷ []) 1 2) (word values 1) (pos 0)
+    pub beyond_cleared : Never (Inverse (pos 7 ∷ []) 1 2) (word values 1) (pos 0)
     -- 10, "beyond N·1,000,000 + N": a limit of N·1,000,000; "with the place of the first such": counted from 1, or lost
-    pub limitAMillion : Never (Inverse (pos 1000001 ∷ []) 1 1) (number (outcome answer)) 10
-    pub placeFromOne : Never (Inverse (pos 1000002 ∷ []) 1 1) (place (outcome answer)) 1
-    pub placeLost : Never (Inverse (pos 0 ∷ pos 2000003 ∷ []) 2 2) (place (outcome answer)) 0
+    pub limit_a_million : Never (Inverse (pos 1000001 ∷ []) 1 1) (number (outcome answer)) 10
+    pub place_from_one : Never (Inverse (pos 1000002 ∷ []) 1 1) (place (outcome answer)) 1
+    pub place_lost : Never (Inverse (pos 0 ∷ pos 2000003 ∷ []) 2 2) (place (outcome answer)) 0
     -- "Order: 1, 2 .., 3, 10.": 3 before 2, with no word of either; and 10 told as 6
-    pub threeFirst : Never (Inverse [] 1 0) (number (outcome answer)) 3
-    pub toldAsSix : Never (Inverse (pos 1000002 ∷ []) 1 1) (number (outcome answer)) 6
+    pub three_first : Never (Inverse [] 1 0) (number (outcome answer)) 3
+    pub told_as_six : Never (Inverse (pos 1000002 ∷ []) 1 1) (number (outcome answer)) 6

@@ -2,19 +2,19 @@
 -- The buffer after the call is marked '.
 use Rattle.std.specs.Prelude.{true, List, ◌≡◌, ℕ, ◌≤◌, ◌<◌, ℤ, nat_abs}
 use Rattle.words.specs.Words.{word, Written}
-use Rattle.lengths.specs.Block.{isLength}
+use Rattle.lengths.specs.Block.{is_length}
 use Rattle.refusals.specs.declared.refusal.Outcome.{Outcome}
 use Rattle.refusals.specs.Refusals.{Promise}
 use Rattle.refusals.specs.Answers.{outcome}
-use Rattle.inverse.specs.Inverse.{inverseDct, largestCoefficient, inverseVerdict}
+use Rattle.inverse.specs.Inverse.{inverse_dct, largest_coefficient, inverse_verdict}
 
 -- "value n goes to word n of the result, and words beyond N stay"
 pub record InverseDone (N : ℕ) (c : ℕ → ℤ) (values values' : List ℤ) : Type 0 where
-  pub words : Written 0 N (inverseDct N c) values values'
+  pub words : Written 0 N (inverse_dct N c) values values'
   -- what acceptance says of the length and of the coefficients
-  pub length-ok : isLength N ≡ true
-  pub range : (k : ℕ) → k < N → nat_abs (c k) ≤ largestCoefficient N
+  pub length_ok : is_length N ≡ true
+  pub range : (k : ℕ) → k < N → nat_abs (c k) ≤ largest_coefficient N
 
 abbrev pub InversePromise : (coefficients : List ℤ) → ℕ → (values values' : List ℤ) → Outcome → Type 0
 InversePromise coefficients N values values' answer =
-    Promise (outcome answer) (inverseVerdict coefficients N values) (values' ≡ values) (InverseDone N (word coefficients) values values')
+    Promise (outcome answer) (inverse_verdict coefficients N values) (values' ≡ values) (InverseDone N (word coefficients) values values')

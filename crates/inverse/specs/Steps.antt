@@ -5,9 +5,9 @@ use Rattle.std.proofs.Common.{SFits}
 use Rattle.whole.specs.Round.{nearest}
 use Rattle.whole.specs.Sum.{sum as total}
 use Rattle.words.specs.Words.{word}
-use Rattle.lengths.specs.Block.{isLength}
+use Rattle.lengths.specs.Block.{is_length}
 use Rattle.inverse.specs.declared.sum.Sum.{Sum}
-use Rattle.inverse.specs.Inverse.{T°, inverseDct, largestCoefficient}
+use Rattle.inverse.specs.Inverse.{T°, inverse_dct, largest_coefficient}
 
 -- ---- exact sums: what two words hold
 abbrev pub held : Sum → ℤ
@@ -15,14 +15,14 @@ held sum = sum.high *ℤ pos (2 ^ 30) +ℤ sum.low
 
 -- both words are at most m · 2^30 in size, as after m products
 pub record Small (m : ℕ) (sum : Sum) : Type 0 where
-  pub high-ok : nat_abs sum.high ≤ m * 2 ^ 30
+  pub high_ok : nat_abs sum.high ≤ m * 2 ^ 30
   pub low_ok : nat_abs sum.low ≤ m * 2 ^ 30
 
 -- a product x y added to a sum of at most 512
 pub record AddReady (sum : Sum) (x y : ℤ) : Type 0 where
-  pub sum-ok : Small 512 sum
-  pub x-ok : nat_abs x ≤ 2 ^ 30
-  pub y-ok : nat_abs y ≤ 2 ^ 30
+  pub sum_ok : Small 512 sum
+  pub x_ok : nat_abs x ≤ 2 ^ 30
+  pub y_ok : nat_abs y ≤ 2 ^ 30
 
 pub record Added (sum : Sum) (x y : ℤ) (sum' : Sum) : Type 0 where
   pub is : held sum' ≡ held sum +ℤ x *ℤ y
@@ -39,8 +39,8 @@ product coefficients first turn i = let k = first + 2 * i in word coefficients k
 
 pub record SumReady (m first turn : ℕ) (coefficients : List ℤ) : Type 0 where
   pub some : m ≤ 512
-  pub even-or-odd : first ≤ 1
-  pub half-turn : turn < 2048
+  pub even_or_odd : first ≤ 1
+  pub half_turn : turn < 2048
   pub stored : 2 * m ≤ length coefficients
   pub small : (k : ℕ) → k < 2 * m → nat_abs (word coefficients k) ≤ 2 ^ 30
 
@@ -53,17 +53,17 @@ abbrev pub value_of : (v c : ℤ) → ℕ → ℤ
 value_of v c N = nearest (pos 2 *ℤ v -ℤ c *ℤ pos (2 ^ 30)) (N * 2 ^ 30)
 
 pub record ValueReady (sum : Sum) (c : ℤ) (N : ℕ) : Type 0 where
-  pub length-ok : isLength N ≡ true
+  pub length_ok : is_length N ≡ true
   pub two : 2 ≤ N
   pub size : Small 1024 sum
-  pub c-ok : nat_abs c ≤ 2 ^ 30
+  pub c_ok : nat_abs c ≤ 2 ^ 30
   pub fits : SFits w32 (value_of (held sum) c N)
 
 -- ---- an accepted block of coefficients
 pub record Stored (N : ℕ) (coefficients : List ℤ) : Type 0 where
-  pub length-ok : isLength N ≡ true
+  pub length_ok : is_length N ≡ true
   pub enough : N ≤ length coefficients
-  pub range : (k : ℕ) → k < N → nat_abs (word coefficients k) ≤ largestCoefficient N
+  pub range : (k : ℕ) → k < N → nat_abs (word coefficients k) ≤ largest_coefficient N
 
 -- the values of n and N − 1 − n, n in the first half
 pub record TwoReady (N n : ℕ) (coefficients : List ℤ) : Type 0 where
@@ -71,5 +71,5 @@ pub record TwoReady (N n : ℕ) (coefficients : List ℤ) : Type 0 where
   pub front : n < N / 2
 
 pub record TwoMade (N n : ℕ) (c : ℕ → ℤ) (near far : ℤ) : Type 0 where
-  pub near-is : near ≡ inverseDct N c n
-  pub far-is : far ≡ inverseDct N c (N - 1 - n)
+  pub near_is : near ≡ inverse_dct N c n
+  pub far_is : far ≡ inverse_dct N c (N - 1 - n)

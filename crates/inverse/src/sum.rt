@@ -1,6 +1,6 @@
 // Sums of coefficients times T, exactly. A product fits 64 bits; a sum of 1,024 products does not, and is kept in two words.
 ghost use Rattle.std.specs.Prelude.{◌≡◌, ◌≤◌, ◌<◌, ◌+ℤ◌, ◌-ℤ◌};
-ghost use Rattle.circle.specs.Circle.{T, onHalf, IsQuarterWave};
+ghost use Rattle.circle.specs.Circle.{T, on_half, IsQuarterWave};
 ghost use Rattle.inverse.specs.Inverse.{T°};
 ghost use Rattle.inverse.specs.Steps.{Small, AddReady, Added, Joined, SumReady, SumMade};
 
@@ -16,7 +16,7 @@ pub struct Sum {
 // T at a place of the first half of the circle: K(2048 - j) = -K(j).
 fn wave_on_half(wave: &[i32; 1025], j: usize) -> i64
     requires { IsQuarterWave wave.now × (j ≤ 2048) }
-    ensures { result ≡ onHalf T j }
+    ensures { result ≡ on_half T j }
 {
     if j <= 1024 {
         return wave_at(wave, j);

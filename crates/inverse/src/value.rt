@@ -2,7 +2,7 @@
 ghost use Rattle.std.specs.Prelude.{◌≡◌, ◌≤◌, length};
 ghost use Rattle.words.specs.Words.{word, Written};
 ghost use Rattle.circle.specs.Circle.{IsQuarterWave};
-ghost use Rattle.inverse.specs.Inverse.{inverseDct};
+ghost use Rattle.inverse.specs.Inverse.{inverse_dct};
 ghost use Rattle.inverse.specs.Steps.{held, Stored, ValueReady, value_of, TwoReady, TwoMade};
 
 use crate::sum::{Sum, add, every_other, subtract};
@@ -41,7 +41,7 @@ fn two_values(wave: &[i32; 1025], coefficients: &[i32], n: usize, i: usize) -> T
 
 pub fn put_values(coefficients: &[i32], n: usize, values: &mut [i32])
     requires { Stored n coefficients.now × (n ≤ length values.old) }
-    ensures { Written 0 n (inverseDct n (word coefficients.now)) values.old values.new }
+    ensures { Written 0 n (inverse_dct n (word coefficients.now)) values.old values.new }
 {
     if n == 1 {
         let c = coefficients[0];

@@ -18,13 +18,13 @@ unfoldable pub signed : ℕ → ℤ
 signed n = cond (ltb n (2 ^ 31)) (pos n) (pos n -ℤ pos (2 ^ 32))
 
 -- ---- and back: the four bytes of an unsigned number, the lowest byte first
-abbrev pub unsignedBytes : ℕ → List ℕ
-unsignedBytes n = n % 256 ∷ n / 256 % 256 ∷ n / 65536 % 256 ∷ n / 16777216 % 256 ∷ []
+abbrev pub unsigned_bytes : ℕ → List ℕ
+unsigned_bytes n = n % 256 ∷ n / 256 % 256 ∷ n / 65536 % 256 ∷ n / 16777216 % 256 ∷ []
 
 -- the 32 bits of a signed number, by two's complement: `negsuc n` is - (n + 1)
 abbrev pub bits : ℤ → ℕ
 bits (pos n) = n
 bits (negsuc n) = 2 ^ 32 - suc n
 
-abbrev pub signedBytes : ℤ → List ℕ
-signedBytes x = unsignedBytes (bits x)
+abbrev pub signed_bytes : ℤ → List ℕ
+signed_bytes x = unsigned_bytes (bits x)

@@ -1,7 +1,7 @@
 // Numbers of 32 bits in the bytes of a file, the lowest byte first: read, and put.
 ghost use Rattle.std.specs.Prelude.{[], ◌∷◌, ◌≡◌, ◌+◌, ◌%◌, ◌≤◌, ◌<◌, length};
 ghost use Rattle.words.specs.Put.{Put};
-ghost use Rattle.little_endian.specs.Numbers.{unsigned, signed, bits, unsignedBytes, signedBytes};
+ghost use Rattle.little_endian.specs.Numbers.{unsigned, signed, bits, unsigned_bytes, signed_bytes};
 
 fn wide(x: u8) -> u32
     ensures { (result ≡ x) × (result < 256) }
@@ -51,7 +51,7 @@ fn put_byte(n: u32, file: &mut [u8], at: usize) -> usize
 // The four bytes of n, put from `at` on; the answer is the place behind them.
 pub fn put_unsigned(n: u32, file: &mut [u8], at: usize) -> usize
     requires { at + 4 ≤ length file.old }
-    ensures { Put file.old at (unsignedBytes n) result file.new }
+    ensures { Put file.old at (unsigned_bytes n) result file.new }
 {
     let second = put_byte(n, file, at);
     let third = put_byte(n / 256, file, second);
@@ -73,7 +73,7 @@ fn bits_of(x: i32) -> u32
 // The four bytes of x, put from `at` on; the answer is the place behind them.
 pub fn put_signed(x: i32, file: &mut [u8], at: usize) -> usize
     requires { at + 4 ≤ length file.old }
-    ensures { Put file.old at (signedBytes x) result file.new }
+    ensures { Put file.old at (signed_bytes x) result file.new }
 {
     put_unsigned(bits_of(x), file, at)
 }

@@ -8,9 +8,9 @@ use Rattle.refusals.specs.Answers.{outcome, filled, bytes_of}
 use Rattle.spectra.specs.declared.Answer.{Answer}
 use Rattle.spectra.specs.declared.CountsAnswer.{CountsAnswer}
 use Rattle.spectra.specs.declared.marks.MarkAnswer.{MarkAnswer}
-use Rattle.spectra.specs.Answers.{verdictOf, spent, verdictOfCounts, countsOf, verdictOfMark, spentMarking, markNumber}
+use Rattle.spectra.specs.Answers.{verdict_of, spent, verdict_of_counts, counts_of, verdict_of_mark, spent_marking, mark_number}
 use Rattle.spectra.specs.Promises.{Buffers, PairBuffers, SpectrumPromise, CosinePromise, PairPromise, MarkPromise, CountsPromise}
-use Rattle.months.specs.Answers.{verdictOfNumber, blocksOf, verdictOfSums, sumsOf}
+use Rattle.months.specs.Answers.{verdict_of_number, blocks_of, verdict_of_sums, sums_of}
 use Rattle.months.specs.Promises.{Given, BeginPromise, AddPromise, NumberPromise, SumsPromise}
 use Rattle.inverse.specs.Promises.{InversePromise}
 use Rattle.pairfile.specs.declared.reader.ReadAnswer.{ReadAnswer}
@@ -29,27 +29,27 @@ pub record Told {Answer A : Type 0} (promise : Answer → Type 0) (verdict : Ans
 
 -- ---- the calls on recordings tell products, sums, the largest rest and the place. By their definitions the counts and the largest rest
 -- are 0 in every refusal, and the place is 0 in every answer but refusal 6
-abbrev pub spentAndPlace : Answer → List ℕ
-spentAndPlace a = (spent a).products ∷ (spent a).sums ∷ (spent a).largest_rest ∷ place (verdictOf a) ∷ []
+abbrev pub spent_and_place : Answer → List ℕ
+spent_and_place a = (spent a).products ∷ (spent a).sums ∷ (spent a).largest_rest ∷ place (verdict_of a) ∷ []
 
 abbrev pub SpectrumTold : List ℤ → (start N allowance : ℕ) → (lent lent' : Buffers) → List ℕ → ℕ → Type 0
-SpectrumTold recording start N allowance lent lent' = Told (SpectrumPromise recording start N allowance lent lent') verdictOf spentAndPlace
+SpectrumTold recording start N allowance lent lent' = Told (SpectrumPromise recording start N allowance lent lent') verdict_of spent_and_place
 
 abbrev pub CosineTold : List ℤ → (start N allowance : ℕ) → (coefficients scratch coefficients' scratch' : List ℤ) → List ℕ → ℕ → Type 0
 CosineTold recording start N allowance coefficients scratch coefficients' scratch' =
-    Told (CosinePromise recording start N allowance coefficients scratch coefficients' scratch') verdictOf spentAndPlace
+    Told (CosinePromise recording start N allowance coefficients scratch coefficients' scratch') verdict_of spent_and_place
 
 abbrev pub PairTold : (a b : List ℤ) → (start N allowance : ℕ) → (lent lent' : PairBuffers) → List ℕ → ℕ → Type 0
-PairTold a b start N allowance lent lent' = Told (PairPromise a b start N allowance lent lent') verdictOf spentAndPlace
+PairTold a b start N allowance lent lent' = Told (PairPromise a b start N allowance lent lent') verdict_of spent_and_place
 
 -- ---- the mark of a block, as its number, stands behind these; it is 0 in every refusal
-abbrev pub markedAndPlace : MarkAnswer → List ℕ
-markedAndPlace a =
-    (spentMarking a).products ∷ (spentMarking a).sums ∷ (spentMarking a).largest_rest ∷ place (verdictOfMark a) ∷ markNumber a ∷ []
+abbrev pub marked_and_place : MarkAnswer → List ℕ
+marked_and_place a =
+    (spent_marking a).products ∷ (spent_marking a).sums ∷ (spent_marking a).largest_rest ∷ place (verdict_of_mark a) ∷ mark_number a ∷ []
 
-abbrev pub MarkTold : List ℤ → (start N allowance : ℕ) → (flatLimit clipLevel : ℤ) → (lent lent' : Buffers) → List ℕ → ℕ → Type 0
-MarkTold recording start N allowance flatLimit clipLevel lent lent' =
-    Told (MarkPromise recording start N allowance flatLimit clipLevel lent lent') verdictOfMark markedAndPlace
+abbrev pub MarkTold : List ℤ → (start N allowance : ℕ) → (flat_limit clip_level : ℤ) → (lent lent' : Buffers) → List ℕ → ℕ → Type 0
+MarkTold recording start N allowance flat_limit clip_level lent lent' =
+    Told (MarkPromise recording start N allowance flat_limit clip_level lent lent') verdict_of_mark marked_and_place
 
 -- ---- a month, in words that C lends. Beginning tells its number alone, adding what Spectrum tells, reading a party's block number, or its
 -- two sums for k, which are 0 in a refusal
@@ -57,22 +57,22 @@ abbrev pub BeginTold : ℕ → (month' : List ℤ) → ℕ → Type 0
 BeginTold N month' = Told {A = ℕ} (BeginPromise N month') outcome (λ answer. []) []
 
 abbrev pub AddTold : ℕ → Given → (month month' : List ℤ) → Buffers → List ℕ → ℕ → Type 0
-AddTold p g month month' lent' = Told (AddPromise p g month month' lent') verdictOf spentAndPlace
+AddTold p g month month' lent' = Told (AddPromise p g month month' lent') verdict_of spent_and_place
 
 abbrev pub NumberTold : ℕ → (month : List ℤ) → List ℤ → ℕ → Type 0
-NumberTold p month = Told (NumberPromise p month) verdictOfNumber (λ a. blocksOf a ∷ [])
+NumberTold p month = Told (NumberPromise p month) verdict_of_number (λ a. blocks_of a ∷ [])
 
 abbrev pub SumsTold : ℕ → (month : List ℤ) → (k : ℕ) → List ℤ → ℕ → Type 0
-SumsTold p month k = Told (SumsPromise p month k) verdictOfSums (λ a. (sumsOf a).cosine ∷ (sumsOf a).sine ∷ [])
+SumsTold p month k = Told (SumsPromise p month k) verdict_of_sums (λ a. (sums_of a).cosine ∷ (sums_of a).sine ∷ [])
 
 -- ---- the count query tells the six counts, products and sums of the DCT, of Spectrum and of Pair; they are 0 in refusal 1
-abbrev pub sixCounts : CountsAnswer → List ℕ
-sixCounts a =
-    let c = countsOf a in
+abbrev pub six_counts : CountsAnswer → List ℕ
+six_counts a =
+    let c = counts_of a in
     c.dct.products ∷ c.dct.sums ∷ c.spectrum.products ∷ c.spectrum.sums ∷ c.pair.products ∷ c.pair.sums ∷ []
 
 abbrev pub CountsTold : ℕ → List ℕ → ℕ → Type 0
-CountsTold N = Told (CountsPromise N) verdictOfCounts sixCounts
+CountsTold N = Told (CountsPromise N) verdict_of_counts six_counts
 
 -- ---- strain back tells the place, which is 0 in every answer but refusal 10
 abbrev pub InverseTold : (coefficients : List ℤ) → ℕ → (values values' : List ℤ) → List ℕ → ℕ → Type 0
@@ -89,5 +89,5 @@ WriteTold a b N buffer buffer' = Told (WritePromise a b N buffer buffer') filled
 
 abbrev pub ReadTold : List ℕ → (a b a' b' : List ℤ) → List ℕ → ℕ → Type 0
 ReadTold bytes a b a' b' =
-    Told (ReadPromise bytes a b a' b') file.verdictOf
-    (λ r. (file.sizesOf r).samples ∷ (file.sizesOf r).length ∷ place (file.verdictOf r) ∷ [])
+    Told (ReadPromise bytes a b a' b') file.verdict_of
+    (λ r. (file.sizes_of r).samples ∷ (file.sizes_of r).length ∷ place (file.verdict_of r) ∷ [])

@@ -4,7 +4,7 @@ use Rattle.std.specs.Prelude.{List, ◌≡◌, ℕ, ◌≤◌, ◌<◌, ℤ, nat
 use Rattle.words.specs.Words.{word}
 use Rattle.refusals.specs.Refusals.{block, accepted}
 use Rattle.spectra.specs.declared.Answer.{Answer}
-use Rattle.spectra.specs.Answers.{verdictOf}
+use Rattle.spectra.specs.Answers.{verdict_of}
 use Rattle.spectra.specs.Promises.{CosinePromise}
 use Rattle.refusals.specs.declared.refusal.Outcome.{Outcome}
 use Rattle.refusals.specs.Answers.{outcome}
@@ -17,7 +17,7 @@ abbrev pub CosineAndBack : Type 0
 CosineAndBack =
     (recording : List ℤ) (start N allowance : ℕ) (coefficients scratch coefficients' scratch' : List ℤ) (cosine : Answer)
     → CosinePromise recording start N allowance coefficients scratch coefficients' scratch' cosine
-    → verdictOf cosine ≡ accepted
+    → verdict_of cosine ≡ accepted
     → (values values' : List ℤ) (back : Outcome)
     → InversePromise coefficients' N values values' back
     → N ≤ length values

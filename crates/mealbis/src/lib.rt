@@ -6,11 +6,11 @@ pub mod version;
 
 ghost use Rattle.std.specs.Prelude.{◌≡◌};
 ghost use Rattle.refusals.specs.Refusals.{number};
-ghost use Rattle.spectra.specs.Answers.{verdictOf, numberOfMark};
-ghost use Rattle.spectra.specs.Promises.{buffers, pairBuffers};
+ghost use Rattle.spectra.specs.Answers.{verdict_of, number_of_mark};
+ghost use Rattle.spectra.specs.Promises.{buffers, pair_buffers};
 ghost use Rattle.months.specs.Months.{length_of};
 ghost use Rattle.months.specs.Promises.{given};
-ghost use Rattle.mealbis.specs.Promises.{spentAndPlace, SpectrumTold, CosineTold, PairTold, MarkTold, CountsTold};
+ghost use Rattle.mealbis.specs.Promises.{spent_and_place, SpectrumTold, CosineTold, PairTold, MarkTold, CountsTold};
 ghost use Rattle.mealbis.specs.Promises.{BeginTold, AddTold, NumberTold, SumsTold, InverseTold, PageTold, ReadTold, WriteTold};
 
 use months::record;
@@ -23,7 +23,7 @@ use spectra::{Answer, CountsAnswer, marks};
 
 // What C is told of a call on recordings: products, sums, the largest rest and the place.
 fn tell(answer: Answer, told: &mut [u64; 4]) -> u32
-    ensures { (result ≡ number (verdictOf answer)) × (told.new ≡ spentAndPlace answer) }
+    ensures { (result ≡ number (verdict_of answer)) × (told.new ≡ spent_and_place answer) }
 {
     match answer {
         Answer::Refused(refusal) => {
@@ -39,7 +39,7 @@ fn tell(answer: Answer, told: &mut [u64; 4]) -> u32
 
 // The mark as a number: flat 1, clipped 2, plain 3.
 fn number_of_mark(mark: Mark) -> u64
-    ensures { result ≡ numberOfMark mark }
+    ensures { result ≡ number_of_mark mark }
 {
     match mark {
         Mark::Flat => 1,
@@ -99,8 +99,8 @@ pub extern "C" fn mealbis_pair(
     told: &mut [u64; 4],
 ) -> u32
     ensures { PairTold a.now b.now start length allowance
-        (pairBuffers real.old imaginary.old scratch.old)
-        (pairBuffers real.new imaginary.new scratch.new) told.new result }
+        (pair_buffers real.old imaginary.old scratch.old)
+        (pair_buffers real.new imaginary.new scratch.new) told.new result }
 {
     let answer = spectra::pair(a, b, start, length, allowance, real, imaginary, scratch);
     tell(answer, told)

@@ -9,11 +9,11 @@ use lib.IntN.{ℤ}
 use lib.ListN.{length}
 use Rattle.words.specs.Words.{Samples, word}
 use Rattle.words.proofs.Writing.{front}
-use Rattle.lengths.proofs.ElevenLengths.{length-le}
+use Rattle.lengths.proofs.ElevenLengths.{length_le}
 use Rattle.counts.specs.declared.tally.Tally.{Tally}
 use Rattle.refusals.specs.declared.refusal.Refusal.{Refusal}
 use Rattle.refusals.specs.declared.refusal.Refusal.TheVariants.{MonthFull}
-use Rattle.refusals.proofs.Promises.{refuses, turned_down, carried-out}
+use Rattle.refusals.proofs.Promises.{refuses, turned_down, carried_out}
 use Rattle.refusals.proofs.Calls.{passes}
 use Rattle.spectra.specs.declared.Answer.{Answer}
 use Rattle.spectra.specs.declared.Answer.TheVariants.{Refused, Done}
@@ -35,36 +35,36 @@ block_same cosines sines added = record {
 
 -- ---- a run
 module _ (g : Given) (account : List ℤ) where
-  pub is-full : full account ≡ true → AccountPromise g account account g.lent (Refused MonthFull)
-  is-full e = turned_down MonthFull (refl, refl) (rw e refl)
+  pub is_full : full account ≡ true → AccountPromise g account account g.lent (Refused MonthFull)
+  is_full e = turned_down MonthFull (refl, refl) (rw e refl)
 
   module _ (room : full account ≡ false) {lent' : Buffers} {answer : Answer}
       (p : SpectrumPromise g.recording g.start g.N g.allowance g.lent lent' answer) where
-    with-answer : {a : Answer} → answer ≡ a → SpectrumPromise g.recording g.start g.N g.allowance g.lent lent' a
-    with-answer e = subst (λ a. SpectrumPromise g.recording g.start g.N g.allowance g.lent lent' a) e p
+    with_answer : {a : Answer} → answer ≡ a → SpectrumPromise g.recording g.start g.N g.allowance g.lent lent' a
+    with_answer e = subst (λ a. SpectrumPromise g.recording g.start g.N g.allowance g.lent lent' a) e p
 
-    pub spectrum-refused : {refusal : Refusal} → answer ≡ Refused refusal → AccountPromise g account account lent' answer
-    spectrum-refused {refusal} e =
-        let q = with-answer e in rw e (turned_down refusal (refl, q.unchanged (refuses refusal)) (rw room (sym q.verdict)))
+    pub spectrum_refused : {refusal : Refusal} → answer ≡ Refused refusal → AccountPromise g account account lent' answer
+    spectrum_refused {refusal} e =
+        let q = with_answer e in rw e (turned_down refusal (refl, q.unchanged (refuses refusal)) (rw room (sym q.verdict)))
 
     module _ {tally : Tally} (e : answer ≡ Done tally) where
-      pub add-ready : (g.N ≤ 1024) × (g.N / 2 + 1 ≤ length lent'.cosine) × (g.N / 2 + 1 ≤ length lent'.sine)
-      add-ready =
-          let q = with-answer e in
+      pub add_ready : (g.N ≤ 1024) × (g.N / 2 + 1 ≤ length lent'.cosine) × (g.N / 2 + 1 ≤ length lent'.sine)
+      add_ready =
+          let q = with_answer e in
           let passed = passes (call_of g) (sym q.verdict) in
           let done = q.done refl in (
-            length-le g.N passed.length-ok,
-            omega (arith, passed.results.0, done.cosineWords.len),
-            omega (arith, passed.results.1.0, done.sineWords.len),
+            length_le g.N passed.length_ok,
+            omega (arith, passed.results.0, done.cosine_words.len),
+            omega (arith, passed.results.1.0, done.sine_words.len),
           )
 
       pub block_held : {account' : List ℤ} → BlockAdded g.N (word lent'.cosine) (word lent'.sine) account account'
           → AccountPromise g account account' lent' answer
       block_held {account'} b =
-          let q = with-answer e in
+          let q = with_answer e in
           let done = q.done refl in
-          let added = block_same (λ k h. front done.cosineWords k (omega arith)) (λ k h. front done.sineWords k (omega arith)) b in
-          rw e (carried-out refl (rw room (sym q.verdict)) (record {
+          let added = block_same (λ k h. front done.cosine_words k (omega arith)) (λ k h. front done.sine_words k (omega arith)) b in
+          rw e (carried_out refl (rw room (sym q.verdict)) (record {
             spectrum = done;
             words = added;
             holds = λ history held. one_more held room done.block added;

@@ -10,7 +10,7 @@ use lib.IntN.{ℤ}
 use lib.ListN.{length}
 use borrow.Author.Tests.{eqb-true, eqb-false, not-false}
 use Rattle.whole.proofs.Cases.{same_or_not}
-use Rattle.lengths.specs.Block.{isLength}
+use Rattle.lengths.specs.Block.{is_length}
 use Rattle.refusals.specs.Calls.{tests, verdict}
 use Rattle.refusals.specs.declared.refusal.Refusal.TheVariants.{UnknownParty, OtherLength}
 use Rattle.refusals.specs.Refusals.{refused}
@@ -20,20 +20,20 @@ use Rattle.spectra.specs.declared.Answer.{Answer}
 use Rattle.spectra.specs.declared.Answer.TheVariants.{Refused}
 use Rattle.spectra.specs.Promises.{Buffers}
 use Rattle.months.specs.Accounts.{full}
-use Rattle.months.specs.Months.{monthWords, length_of, unknownParty, account, otherLength, addVerdict, OthersStay}
+use Rattle.months.specs.Months.{month_words, length_of, unknown_party, account, other_length, add_verdict, OthersStay}
 use Rattle.months.specs.Promises.{Given, call_of, ForParty, AddPromise}
 use Rattle.months.proofs.Lengths.{length_some}
 use Rattle.months.proofs.Parties.{whole}
 
 -- ---- the block's length is the month's
-pub own-length : (month : List ℤ) (N : ℕ) → otherLength month N ≡ false → (length_of month ≡ N) × (isLength N ≡ true)
-own-length month N e =
+pub own_length : (month : List ℤ) (N : ℕ) → other_length month N ≡ false → (length_of month ≡ N) × (is_length N ≡ true)
+own_length month N e =
     let (some, same) = none_of (eqb (length_of month) 0) _ e in
     let is = eqb-true (length_of month) N (not-false _ same) in
     (is, rw is at (length_some month (eqb-false (length_of month) 0 some)))
 
 -- ---- where the account stays, the month does
-unchanged : (p : ℕ) {month month' : List ℤ} → length month ≡ monthWords → OthersStay p month month'
+unchanged : (p : ℕ) {month month' : List ℤ} → length month ≡ month_words → OthersStay p month month'
     → account p month' ≡ account p month → month' ≡ month
 unchanged p {month} {month'} long others own =
     whole month month' others.len others.mark
@@ -41,23 +41,23 @@ unchanged p {month} {month'} long others own =
 
 -- ---- a run
 module _ (p : ℕ) (g : Given) (month : List ℤ) where
-  pub unknown-party : unknownParty p ≡ true → AddPromise p g month month g.lent (Refused UnknownParty)
-  unknown-party e = turned_down UnknownParty (refl, refl) (rw e refl)
+  pub unknown_party_lem : unknown_party p ≡ true → AddPromise p g month month g.lent (Refused UnknownParty)
+  unknown_party_lem e = turned_down UnknownParty (refl, refl) (rw e refl)
 
-  module _ (known : unknownParty p ≡ false) where
-    pub other_length : otherLength month g.N ≡ true → AddPromise p g month month g.lent (Refused OtherLength)
-    other_length e = turned_down OtherLength (refl, refl) (rw (known, e) refl)
+  module _ (known : unknown_party p ≡ false) where
+    pub other_length_lem : other_length month g.N ≡ true → AddPromise p g month month g.lent (Refused OtherLength)
+    other_length_lem e = turned_down OtherLength (refl, refl) (rw (known, e) refl)
 
-    module _ (own : otherLength month g.N ≡ false) where
-      by-account : addVerdict p month (call_of g) ≡ cond (full (account p month)) (refused 14) (verdict (call_of g))
+    module _ (own : other_length month g.N ≡ false) where
+      by_account : add_verdict p month (call_of g) ≡ cond (full (account p month)) (refused 14) (verdict (call_of g))
       unfolding tests
-      by-account = rw (known, own, (own-length month g.N own).1) refl
+      by_account = rw (known, own, (own_length month g.N own).1) refl
 
-      pub added-for : (month' : List ℤ) (lent' : Buffers) (answer : Answer) → length month ≡ monthWords
+      pub added_for : (month' : List ℤ) (lent' : Buffers) (answer : Answer) → length month ≡ month_words
           → ForParty p g month month' lent' answer → AddPromise p g month month' lent' answer
-      added-for month' lent' answer long q = record {
-        verdict = q.own.verdict ∙ sym by-account;
-        unchanged = λ e. let (account-stays, buffers-stay) = q.own.unchanged e in
-            (unchanged p long q.others account-stays, buffers-stay);
+      added_for month' lent' answer long q = record {
+        verdict = q.own.verdict ∙ sym by_account;
+        unchanged = λ e. let (account_stays, buffers-stay) = q.own.unchanged e in
+            (unchanged p long q.others account_stays, buffers-stay);
         done = λ e. record { own = q.own.done e; others = q.others };
       }

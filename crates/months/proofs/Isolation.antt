@@ -12,134 +12,134 @@ use lib.IntN.{ℤ, pos}
 use lib.ListN.{length, length-take}
 use lib.Seq.{ext_get_or}
 use borrow.Author.Tests.{eqb-true, eqb-false}
-use Rattle.whole.proofs.Cases.{le-or-lt}
+use Rattle.whole.proofs.Cases.{le_or_lt}
 use Rattle.words.specs.Words.{Samples, word}
 use Rattle.refusals.specs.Refusals.{accepted}
-use Rattle.refusals.proofs.Promises.{refuses, same-refusal, accepted-or-not}
+use Rattle.refusals.proofs.Promises.{refuses, same_refusal, accepted_or_not}
 use Rattle.spectra.specs.declared.Answer.{Answer}
-use Rattle.spectra.specs.Answers.{verdictOf}
+use Rattle.spectra.specs.Answers.{verdict_of}
 use Rattle.spectra.specs.Promises.{Buffers}
-use Rattle.spectra.proofs.Determined.{same_answer, none-spent, spent-alike, left-alike}
+use Rattle.spectra.proofs.Determined.{same_answer, none_spent, spent_alike, left_alike}
 use Rattle.months.specs.declared.record.NumberAnswer.{NumberAnswer}
 use Rattle.months.specs.declared.record.NumberAnswer.TheVariants.{Refused as NotTold, Blocks}
 use Rattle.months.specs.declared.record.SumsAnswer.{SumsAnswer}
 use Rattle.months.specs.declared.record.SumsAnswer.TheVariants.{Refused, Yielded}
-use Rattle.months.specs.Accounts.{accountWords, cosineSum, sineSum, BlockAdded}
-use Rattle.months.specs.Months.{unknownParty, account, newMonth, addVerdict}
-use Rattle.months.specs.Answers.{verdictOfNumber, blocksOf, verdictOfSums, sumsOf}
+use Rattle.months.specs.Accounts.{account_words, cosine_sum, sine_sum, BlockAdded}
+use Rattle.months.specs.Months.{unknown_party, account, new_month, add_verdict}
+use Rattle.months.specs.Answers.{verdict_of_number, blocks_of, verdict_of_sums, sums_of}
 use Rattle.months.specs.Promises.{Given, call_of, AddPromise, NumberPromise, SumsPromise}
-use Rattle.months.specs.Runs.{PartyCall, Seen, numberRead, sumsRead, lengthRead}
-use Rattle.months.specs.Runs.{Keeps, adds, tellsNumber, tellsSums, tellsLength, Made, Calls, none, more}
-use Rattle.months.specs.Isolation.{Same, OneCall, calls_of, seenBy, Isolated}
-use Rattle.months.proofs.Steps.{length-stays, account-stays}
+use Rattle.months.specs.Runs.{PartyCall, Seen, number_read, sums_read, length_read}
+use Rattle.months.specs.Runs.{Keeps, adds, tells_number, tells_sums, tells_length, Made, Calls, none, more}
+use Rattle.months.specs.Isolation.{Same, OneCall, calls_of, seen_by, Isolated}
+use Rattle.months.proofs.Steps.{length_stays, account_stays}
 
 -- ---- the words of an account after a block are determined by those before it
-block-alike : {N : ℕ} {c s : Samples} {before one other : List ℤ} → length before ≤ accountWords → BlockAdded N c s before one
+block_alike : {N : ℕ} {c s : Samples} {before one other : List ℤ} → length before ≤ account_words → BlockAdded N c s before one
     → BlockAdded N c s before other → one ≡ other
-block-alike {N} {before = before} {one = one} {other = other} short a b =
+block_alike {N} {before = before} {one = one} {other = other} short a b =
     ext_get_or (pos 0) one other (a.len ∙ sym b.len) (λ k l. at k (omega (arith, l, a.len)))
   where
-    cosine : (k : ℕ) → k < 513 → cosineSum one k ≡ cosineSum other k
+    cosine : (k : ℕ) → k < 513 → cosine_sum one k ≡ cosine_sum other k
     cosine k h = ⊎_elim
         (λ l. a.cosine k l ∙ sym (b.cosine k l))
         (λ l. (a.beyond k l h).0 ∙ sym (b.beyond k l h).0)
-        (le-or-lt k (N / 2))
+        (le_or_lt k (N / 2))
 
-    sine : (k : ℕ) → k < 513 → sineSum one k ≡ sineSum other k
+    sine : (k : ℕ) → k < 513 → sine_sum one k ≡ sine_sum other k
     sine k h = ⊎_elim
         (λ l. a.sine k l ∙ sym (b.sine k l))
         (λ l. (a.beyond k l h).1 ∙ sym (b.beyond k l h).1)
-        (le-or-lt k (N / 2))
+        (le_or_lt k (N / 2))
 
     sum : (k : ℕ) → k < 1026 → word one (1 + k) ≡ word other (1 + k)
     sum k h = ⊎_elim
         (λ l. let place : 514 + (k - 513) ≡ 1 + k = omega arith in rw place at (sine (k - 513) (omega arith)))
         (cosine k)
-        (le-or-lt 513 k)
+        (le_or_lt 513 k)
 
-    at : (k : ℕ) → k < accountWords → word one k ≡ word other k
+    at : (k : ℕ) → k < account_words → word one k ≡ word other k
     at zero h = a.number ∙ sym b.number
     at (suc k) h = let place : 1 + k ≡ suc k = omega arith in rw place at (sum k (omega arith))
 
-account-short : (p : ℕ) (month : List ℤ) → length (account p month) ≤ accountWords
+account_short : (p : ℕ) (month : List ℤ) → length (account p month) ≤ account_words
 unfolding account
-account-short p month = simp length-take (omega arith)
+account_short p month = simp length-take (omega arith)
 
 -- ---- adding, on two months of one length that agree in the party's account
 module _ {p : ℕ} {g : Given} {m m' t t' : List ℤ} {l k : Buffers} {a b : Answer} (same : Same p m t)
     (one : AddPromise p g m m' l a) (other : AddPromise p g t t' k b) where
-  verdicts : verdictOf a ≡ verdictOf b
+  verdicts : verdict_of a ≡ verdict_of b
   verdicts =
-      let e : addVerdict p m (call_of g) ≡ addVerdict p t (call_of g) = rw (same.lengths, same.accounts) refl in
+      let e : add_verdict p m (call_of g) ≡ add_verdict p t (call_of g) = rw (same.lengths, same.accounts) refl in
       one.verdict ∙ e ∙ sym other.verdict
 
-  both-accepted : verdictOf a ≡ accepted → (a ≡ b) × (l ≡ k) × (account p m' ≡ account p t')
-  both-accepted e =
+  both_accepted : verdict_of a ≡ accepted → (a ≡ b) × (l ≡ k) × (account p m' ≡ account p t')
+  both_accepted e =
       let done = (one.done e).own in
       let done' = (other.done (sym verdicts ∙ e)).own in (
-        same_answer a b verdicts (spent-alike done.spectrum done'.spectrum),
-        left-alike done.spectrum done'.spectrum,
-        block-alike (account-short p t) (rw same.accounts at done.words) done'.words,
+        same_answer a b verdicts (spent_alike done.spectrum done'.spectrum),
+        left_alike done.spectrum done'.spectrum,
+        block_alike (account_short p t) (rw same.accounts at done.words) done'.words,
       )
 
-  both-refused : (verdictOf a ≡ accepted → ⊥) → (a ≡ b) × (l ≡ k) × (account p m' ≡ account p t')
-  both-refused e =
-      let e' : verdictOf b ≡ accepted → ⊥ = λ f. e (verdicts ∙ f) in
+  both_refused : (verdict_of a ≡ accepted → ⊥) → (a ≡ b) × (l ≡ k) × (account p m' ≡ account p t')
+  both_refused e =
+      let e' : verdict_of b ≡ accepted → ⊥ = λ f. e (verdicts ∙ f) in
       let (month-stays, buffers-stay) = one.unchanged e in
       let (month-stays', buffers-stay') = other.unchanged e' in (
-        same_answer a b verdicts (none-spent a e ∙ sym (none-spent b e')),
+        same_answer a b verdicts (none_spent a e ∙ sym (none_spent b e')),
         buffers-stay ∙ sym buffers-stay',
         ap (account p) month-stays ∙ same.accounts ∙ sym (ap (account p) month-stays'),
       )
 
-  adds-alike : (a ≡ b) × (l ≡ k) × (account p m' ≡ account p t')
-  adds-alike = ⊎_elim both-accepted both-refused (accepted-or-not (verdictOf a))
+  adds_alike : (a ≡ b) × (l ≡ k) × (account p m' ≡ account p t')
+  adds_alike = ⊎_elim both_accepted both_refused (accepted_or_not (verdict_of a))
 
 -- ---- reading: an answer is determined by its verdict and by what it tells
-same_number : (a b : NumberAnswer) → verdictOfNumber a ≡ verdictOfNumber b → (verdictOfNumber a ≡ accepted → blocksOf a ≡ blocksOf b)
+same_number : (a b : NumberAnswer) → verdict_of_number a ≡ verdict_of_number b → (verdict_of_number a ≡ accepted → blocks_of a ≡ blocks_of b)
     → a ≡ b
-same_number (NotTold r) (NotTold s) e f = ap NotTold (same-refusal r s e)
+same_number (NotTold r) (NotTold s) e f = ap NotTold (same_refusal r s e)
 same_number (NotTold r) (Blocks n) e f = absurd (refuses r e)
 same_number (Blocks m) (NotTold s) e f = absurd (refuses s (sym e))
 same_number (Blocks m) (Blocks n) e f = ap Blocks (f refl)
 
-same-sums : (a b : SumsAnswer) → verdictOfSums a ≡ verdictOfSums b → (verdictOfSums a ≡ accepted → sumsOf a ≡ sumsOf b) → a ≡ b
-same-sums (Refused r) (Refused s) e f = ap Refused (same-refusal r s e)
-same-sums (Refused r) (Yielded u) e f = absurd (refuses r e)
-same-sums (Yielded t) (Refused s) e f = absurd (refuses s (sym e))
-same-sums (Yielded t) (Yielded u) e f = ap Yielded (f refl)
+same_sums : (a b : SumsAnswer) → verdict_of_sums a ≡ verdict_of_sums b → (verdict_of_sums a ≡ accepted → sums_of a ≡ sums_of b) → a ≡ b
+same_sums (Refused r) (Refused s) e f = ap Refused (same_refusal r s e)
+same_sums (Refused r) (Yielded u) e f = absurd (refuses r e)
+same_sums (Yielded t) (Refused s) e f = absurd (refuses s (sym e))
+same_sums (Yielded t) (Yielded u) e f = ap Yielded (f refl)
 
 module _ {p : ℕ} {m t : List ℤ} (same : Same p m t) where
-  numbers-alike : (a b : NumberAnswer) → NumberPromise p m a → NumberPromise p t b → a ≡ b
-  numbers-alike a b one other =
+  numbers_alike : (a b : NumberAnswer) → NumberPromise p m a → NumberPromise p t b → a ≡ b
+  numbers_alike a b one other =
       let verdicts = one.verdict ∙ sym other.verdict in
       same_number a b verdicts (λ e. one.number e ∙ rw same.accounts (sym (other.number (sym verdicts ∙ e))))
 
-  sums-alike : (k : ℕ) (a b : SumsAnswer) → SumsPromise p m k a → SumsPromise p t k b → a ≡ b
-  sums-alike k a b one other =
-      let verdicts : verdictOfSums a ≡ verdictOfSums b = one.verdict ∙ rw same.lengths (sym other.verdict) in
-      same-sums a b verdicts (λ e. one.sums e ∙ rw same.accounts (sym (other.sums (sym verdicts ∙ e))))
+  sums_alike : (k : ℕ) (a b : SumsAnswer) → SumsPromise p m k a → SumsPromise p t k b → a ≡ b
+  sums_alike k a b one other =
+      let verdicts : verdict_of_sums a ≡ verdict_of_sums b = one.verdict ∙ rw same.lengths (sym other.verdict) in
+      same_sums a b verdicts (λ e. one.sums e ∙ rw same.accounts (sym (other.sums (sym verdicts ∙ e))))
 
 -- ---- of one call
 module _ {p : ℕ} where
   own : (call : PartyCall) {m t m' t' : List ℤ} {seen seen' : Seen} → Same p m t → Keeps p m call m' seen → Keeps p t call t' seen'
       → (seen ≡ seen') × Same p m' t'
   own _ same (adds g m' l a one) (adds h t' k b other) =
-      let (answers, buffers, accounts) = adds-alike same one other in
-      let lengths = length-stays (adds g m' l a one) ∙ same.lengths ∙ sym (length-stays (adds h t' k b other)) in
+      let (answers, buffers, accounts) = adds_alike same one other in
+      let lengths = length_stays (adds g m' l a one) ∙ same.lengths ∙ sym (length_stays (adds h t' k b other)) in
       (cc, record { lengths = lengths; accounts = accounts })
-  own _ same (tellsNumber a one) (tellsNumber b other) = (ap numberRead (numbers-alike same a b one other), same)
-  own _ same (tellsSums k a one) (tellsSums j b other) = (ap sumsRead (sums-alike same k a b one other), same)
-  own _ same tellsLength tellsLength = (ap lengthRead same.lengths, same)
+  own _ same (tells_number a one) (tells_number b other) = (ap number_read (numbers_alike same a b one other), same)
+  own _ same (tells_sums k a one) (tells_sums j b other) = (ap sums_read (sums_alike same k a b one other), same)
+  own _ same tells_length tells_length = (ap length_read same.lengths, same)
 
-pub one-call : (p : ℕ) → unknownParty p ≡ false → OneCall p
-one-call p known = record {
+pub one_call : (p : ℕ) → unknown_party p ≡ false → OneCall p
+one_call p known = record {
   own = own;
-  others = λ q ne keeps. record { lengths = length-stays keeps; accounts = account-stays p known (λ e. ne (sym e)) keeps };
+  others = λ q ne keeps. record { lengths = length_stays keeps; accounts = account_stays p known (λ e. ne (sym e)) keeps };
 }
 
 -- ---- of runs
-module _ (p : ℕ) (known : unknownParty p ≡ false) where
+module _ (p : ℕ) (known : unknown_party p ≡ false) where
   itself : (m : List ℤ) → Same p m m
   itself m = record { lengths = refl; accounts = refl }
 
@@ -164,10 +164,10 @@ module _ (p : ℕ) (known : unknownParty p ≡ false) where
       → Keeps made.party m made.call t made.seen → Own t cs ss u
       → Own m (cond mine (made.call ∷ cs) cs) (cond mine (made.seen ∷ ss) ss) u
   one_more made true e keeps later = calls (itself _) (rw (eqb-true made.party p e) at keeps) later
-  one_more made false e keeps later = before (turned ((one-call p known).others made.party (eqb-false _ _ e) keeps)) later
+  one_more made false e keeps later = before (turned ((one_call p known).others made.party (eqb-false _ _ e) keeps)) later
 
-  own_of : {m t : List ℤ} {made : List Made} → Calls m made t → Own m (calls_of p made) (seenBy p made) t
-  unfolding calls_of seenBy
+  own_of : {m t : List ℤ} {made : List Made} → Calls m made t → Own m (calls_of p made) (seen_by p made) t
+  unfolding calls_of seen_by
   own_of none = stays (itself _)
   own_of (more made keeps later) = one_more made (eqb made.party p) refl keeps (own_of later)
 
@@ -182,7 +182,7 @@ module _ (p : ℕ) (known : unknownParty p ≡ false) where
 
   pub isolated : Isolated p
   isolated N made made' month month' run run' e =
-      let start : Same p run.start run'.start = rw (run.begun.words, run'.begun.words) (itself (newMonth N)) in
-      let theirs : Own run'.start (calls_of p made) (seenBy p made') month' = rw e (own_of run'.calls) in
+      let start : Same p run.start run'.start = rw (run.begun.words, run'.begun.words) (itself (new_month N)) in
+      let theirs : Own run'.start (calls_of p made) (seen_by p made') month' = rw e (own_of run'.calls) in
       let (seen, end) = alike (own_of run.calls) theirs start in
       (seen, end.accounts)

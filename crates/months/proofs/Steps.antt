@@ -7,69 +7,69 @@ use mathlib.Core.Logic.{⊎_elim}
 use Prim.Native.Nat.{ℕ}
 use lib.IntN.{ℤ}
 use Rattle.words.specs.Words.{Samples}
-use Rattle.refusals.specs.Refusals.{Verdict, refusedAt, accepted}
-use Rattle.refusals.proofs.Promises.{not-both, past-test, accepted-or-not}
+use Rattle.refusals.specs.Refusals.{Verdict, refused_at, accepted}
+use Rattle.refusals.proofs.Promises.{not_both, past_test, accepted_or_not}
 use Rattle.spectra.specs.declared.Answer.{Answer}
-use Rattle.spectra.specs.Answers.{verdictOf}
+use Rattle.spectra.specs.Answers.{verdict_of}
 use Rattle.spectra.specs.Promises.{Buffers}
 use Rattle.months.specs.Accounts.{History, Holds}
-use Rattle.months.specs.Months.{length_of, unknownParty, account, otherLength}
+use Rattle.months.specs.Months.{length_of, unknown_party, account, other_length}
 use Rattle.months.specs.Promises.{Given, block_of, AddPromise}
-use Rattle.months.specs.Runs.{PartyCall, Seen, Keeps, adds, tellsNumber, tellsSums, tellsLength, ifAccepted, blockIn}
-use Rattle.months.proofs.Lengths.{length-same}
-use Rattle.months.proofs.AddRuns.{own-length}
+use Rattle.months.specs.Runs.{PartyCall, Seen, Keeps, adds, tells_number, tells_sums, tells_length, if_accepted, block_in}
+use Rattle.months.proofs.Lengths.{length_same}
+use Rattle.months.proofs.AddRuns.{own_length}
 
 -- ---- adding
 one_more : (v : Verdict) (x : Samples) {N : ℕ} {account : List ℤ} {history : History} → ((v ≡ accepted → ⊥) → Holds N account history)
-    → (v ≡ accepted → Holds N account (history ++ (x ∷ []))) → Holds N account (history ++ ifAccepted v x)
-one_more (refusedAt n i) x stays more = rw append-nil (stays not-both)
+    → (v ≡ accepted → Holds N account (history ++ (x ∷ []))) → Holds N account (history ++ if_accepted v x)
+one_more (refused_at n i) x stays more = rw append-nil (stays not_both)
 one_more accepted x stays more = more refl
 
 module _ (p : ℕ) (g : Given) (month month' : List ℤ) (lent' : Buffers) (answer : Answer)
     (made : AddPromise p g month month' lent' answer) where
-  either : {A : Type 0} → (verdictOf answer ≡ accepted → A) → ((verdictOf answer ≡ accepted → ⊥) → A) → A
-  either done unchanged = ⊎_elim done unchanged (accepted-or-not (verdictOf answer))
+  either : {A : Type 0} → (verdict_of answer ≡ accepted → A) → ((verdict_of answer ≡ accepted → ⊥) → A) → A
+  either done unchanged = ⊎_elim done unchanged (accepted_or_not (verdict_of answer))
 
-  length-kept : length_of month' ≡ length_of month
-  length-kept = either (λ e. length-same month month' (made.done e).others.mark) (λ e. ap length_of (made.unchanged e).0)
+  length_kept : length_of month' ≡ length_of month
+  length_kept = either (λ e. length_same month month' (made.done e).others.mark) (λ e. ap length_of (made.unchanged e).0)
 
-  other-kept : (q : ℕ) → unknownParty q ≡ false → (q ≡ p → ⊥) → account q month' ≡ account q month
-  other-kept q known ne = either (λ e. (made.done e).others.accounts q known ne) (λ e. ap (account q) (made.unchanged e).0)
+  other_kept : (q : ℕ) → unknown_party q ≡ false → (q ≡ p → ⊥) → account q month' ≡ account q month
+  other_kept q known ne = either (λ e. (made.done e).others.accounts q known ne) (λ e. ap (account q) (made.unchanged e).0)
 
   -- an accepted block is of the month's length
-  of_length : verdictOf answer ≡ accepted → length_of month ≡ g.N
+  of_length : verdict_of answer ≡ accepted → length_of month ≡ g.N
   of_length e =
-      let (known, then) = past-test 15 (unknownParty p) (sym made.verdict ∙ e) in
-      (own-length month g.N (past-test 13 (otherLength month g.N) then).0).0
+      let (known, then) = past_test 15 (unknown_party p) (sym made.verdict ∙ e) in
+      (own_length month g.N (past_test 13 (other_length month g.N) then).0).0
 
   -- the party's own account holds its history, with this block at its end where it was accepted
-  own-more : (history : History) → Holds (length_of month) (account p month) history
-      → Holds (length_of month') (account p month') (history ++ ifAccepted (verdictOf answer) (block_of g))
-  own-more history held =
-      rw length-kept
-      (one_more (verdictOf answer) (block_of g) {history = history}
+  own_more : (history : History) → Holds (length_of month) (account p month) history
+      → Holds (length_of month') (account p month') (history ++ if_accepted (verdict_of answer) (block_of g))
+  own_more history held =
+      rw length_kept
+      (one_more (verdict_of answer) (block_of g) {history = history}
       (λ e. rw (made.unchanged e).0 held)
       (λ e. rw (of_length e) ((made.done e).own.holds history (rw (of_length e) at held))))
 
 -- ---- any call of a party
 module _ {q : ℕ} {month : List ℤ} where
-  pub length-stays : {call : PartyCall} {month' : List ℤ} {seen : Seen} → Keeps q month call month' seen → length_of month' ≡ length_of month
-  length-stays (adds g month' lent' answer p) = length-kept q g month month' lent' answer p
-  length-stays (tellsNumber answer p) = refl
-  length-stays (tellsSums k answer p) = refl
-  length-stays tellsLength = refl
+  pub length_stays : {call : PartyCall} {month' : List ℤ} {seen : Seen} → Keeps q month call month' seen → length_of month' ≡ length_of month
+  length_stays (adds g month' lent' answer p) = length_kept q g month month' lent' answer p
+  length_stays (tells_number answer p) = refl
+  length_stays (tells_sums k answer p) = refl
+  length_stays tells_length = refl
 
-  pub account-stays : (p : ℕ) {call : PartyCall} {month' : List ℤ} {seen : Seen} → unknownParty p ≡ false → (p ≡ q → ⊥)
+  pub account_stays : (p : ℕ) {call : PartyCall} {month' : List ℤ} {seen : Seen} → unknown_party p ≡ false → (p ≡ q → ⊥)
       → Keeps q month call month' seen → account p month' ≡ account p month
-  account-stays p known ne (adds g month' lent' answer made) = other-kept q g month month' lent' answer made p known ne
-  account-stays p known ne (tellsNumber answer made) = refl
-  account-stays p known ne (tellsSums k answer made) = refl
-  account-stays p known ne tellsLength = refl
+  account_stays p known ne (adds g month' lent' answer made) = other_kept q g month month' lent' answer made p known ne
+  account_stays p known ne (tells_number answer made) = refl
+  account_stays p known ne (tells_sums k answer made) = refl
+  account_stays p known ne tells_length = refl
 
-  pub own-history : (history : History) {call : PartyCall} {month' : List ℤ} {seen : Seen}
+  pub own_history : (history : History) {call : PartyCall} {month' : List ℤ} {seen : Seen}
       → Holds (length_of month) (account q month) history → Keeps q month call month' seen
-      → Holds (length_of month') (account q month') (history ++ blockIn call seen)
-  own-history history held (adds g month' lent' answer made) = own-more q g month month' lent' answer made history held
-  own-history history held (tellsNumber answer made) = rw append-nil held
-  own-history history held (tellsSums k answer made) = rw append-nil held
-  own-history history held tellsLength = rw append-nil held
+      → Holds (length_of month') (account q month') (history ++ block_in call seen)
+  own_history history held (adds g month' lent' answer made) = own_more q g month month' lent' answer made history held
+  own_history history held (tells_number answer made) = rw append-nil held
+  own_history history held (tells_sums k answer made) = rw append-nil held
+  own_history history held tells_length = rw append-nil held

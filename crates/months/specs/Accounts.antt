@@ -4,7 +4,7 @@ use Rattle.std.specs.Prelude.{Bool, cond, List, [], ◌∷◌, ◌≡◌, ℕ, �
 use Rattle.std.specs.Int.Signed.{le_z}
 use Rattle.words.specs.Words.{Samples, word}
 use Rattle.lengths.specs.Block.{AcceptedBlock, level}
-use Rattle.ffct.specs.Exact.{exactCosine, exactSine, Limit}
+use Rattle.ffct.specs.Exact.{exact_cosine, exact_sine, Limit}
 use Rattle.ffct.specs.Transforms.{spectrum}
 use Rattle.refusals.specs.Refusals.{at_most}
 
@@ -12,19 +12,19 @@ use Rattle.refusals.specs.Refusals.{at_most}
 --   word 0             the block number
 --   words 1 .. 513     the sums of the cosine coefficients, k = 0 .. 512
 --   words 514 .. 1026  the sums of the sine coefficients, k = 0 .. 512
-abbrev pub accountWords : ℕ
-accountWords = 1027
+abbrev pub account_words : ℕ
+account_words = 1027
 
 -- "one to the block number": word 0
-abbrev pub blockNumber : List ℤ → ℤ
-blockNumber account = word account 0
+abbrev pub block_number : List ℤ → ℤ
+block_number account = word account 0
 
 -- "a running 64-bit sum for its k", k = 0 .. 512: of the cosine coefficients from word 1 on, of the sine coefficients from word 514 on
-abbrev pub cosineSum : List ℤ → ℕ → ℤ
-cosineSum account k = word account (1 + k)
+abbrev pub cosine_sum : List ℤ → ℕ → ℤ
+cosine_sum account k = word account (1 + k)
 
-abbrev pub sineSum : List ℤ → ℕ → ℤ
-sineSum account k = word account (514 + k)
+abbrev pub sine_sum : List ℤ → ℕ → ℤ
+sine_sum account k = word account (514 + k)
 
 -- ---- adding: "adds each coefficient to a running 64-bit sum for its k, and one to the block number". No sum of an account is beyond 2^62
 -- in size (`Laws`). Where lent words that are no month's hold such a number, it stays
@@ -33,10 +33,10 @@ plus sum coefficient = cond (at_most (2 ^ 62) sum) (sum +ℤ coefficient) sum
 
 -- every word of an account after a block of N samples with the coefficients c and s was added
 pub record BlockAdded (N : ℕ) (c s : Samples) (account account' : List ℤ) : Type 0 where
-  pub number : blockNumber account' ≡ blockNumber account +ℤ pos 1
-  pub cosine : (k : ℕ) → k ≤ N / 2 → cosineSum account' k ≡ plus (cosineSum account k) (c k)
-  pub sine : (k : ℕ) → k ≤ N / 2 → sineSum account' k ≡ plus (sineSum account k) (s k)
-  pub beyond : (k : ℕ) → N / 2 < k → k < 513 → (cosineSum account' k ≡ cosineSum account k) × (sineSum account' k ≡ sineSum account k)
+  pub number : block_number account' ≡ block_number account +ℤ pos 1
+  pub cosine : (k : ℕ) → k ≤ N / 2 → cosine_sum account' k ≡ plus (cosine_sum account k) (c k)
+  pub sine : (k : ℕ) → k ≤ N / 2 → sine_sum account' k ≡ plus (sine_sum account k) (s k)
+  pub beyond : (k : ℕ) → N / 2 < k → k < 513 → (cosine_sum account' k ≡ cosine_sum account k) × (sine_sum account' k ≡ sine_sum account k)
   pub len : length account' ≡ length account
 
 -- ---- "the history of accepted blocks": the samples of each, in the order in which they were added
@@ -44,9 +44,9 @@ abbrev pub History : Type 0
 History = List Samples
 
 -- the sum of f over the blocks of a history
-unfoldable pub sumOver : (Samples → ℤ) → History → ℤ
-sumOver f [] = pos 0
-sumOver f (x ∷ history) = f x +ℤ sumOver f history
+unfoldable pub sum_over : (Samples → ℤ) → History → ℤ
+sum_over f [] = pos 0
+sum_over f (x ∷ history) = f x +ℤ sum_over f history
 
 -- every block of a history is an accepted block of N samples
 unfoldable pub AllAccepted : ℕ → History → Type 0
@@ -54,25 +54,25 @@ AllAccepted N [] = Unit
 AllAccepted N (x ∷ history) = AcceptedBlock (level N) x × AllAccepted N history
 
 -- "Each may add 50,000 blocks, and that replaces the 100,000 of 14."
-abbrev pub mostBlocks : ℕ
-mostBlocks = 50000
+abbrev pub most_blocks : ℕ
+most_blocks = 50000
 
 -- "After any calls the sums equal those over the history of accepted blocks": an account holds a history of blocks of N samples. Where no
 -- block has a coefficient, beyond k = N / 2, it holds 0
 pub record Holds (N : ℕ) (account : List ℤ) (history : History) : Type 0 where
   pub blocks : AllAccepted N history
-  pub number : blockNumber account ≡ pos (length history)
-  pub at_most : length history ≤ mostBlocks
-  pub cosine : (k : ℕ) → k ≤ N / 2 → cosineSum account k ≡ sumOver (λ x. (spectrum (level N) x).cosine k) history
-  pub sine : (k : ℕ) → k ≤ N / 2 → sineSum account k ≡ sumOver (λ x. (spectrum (level N) x).sine k) history
-  pub beyond : (k : ℕ) → N / 2 < k → k < 513 → (cosineSum account k ≡ pos 0) × (sineSum account k ≡ pos 0)
+  pub number : block_number account ≡ pos (length history)
+  pub at_most : length history ≤ most_blocks
+  pub cosine : (k : ℕ) → k ≤ N / 2 → cosine_sum account k ≡ sum_over (λ x. (spectrum (level N) x).cosine k) history
+  pub sine : (k : ℕ) → k ≤ N / 2 → sine_sum account k ≡ sum_over (λ x. (spectrum (level N) x).sine k) history
+  pub beyond : (k : ℕ) → N / 2 < k → k < 513 → (cosine_sum account k ≡ pos 0) × (sine_sum account k ≡ pos 0)
 
 -- ---- the exact sums of an account over K, before the division by 2^80
-abbrev pub exactCosineSum : ℕ → History → ℕ → ℤ
-exactCosineSum N history k = sumOver (λ x. exactCosine N x k) history
+abbrev pub exact_cosine_sum : ℕ → History → ℕ → ℤ
+exact_cosine_sum N history k = sum_over (λ x. exact_cosine N x k) history
 
-abbrev pub exactSineSum : ℕ → History → ℕ → ℤ
-exactSineSum N history k = sumOver (λ x. exactSine N x k) history
+abbrev pub exact_sine_sum : ℕ → History → ℕ → ℤ
+exact_sine_sum N history k = sum_over (λ x. exact_sine N x k) history
 
 -- n·N/8. "The n in the distance of a sum is that party's number of blocks."
 abbrev pub eighths : ℕ → ℕ → Limit
@@ -80,4 +80,4 @@ eighths n N = record { over = n * N; under = 8 }
 
 -- ---- 14: "when the month holds" as many blocks of the party as it may
 abbrev pub full : List ℤ → Bool
-full account = le_z (pos mostBlocks) (blockNumber account)
+full account = le_z (pos most_blocks) (block_number account)

@@ -9,20 +9,20 @@ use Rattle.months.specs.declared.record.SumsAnswer.TheVariants.{Refused, Yielded
 use Rattle.months.specs.declared.record.NumberAnswer.{NumberAnswer}
 use Rattle.months.specs.declared.record.NumberAnswer.TheVariants.{Refused as NotTold, Blocks}
 
-abbrev pub verdictOfNumber : NumberAnswer → Verdict
-verdictOfNumber (NotTold r) = refusal.verdictOf r
-verdictOfNumber (Blocks n) = accepted
+abbrev pub verdict_of_number : NumberAnswer → Verdict
+verdict_of_number (NotTold r) = refusal.verdict_of r
+verdict_of_number (Blocks n) = accepted
 
 -- the block number; else 0
-abbrev pub blocksOf : NumberAnswer → ℤ
-blocksOf (NotTold r) = pos 0
-blocksOf (Blocks n) = n
+abbrev pub blocks_of : NumberAnswer → ℤ
+blocks_of (NotTold r) = pos 0
+blocks_of (Blocks n) = n
 
-abbrev pub verdictOfSums : SumsAnswer → Verdict
-verdictOfSums (Refused r) = refusal.verdictOf r
-verdictOfSums (Yielded sums) = accepted
+abbrev pub verdict_of_sums : SumsAnswer → Verdict
+verdict_of_sums (Refused r) = refusal.verdict_of r
+verdict_of_sums (Yielded sums) = accepted
 
 -- the two sums; else 0 for each
-abbrev pub sumsOf : SumsAnswer → Sums
-sumsOf (Refused r) = record { cosine = pos 0; sine = pos 0 }
-sumsOf (Yielded sums) = sums
+abbrev pub sums_of : SumsAnswer → Sums
+sums_of (Refused r) = record { cosine = pos 0; sine = pos 0 }
+sums_of (Yielded sums) = sums

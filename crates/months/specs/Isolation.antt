@@ -24,13 +24,13 @@ unfoldable pub calls_of : ℕ → List Made → List PartyCall
 calls_of p [] = []
 calls_of p (made ∷ later) = cond (eqb made.party p) (made.call ∷ calls_of p later) (calls_of p later)
 
-unfoldable pub seenBy : ℕ → List Made → List Seen
-seenBy p [] = []
-seenBy p (made ∷ later) = cond (eqb made.party p) (made.seen ∷ seenBy p later) (seenBy p later)
+unfoldable pub seen_by : ℕ → List Made → List Seen
+seen_by p [] = []
+seen_by p (made ∷ later) = cond (eqb made.party p) (made.seen ∷ seen_by p later) (seen_by p later)
 
 -- two runs on months begun for one length, by any parties in any order: where the calls of p are the same, p sees the same, and its
 -- accounts are the same in the end
 abbrev pub Isolated : ℕ → Type 0
 Isolated p =
     (N : ℕ) (made made' : List Made) (month month' : List ℤ) → Run N made month → Run N made' month' → calls_of p made ≡ calls_of p made'
-    → (seenBy p made ≡ seenBy p made') × (account p month ≡ account p month')
+    → (seen_by p made ≡ seen_by p made') × (account p month ≡ account p month')

@@ -1,30 +1,30 @@
 -- What beginning, adding and reading promise, for every input. Words after the call are marked '; p is the party.
 use Rattle.std.specs.Prelude.{false, not, cond, List, [], ◌∷◌, ◌++◌, ◌≡◌, ℕ, ℤ}
 use Rattle.words.specs.Words.{Samples}
-use Rattle.lengths.specs.Block.{isLength, level}
-use Rattle.ffct.specs.Transforms.{spectrum as spectrumOf}
+use Rattle.lengths.specs.Block.{is_length, level}
+use Rattle.ffct.specs.Transforms.{spectrum as spectrum_of}
 use Rattle.refusals.specs.declared.refusal.Outcome.{Outcome}
 use Rattle.refusals.specs.Refusals.{block, refused, accepted, Promise}
 use Rattle.refusals.specs.Answers.{outcome}
 use Rattle.refusals.specs.Calls.{Call, verdict}
 use Rattle.spectra.specs.declared.Answer.{Answer}
-use Rattle.spectra.specs.Answers.{verdictOf, spent}
-use Rattle.spectra.specs.Promises.{Buffers, spectrumCall, SpectrumDone}
+use Rattle.spectra.specs.Answers.{verdict_of, spent}
+use Rattle.spectra.specs.Promises.{Buffers, spectrum_call, SpectrumDone}
 use Rattle.months.specs.declared.Month.{Month}
 use Rattle.months.specs.declared.Begun.{Begun}
 use Rattle.months.specs.declared.Added.{Added}
 use Rattle.months.specs.declared.record.SumsAnswer.{SumsAnswer}
 use Rattle.months.specs.declared.record.NumberAnswer.{NumberAnswer}
-use Rattle.months.specs.Accounts.{History, Holds, BlockAdded, full, blockNumber, cosineSum, sineSum}
-use Rattle.months.specs.Months.{length_of, unknownParty, account, newMonth, OthersStay, addVerdict, numberVerdict, sumsVerdict}
-use Rattle.months.specs.Answers.{verdictOfNumber, blocksOf, verdictOfSums, sumsOf}
+use Rattle.months.specs.Accounts.{History, Holds, BlockAdded, full, block_number, cosine_sum, sine_sum}
+use Rattle.months.specs.Months.{length_of, unknown_party, account, new_month, OthersStay, add_verdict, number_verdict, sums_verdict}
+use Rattle.months.specs.Answers.{verdict_of_number, blocks_of, verdict_of_sums, sums_of}
 
 -- ---- beginning. "Beginning with a bad length gives 1", with a month of the length 0. Each party's account holds the empty history
 pub record BeginPromise (N : ℕ) (month' : List ℤ) (answer : Outcome) : Type 0 where
-  pub verdict : outcome answer ≡ cond (not (isLength N)) (refused 1) accepted
-  pub words : month' ≡ newMonth N
-  pub length : length_of month' ≡ cond (isLength N) N 0
-  pub empty : (p : ℕ) → unknownParty p ≡ false → Holds (length_of month') (account p month') []
+  pub verdict : outcome answer ≡ cond (not (is_length N)) (refused 1) accepted
+  pub words : month' ≡ new_month N
+  pub length : length_of month' ≡ cond (is_length N) N 0
+  pub empty : (p : ℕ) → unknown_party p ≡ false → Holds (length_of month') (account p month') []
 
 -- ---- what adding is given, beside the party and the month: all that Spectrum is
 pub record Given : Type 0 where
@@ -42,18 +42,18 @@ abbrev pub block_of : Given → Samples
 block_of g = block g.recording g.start
 
 abbrev pub call_of : Given → Call
-call_of g = spectrumCall g.recording g.start g.N g.allowance g.lent
+call_of g = spectrum_call g.recording g.start g.N g.allowance g.lent
 
 -- ---- adding to an account. "Adding a block runs Spectrum, with its buffers, allowance and answer". For every history that the account
 -- holds, it now holds the history with this block at its end
 pub record AccountDone (g : Given) (account account' : List ℤ) (lent' : Buffers) (answer : Answer) : Type 0 where
   pub spectrum : SpectrumDone g.N (block_of g) g.allowance g.lent lent' (spent answer)
-  pub words : let t = spectrumOf (level g.N) (block_of g) in BlockAdded g.N t.cosine t.sine account account'
+  pub words : let t = spectrum_of (level g.N) (block_of g) in BlockAdded g.N t.cosine t.sine account account'
   pub holds : (history : History) → Holds g.N account history → Holds g.N account' (history ++ (block_of g ∷ []))
 
 abbrev pub AccountPromise : Given → (account account' : List ℤ) → (lent' : Buffers) → Answer → Type 0
 AccountPromise g account account' lent' answer =
-    Promise (verdictOf answer) (cond (full account) (refused 14) (verdict (call_of g)))
+    Promise (verdict_of answer) (cond (full account) (refused 14) (verdict (call_of g)))
     ((account' ≡ account) × (lent' ≡ g.lent))
     (AccountDone g account account' lent' answer)
 
@@ -65,7 +65,7 @@ pub record AddDone (p : ℕ) (g : Given) (month month' : List ℤ) (lent' : Buff
 -- "A refused block leaves the month unchanged."
 abbrev pub AddPromise : ℕ → Given → (month month' : List ℤ) → (lent' : Buffers) → Answer → Type 0
 AddPromise p g month month' lent' answer =
-    Promise (verdictOf answer) (addVerdict p month (call_of g))
+    Promise (verdict_of answer) (add_verdict p month (call_of g))
     ((month' ≡ month) × (lent' ≡ g.lent))
     (AddDone p g month month' lent' answer)
 
@@ -76,18 +76,18 @@ pub record ForParty (p : ℕ) (g : Given) (month month' : List ℤ) (lent' : Buf
 
 -- ---- reading a party's block number, and its sums for k
 pub record NumberPromise (p : ℕ) (month : List ℤ) (answer : NumberAnswer) : Type 0 where
-  pub verdict : verdictOfNumber answer ≡ numberVerdict p
-  pub number : verdictOfNumber answer ≡ accepted → blocksOf answer ≡ blockNumber (account p month)
+  pub verdict : verdict_of_number answer ≡ number_verdict p
+  pub number : verdict_of_number answer ≡ accepted → blocks_of answer ≡ block_number (account p month)
 
 pub record SumsPromise (p : ℕ) (month : List ℤ) (k : ℕ) (answer : SumsAnswer) : Type 0 where
-  pub verdict : verdictOfSums answer ≡ sumsVerdict p month k
-  pub sums : verdictOfSums answer ≡ accepted
-      → sumsOf answer ≡ record { cosine = cosineSum (account p month) k; sine = sineSum (account p month) k }
+  pub verdict : verdict_of_sums answer ≡ sums_verdict p month k
+  pub sums : verdict_of_sums answer ≡ accepted
+      → sums_of answer ≡ record { cosine = cosine_sum (account p month) k; sine = sine_sum (account p month) k }
 
 -- ---- months by value. "Only beginning and adding make a month": so in every month that there is each party's account holds some history
 pub record Held (month : Month) : Type 0 where
   pub history : ℕ → History
-  pub holds : (p : ℕ) → unknownParty p ≡ false → Holds (length_of month.words) (account p month.words) (history p)
+  pub holds : (p : ℕ) → unknown_party p ≡ false → Holds (length_of month.words) (account p month.words) (history p)
 
 pub record Beginning (N : ℕ) (begun : Begun) : Type 0 where
   pub promise : BeginPromise N begun.month.words begun.answer

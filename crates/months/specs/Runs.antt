@@ -3,41 +3,41 @@
 -- (Promises), and nothing else. `AfterAnyCalls` is proved of every run (proofs/Runs).
 use Rattle.std.specs.Prelude.{false, cond, List, [], ◌∷◌, ◌++◌, ◌≡◌, ℕ, eqb, ℤ}
 use Rattle.words.specs.Words.{Samples}
-use Rattle.lengths.specs.Block.{isLength}
+use Rattle.lengths.specs.Block.{is_length}
 use Rattle.refusals.specs.declared.refusal.Outcome.{Outcome}
-use Rattle.refusals.specs.Refusals.{Verdict, refusedAt, accepted}
+use Rattle.refusals.specs.Refusals.{Verdict, refused_at, accepted}
 use Rattle.spectra.specs.declared.Answer.{Answer}
-use Rattle.spectra.specs.Answers.{verdictOf}
+use Rattle.spectra.specs.Answers.{verdict_of}
 use Rattle.spectra.specs.Promises.{Buffers}
 use Rattle.months.specs.declared.record.SumsAnswer.{SumsAnswer}
 use Rattle.months.specs.declared.record.NumberAnswer.{NumberAnswer}
 use Rattle.months.specs.Accounts.{History, Holds}
-use Rattle.months.specs.Months.{length_of, unknownParty, account}
-use Rattle.months.specs.Answers.{verdictOfNumber, verdictOfSums}
+use Rattle.months.specs.Months.{length_of, unknown_party, account}
+use Rattle.months.specs.Answers.{verdict_of_number, verdict_of_sums}
 use Rattle.months.specs.Promises.{Given, block_of, BeginPromise, AddPromise, NumberPromise, SumsPromise}
 use Rattle.months.specs.Laws.{AccountLimits}
 
 -- ---- the calls of a party
 pub data PartyCall : Type 0 where
   add : Given → PartyCall
-  readNumber : PartyCall
-  readSums : (k : ℕ) → PartyCall
-  readLength : PartyCall
+  read_number : PartyCall
+  read_sums : (k : ℕ) → PartyCall
+  read_length : PartyCall
 
 -- all that the party sees of a call: the answer and, of adding, what is left in the buffers
 pub data Seen : Type 0 where
   added : Answer → (lent' : Buffers) → Seen
-  numberRead : NumberAnswer → Seen
-  sumsRead : SumsAnswer → Seen
-  lengthRead : ℕ → Seen
+  number_read : NumberAnswer → Seen
+  sums_read : SumsAnswer → Seen
+  length_read : ℕ → Seen
 
 -- a call of the party p keeps its promise: the month before it, the call, the month after it, what is seen
 pub data Keeps (p : ℕ) (month : List ℤ) : PartyCall → List ℤ → Seen → Type 0 where
   adds : (g : Given) (month' : List ℤ) (lent' : Buffers) (answer : Answer) → AddPromise p g month month' lent' answer
       → Keeps p month (add g) month' (added answer lent')
-  tellsNumber : (answer : NumberAnswer) → NumberPromise p month answer → Keeps p month readNumber month (numberRead answer)
-  tellsSums : (k : ℕ) (answer : SumsAnswer) → SumsPromise p month k answer → Keeps p month (readSums k) month (sumsRead answer)
-  tellsLength : Keeps p month readLength month (lengthRead (length_of month))
+  tells_number : (answer : NumberAnswer) → NumberPromise p month answer → Keeps p month read_number month (number_read answer)
+  tells_sums : (k : ℕ) (answer : SumsAnswer) → SumsPromise p month k answer → Keeps p month (read_sums k) month (sums_read answer)
+  tells_length : Keeps p month read_length month (length_read (length_of month))
 
 -- ---- runs. A call that was made
 pub record Made : Type 0 where
@@ -59,29 +59,29 @@ pub record Run (N : ℕ) (made : List Made) (month : List ℤ) : Type 0 where
   pub calls : Calls start made month
 
 -- ---- the history of a party in a run: the blocks of its accepted calls of adding, in their order
-abbrev pub verdictSeen : Seen → Verdict
-verdictSeen (added answer lent') = verdictOf answer
-verdictSeen (numberRead answer) = verdictOfNumber answer
-verdictSeen (sumsRead answer) = verdictOfSums answer
-verdictSeen (lengthRead N) = accepted
+abbrev pub verdict_seen : Seen → Verdict
+verdict_seen (added answer lent') = verdict_of answer
+verdict_seen (number_read answer) = verdict_of_number answer
+verdict_seen (sums_read answer) = verdict_of_sums answer
+verdict_seen (length_read N) = accepted
 
-abbrev pub ifAccepted : Verdict → Samples → History
-ifAccepted (refusedAt n i) x = []
-ifAccepted accepted x = x ∷ []
+abbrev pub if_accepted : Verdict → Samples → History
+if_accepted (refused_at n i) x = []
+if_accepted accepted x = x ∷ []
 
-abbrev pub blockIn : PartyCall → Seen → History
-blockIn (add g) seen = ifAccepted (verdictSeen seen) (block_of g)
-blockIn readNumber seen = []
-blockIn (readSums k) seen = []
-blockIn readLength seen = []
+abbrev pub block_in : PartyCall → Seen → History
+block_in (add g) seen = if_accepted (verdict_seen seen) (block_of g)
+block_in read_number seen = []
+block_in (read_sums k) seen = []
+block_in read_length seen = []
 
-unfoldable pub historyOf : ℕ → List Made → History
-historyOf p [] = []
-historyOf p (made ∷ later) = cond (eqb made.party p) (blockIn made.call made.seen) [] ++ historyOf p later
+unfoldable pub history_of : ℕ → List Made → History
+history_of p [] = []
+history_of p (made ∷ later) = cond (eqb made.party p) (block_in made.call made.seen) [] ++ history_of p later
 
 -- after any calls each account holds exactly the history of that party, and its sums are near the exact ones by that party's number of
 -- blocks
 pub record AfterAnyCalls (N : ℕ) (made : List Made) (month : List ℤ) : Type 0 where
-  pub length : length_of month ≡ cond (isLength N) N 0
-  pub holds : (p : ℕ) → unknownParty p ≡ false → Holds (length_of month) (account p month) (historyOf p made)
-  pub limits : (p : ℕ) → unknownParty p ≡ false → AccountLimits (length_of month) (account p month) (historyOf p made)
+  pub length : length_of month ≡ cond (is_length N) N 0
+  pub holds : (p : ℕ) → unknown_party p ≡ false → Holds (length_of month) (account p month) (history_of p made)
+  pub limits : (p : ℕ) → unknown_party p ≡ false → AccountLimits (length_of month) (account p month) (history_of p made)

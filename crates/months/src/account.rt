@@ -3,7 +3,7 @@ ghost use Rattle.std.specs.Prelude.{false, ◌≡◌, ◌+◌, ◌/◌, ◌^◌,
 ghost use Rattle.words.specs.Words.{word, Written};
 ghost use Rattle.refusals.specs.Refusals.{at_most};
 ghost use Rattle.spectra.specs.Promises.{buffers};
-ghost use Rattle.months.specs.Accounts.{accountWords, blockNumber, cosineSum, sineSum, full, plus, BlockAdded};
+ghost use Rattle.months.specs.Accounts.{account_words, block_number, cosine_sum, sine_sum, full, plus, BlockAdded};
 ghost use Rattle.months.specs.Promises.{given, AccountPromise};
 
 use refusals::refusal::Refusal;
@@ -31,16 +31,16 @@ pub struct Sums {
 
 // The number of blocks that were added.
 pub fn block_number(account: &[i64]) -> i64
-    requires { List·length account.now ≡ accountWords }
-    ensures { result ≡ blockNumber account.now }
+    requires { List·length account.now ≡ account_words }
+    ensures { result ≡ block_number account.now }
 {
     account[BLOCK_NUMBER]
 }
 
 // Both sums for k.
 pub fn sums_at(account: &[i64], k: usize) -> Sums
-    requires { (List·length account.now ≡ accountWords) × (k ≤ 512) }
-    ensures { result ≡ record { cosine = cosineSum account.now k; sine = sineSum account.now k } }
+    requires { (List·length account.now ≡ account_words) × (k ≤ 512) }
+    ensures { result ≡ record { cosine = cosine_sum account.now k; sine = sine_sum account.now k } }
 {
     let cosine = account[COSINE_SUMS + k];
     let sine = account[SINE_SUMS + k];
@@ -85,7 +85,7 @@ fn add_sums(account: &mut [i64], at: usize, coefficients: &[i32], n: usize)
 
 // A block of which Spectrum has yielded the coefficients.
 fn add_block(account: &mut [i64], length: usize, cosine: &[i32], sine: &[i32])
-    requires { (List·length account.old ≡ accountWords) × (length ≤ 1024)
+    requires { (List·length account.old ≡ account_words) × (length ≤ 1024)
         × (length / 2 + 1 ≤ List·length cosine.now) × (length / 2 + 1 ≤ List·length sine.now) × (full account.old ≡ false) }
     ensures { BlockAdded length (word cosine.now) (word sine.now)
         account.old account.new }
@@ -107,7 +107,7 @@ pub fn add_to(
     sine: &mut [i32],
     scratch: &mut [i64],
 ) -> Answer
-    requires { List·length account.old ≡ accountWords }
+    requires { List·length account.old ≡ account_words }
     ensures { AccountPromise (given recording.now start length allowance
         (buffers cosine.old sine.old scratch.old))
         account.old account.new (buffers cosine.new sine.new scratch.new) result }

@@ -1,7 +1,7 @@
 // The record of a month in words that the caller lends (specs/Months.antt has its places). A program in C keeps its months so.
 ghost use Rattle.std.specs.Prelude.{false, ◌≡◌, length as List·length};
 ghost use Rattle.spectra.specs.Promises.{buffers};
-ghost use Rattle.months.specs.Months.{monthWords, lengthIn, length_of, unknownParty, accountAt, account, otherLength};
+ghost use Rattle.months.specs.Months.{month_words, length_in, length_of, unknown_party, account_at, account, other_length};
 ghost use Rattle.months.specs.Promises.{given, BeginPromise, ForParty, AddPromise, NumberPromise, SumsPromise};
 
 use crate::account;
@@ -38,7 +38,7 @@ pub enum SumsAnswer {
 
 // The length that stands with the mark; 0 where this is no mark.
 fn length_in(mark: i64) -> usize
-    ensures { result ≡ lengthIn mark }
+    ensures { result ≡ length_in mark }
 {
     if mark < MARKED {
         return 0;
@@ -56,22 +56,22 @@ pub fn length_of(month: &Record) -> usize
 
 // Whether the party is neither 1 nor 2.
 fn is_unknown(party: usize) -> bool
-    ensures { result ≡ unknownParty party }
+    ensures { result ≡ unknown_party party }
 {
     party != 1 && party != 2
 }
 
 // The place of a party's account.
 fn account_at(party: usize) -> usize
-    requires { unknownParty party ≡ false }
-    ensures { result ≡ accountAt party }
+    requires { unknown_party party ≡ false }
+    ensures { result ≡ account_at party }
 {
     1 + account::WORDS * (party - 1)
 }
 
 // A party's account, to be read.
 fn account_of(month: &[i64], party: usize) -> &[i64]
-    requires { (List·length month.now ≡ monthWords) × (unknownParty party ≡ false) }
+    requires { (List·length month.now ≡ month_words) × (unknown_party party ≡ false) }
     ensures { result.now ≡ account party month.now }
 {
     let from = account_at(party);
@@ -97,7 +97,7 @@ pub fn begin_in(month: &mut Record, length: usize) -> Outcome
 
 // Whether the month has no length, or another than the block's.
 fn is_other_length(month: &Record, length: usize) -> bool
-    ensures { result ≡ otherLength month.now length }
+    ensures { result ≡ other_length month.now length }
 {
     let own = length_of(month);
     if own == 0 {
@@ -118,7 +118,7 @@ fn add_for(
     sine: &mut [i32],
     scratch: &mut [i64],
 ) -> Answer
-    requires { (List·length month.old ≡ monthWords) × (unknownParty party ≡ false) }
+    requires { (List·length month.old ≡ month_words) × (unknown_party party ≡ false) }
     ensures { ForParty party (given recording.now start length allowance
         (buffers cosine.old sine.old scratch.old))
         month.old month.new (buffers cosine.new sine.new scratch.new) result }

@@ -4,7 +4,7 @@
 // tests/expect_month_sums.py, which shares nothing with the product.
 ghost use Rattle.std.specs.Prelude.{◌≡◌, ◌^◌, ◌≤◌, ◌<◌, nat_abs, length as List·length};
 ghost use Rattle.months.specs.Promises.{Held};
-ghost use Rattle.refusals.specs.Refusals.{scratchWords};
+ghost use Rattle.refusals.specs.Refusals.{scratch_words};
 
 use libc::STDOUT_FILENO;
 use months::record::{NumberAnswer, SumsAnswer};
@@ -81,7 +81,7 @@ fn row(value: i32) -> [i32; 2100]
 }
 
 fn scratch_words() -> [i64; MOST_SCRATCH]
-    ensures { scratchWords 1024 ≡ List·length result }
+    ensures { scratch_words 1024 ≡ List·length result }
 {
     [0; MOST_SCRATCH]
 }

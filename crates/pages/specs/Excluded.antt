@@ -21,20 +21,20 @@ module _ (page : List ℕ) (answer : Filled) where
   pub record Excluded : Type 0 where
     -- "The first line holds the words `k`, `cosine` and `sine`": K; "lines of 30 columns and a line feed": a space for it
     pub capital : Never (Seven 62) (at 3) 75
-    pub noLineFeed : Never (Seven 62) (at 30) 32
+    pub no_line_feed : Never (Seven 62) (at 30) 32
     -- "from k = 0 upwards": the line of k = 1; "right aligned": the digit 0 at the left end of its column
-    pub fromOne : Never (Seven 62) (at 34) 49
-    pub leftAligned : Never (Seven 62) (at 31) 48
+    pub from_one : Never (Seven 62) (at 34) 49
+    pub left_aligned : Never (Seven 62) (at 31) 48
     -- "cosine in 12": 7 a column earlier; the cosine's column with the sine
-    pub columnOfEleven : Never (Seven 62) (at 46) 55
+    pub column_of_eleven : Never (Seven 62) (at 46) 55
     pub exchanged : Never (Seven 62) (at 47) 48
     -- "one line for each k that Spectrum yields": the heading alone
-    pub linesLeftOut : Never (Seven 62) (bytes_of answer) 31
+    pub lines_left_out : Never (Seven 62) (bytes_of answer) 31
     -- "Bytes after the last line stay."
-    pub byteBehind : Never (Seven 63) (at 62) 0
+    pub byte_behind : Never (Seven 63) (at 62) 0
     -- 3 "for a page buffer too short": lines of 30 bytes taken; "which then is unchanged": the heading put before the test
-    pub linesOfThirty : Never (Seven 61) (number (filled answer)) 0
-    pub headingPut : Never (Seven 61) (at 0) 32
+    pub lines_of_thirty : Never (Seven 61) (number (filled answer)) 0
+    pub heading_put : Never (Seven 61) (at 0) 32
     -- "Order: 1, 2 .., 3": 3 before 2; the words of the sine not counted
-    pub threeFirst : Never (Page [] [] 0) (number (filled answer)) 3
-    pub sineNotCounted : Never (Page (pos 7 ∷ []) [] 62) (number (filled answer)) 0
+    pub three_first : Never (Page [] [] 0) (number (filled answer)) 3
+    pub sine_not_counted : Never (Page (pos 7 ∷ []) [] 62) (number (filled answer)) 0

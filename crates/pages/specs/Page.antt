@@ -2,15 +2,15 @@
 -- cosine and sine are the stored coefficients, coefficient k at k; N is the block length.
 use Rattle.std.specs.Prelude.{cond, List, [], ◌∷◌, ◌++◌, ℕ, ◌+◌, ◌*◌, ltb, ℤ}
 use Rattle.words.specs.Put.{joined}
-use Rattle.lengths.specs.Block.{spectrumYields}
+use Rattle.lengths.specs.Block.{spectrum_yields}
 use Rattle.refusals.specs.Refusals.{Verdict, refused, accepted}
-use Rattle.refusals.specs.Calls.{storedTests}
-use Rattle.text.specs.Decimal.{space, lineFeed, number, decimal}
-use Rattle.text.specs.Alignment.{rightAligned}
+use Rattle.refusals.specs.Calls.{stored_tests}
+use Rattle.text.specs.Decimal.{space, line_feed, number, decimal}
+use Rattle.text.specs.Alignment.{right_aligned}
 
 -- "Columns are k in 4, cosine in 12 and sine in 12, right aligned, with one space between." A line is "30 columns and a line feed"
 unfoldable pub columns : (k cosine sine : List ℕ) → List ℕ
-columns k cosine sine = rightAligned 4 k ++ space ++ rightAligned 12 cosine ++ space ++ rightAligned 12 sine ++ lineFeed
+columns k cosine sine = right_aligned 4 k ++ space ++ right_aligned 12 cosine ++ space ++ right_aligned 12 sine ++ line_feed
 
 -- "The first line holds the words `k`, `cosine` and `sine` in the same columns.": k, c o s i n e, s i n e
 unfoldable pub heading : List ℕ
@@ -26,14 +26,14 @@ lines cosine sine n = joined (λ k. line k (cosine k) (sine k)) n
 
 -- "Under it stands one line for each k that Spectrum yields"
 unfoldable pub page : ℕ → (cosine sine : ℕ → ℤ) → List ℕ
-page N cosine sine = heading ++ lines cosine sine (spectrumYields N)
+page N cosine sine = heading ++ lines cosine sine (spectrum_yields N)
 
 -- "Each line is exactly 31 bytes.": the heading, and a line for each k
-abbrev pub pageBytes : ℕ → ℕ
-pageBytes N = 31 * (1 + spectrumYields N)
+abbrev pub page_bytes : ℕ → ℕ
+page_bytes N = 31 * (1 + spectrum_yields N)
 
 -- "Order: 1, 2 (fewer coefficients stored than Spectrum yields), 3 for a page buffer too short", on the words that are stored and the
 -- bytes that are lent
-unfoldable pub pageVerdict : (stored : List ℕ) → ℕ → (room : ℕ) → Verdict
-pageVerdict stored N room =
-    storedTests N (spectrumYields N) stored (cond (ltb room (pageBytes N)) (refused 3) accepted)
+unfoldable pub page_verdict : (stored : List ℕ) → ℕ → (room : ℕ) → Verdict
+page_verdict stored N room =
+    stored_tests N (spectrum_yields N) stored (cond (ltb room (page_bytes N)) (refused 3) accepted)

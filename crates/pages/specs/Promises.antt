@@ -3,22 +3,22 @@
 use Rattle.std.specs.Prelude.{true, List, [], ◌∷◌, ◌≡◌, ℕ, ℤ, length}
 use Rattle.words.specs.Words.{word}
 use Rattle.words.specs.Put.{Put}
-use Rattle.lengths.specs.Block.{isLength}
+use Rattle.lengths.specs.Block.{is_length}
 use Rattle.refusals.specs.declared.refusal.Filled.{Filled}
 use Rattle.refusals.specs.Refusals.{Promise}
 use Rattle.refusals.specs.Answers.{filled, bytes_of}
-use Rattle.pages.specs.Page.{page, pageBytes, pageVerdict}
+use Rattle.pages.specs.Page.{page, page_bytes, page_verdict}
 
 -- the page stands at the front of the buffer. "Bytes after the last line stay."
 pub record PageDone (N : ℕ) (cosine sine : ℕ → ℤ) (buffer buffer' : List ℕ) (bytes : ℕ) : Type 0 where
   pub printed : Put buffer 0 (page N cosine sine) bytes buffer'
-  pub bytes-is : bytes ≡ pageBytes N
+  pub bytes_is : bytes ≡ page_bytes N
   -- what acceptance says of the length
-  pub length-ok : isLength N ≡ true
+  pub length_ok : is_length N ≡ true
 
 -- "3 for a page buffer too short, which then is unchanged", as after every refusal
 abbrev pub PagePromise : (cosine sine : List ℤ) → ℕ → (buffer buffer' : List ℕ) → Filled → Type 0
 PagePromise cosine sine N buffer buffer' answer =
-    Promise (filled answer) (pageVerdict (length cosine ∷ length sine ∷ []) N (length buffer))
+    Promise (filled answer) (page_verdict (length cosine ∷ length sine ∷ []) N (length buffer))
     (buffer' ≡ buffer)
     (PageDone N (word cosine) (word sine) buffer buffer' (bytes_of answer))

@@ -10,77 +10,77 @@ use lib.Seq.{drop_at, drop-drop}
 use Rattle.words.specs.Words.{word}
 use Rattle.words.specs.Put.{Put}
 use Rattle.words.proofs.Putting.{◌then◌}
-use Rattle.lengths.proofs.ElevenLengths.{length-le}
-use Rattle.little_endian.specs.Numbers.{AreBytes, signed, unsignedBytes}
-use Rattle.little_endian.proofs.Bytes.{unsigned_back, bytes-behind, four_bytes}
-use Rattle.little_endian.proofs.Signs.{bits_fit, signed-bits}
-use Rattle.pairfile.specs.File.{samplesAt, startOfA, startOfB, fileBytes, sampleCount}
-use Rattle.pairfile.specs.OwnFile.{pairFile}
+use Rattle.lengths.proofs.ElevenLengths.{length_le}
+use Rattle.little_endian.specs.Numbers.{AreBytes, signed, unsigned_bytes}
+use Rattle.little_endian.proofs.Bytes.{unsigned_back, bytes_behind, four_bytes}
+use Rattle.little_endian.proofs.Signs.{bits_fit, signed_bits}
+use Rattle.pairfile.specs.File.{samples_at, start_of_a, start_of_b, file_bytes, sample_count}
+use Rattle.pairfile.specs.OwnFile.{pair_file}
 use Rattle.pairfile.specs.Promises.{Sound}
 use Rattle.pairfile.specs.Laws.{Reads}
-use Rattle.pairfile.proofs.Samples.{samplesBytes, samples-length, sample-stands, samples-bytes}
+use Rattle.pairfile.proofs.Samples.{samples_bytes, samples_length, sample_stands, samples_bytes_lem}
 
 -- ---- a run of the writer
-module _ (a b : List ℤ) (N : ℕ) {r₁ r₂ r₃ : ℕ} {f₀ f₁ f₂ f₃ : List ℕ} (p₁ : Put f₀ 0 (unsignedBytes (length a)) r₁ f₁)
-    (p₂ : Put f₁ r₁ (unsignedBytes N) r₂ f₂) (p₃ : Put f₂ r₂ (samplesBytes a) r₃ f₃) where
-  pub b-ready : length b ≡ length a → fileBytes (length a) ≤ length f₀ → r₃ + 4 * length b ≤ length f₃
-  b-ready same room = omega (arith, samples-length a)
+module _ (a b : List ℤ) (N : ℕ) {r₁ r₂ r₃ : ℕ} {f₀ f₁ f₂ f₃ : List ℕ} (p₁ : Put f₀ 0 (unsigned_bytes (length a)) r₁ f₁)
+    (p₂ : Put f₁ r₁ (unsigned_bytes N) r₂ f₂) (p₃ : Put f₂ r₂ (samples_bytes a) r₃ f₃) where
+  pub b_ready : length b ≡ length a → file_bytes (length a) ≤ length f₀ → r₃ + 4 * length b ≤ length f₃
+  b_ready same room = omega (arith, samples_length a)
 
-  pub file-put : {r₄ : ℕ} {f₄ : List ℕ} → Put f₃ r₃ (samplesBytes b) r₄ f₄ → Put f₀ 0 (pairFile a b N) r₄ f₄
-  unfolding pairFile
-  file-put p₄ = p₁ then p₂ then p₃ then p₄
+  pub file_put : {r₄ : ℕ} {f₄ : List ℕ} → Put f₃ r₃ (samples_bytes b) r₄ f₄ → Put f₀ 0 (pair_file a b N) r₄ f₄
+  unfolding pair_file
+  file_put p₄ = p₁ then p₂ then p₃ then p₄
 
 -- ---- a sample is read where its bytes stand
-sample-back : (file : List ℕ) (at : ℕ) (xs : List ℤ) (rest : List ℕ) → drop at file ≡ samplesBytes xs ++ rest
-    → (n : ℕ) → n < length xs → nat_abs (word xs n) < 2 ^ 31 → samplesAt file at n ≡ word xs n
-sample-back file at xs rest e n h l =
-    let here = sym (drop-drop (4 * n) at file) ∙ ap (drop (4 * n)) e ∙ sample-stands xs n rest h in
-    ap signed (unsigned_back file (at + 4 * n) _ _ here (bits_fit (word xs n) l)) ∙ signed-bits (word xs n) l
+sample_back : (file : List ℕ) (at : ℕ) (xs : List ℤ) (rest : List ℕ) → drop at file ≡ samples_bytes xs ++ rest
+    → (n : ℕ) → n < length xs → nat_abs (word xs n) < 2 ^ 31 → samples_at file at n ≡ word xs n
+sample_back file at xs rest e n h l =
+    let here = sym (drop-drop (4 * n) at file) ∙ ap (drop (4 * n)) e ∙ sample_stands xs n rest h in
+    ap signed (unsigned_back file (at + 4 * n) _ _ here (bits_fit (word xs n) l)) ∙ signed_bits (word xs n) l
 
 -- ---- the file of a, b and N
 module _ (a b : List ℤ) (N : ℕ) where
   abbrev file : List ℕ
-  file = pairFile a b N
+  file = pair_file a b N
 
   -- what stands from byte 0, 4, 8 and 8 + 4 m on
-  from_start : drop 0 file ≡ unsignedBytes (length a) ++ (unsignedBytes N ++ (samplesBytes a ++ samplesBytes b))
-  unfolding pairFile
+  from_start : drop 0 file ≡ unsigned_bytes (length a) ++ (unsigned_bytes N ++ (samples_bytes a ++ samples_bytes b))
+  unfolding pair_file
   from_start = refl
 
-  from-length : drop 4 file ≡ unsignedBytes N ++ (samplesBytes a ++ samplesBytes b)
-  unfolding pairFile
-  from-length = refl
+  from_length : drop 4 file ≡ unsigned_bytes N ++ (samples_bytes a ++ samples_bytes b)
+  unfolding pair_file
+  from_length = refl
 
-  from-a : drop startOfA file ≡ samplesBytes a ++ samplesBytes b
-  unfolding pairFile
-  from-a = refl
+  from_a : drop start_of_a file ≡ samples_bytes a ++ samples_bytes b
+  unfolding pair_file
+  from_a = refl
 
-  from-b : drop (startOfB (length a)) file ≡ samplesBytes b ++ []
-  from-b =
-      sym (drop-drop (4 * length a) 8 file) ∙ ap (drop (4 * length a)) from-a
-      ∙ drop_at (samplesBytes a) (samplesBytes b) (4 * length a) (samples-length a) ∙ sym (append-nil (samplesBytes b))
+  from_b : drop (start_of_b (length a)) file ≡ samples_bytes b ++ []
+  from_b =
+      sym (drop-drop (4 * length a) 8 file) ∙ ap (drop (4 * length a)) from_a
+      ∙ drop_at (samples_bytes a) (samples_bytes b) (4 * length a) (samples_length a) ∙ sym (append-nil (samples_bytes b))
 
   module _ (same : length b ≡ length a) where
-    pub file-length : length file ≡ fileBytes (length a)
-    unfolding pairFile
-    file-length = omega (arith, length-append (samplesBytes a) (samplesBytes b), samples-length a, samples-length b)
+    pub file_length : length file ≡ file_bytes (length a)
+    unfolding pair_file
+    file_length = omega (arith, length-append (samples_bytes a) (samples_bytes b), samples_length a, samples_length b)
 
     module _ (s : Sound (length a) N (word a) (word b)) where
-      count-back : sampleCount file ≡ length a
-      count-back = unsigned_back file 0 (length a) _ from_start (omega (arith, s.most))
+      count_back : sample_count file ≡ length a
+      count_back = unsigned_back file 0 (length a) _ from_start (omega (arith, s.most))
 
-      pub own-reads : Reads file (length a) N (word a) (word b)
-      own-reads = record {
-        count = count-back;
-        blocks = unsigned_back file 4 N _ from-length (omega (arith, length-le N s.length-ok));
-        ofA = λ n h. sample-back file startOfA a _ from-a n h (omega (arith, s.rangeOfA n h));
-        ofB = λ n h. rw count-back (sample-back file (startOfB (length a)) b _ from-b n (omega arith) (omega (arith, s.rangeOfB n h)));
+      pub own_reads : Reads file (length a) N (word a) (word b)
+      own_reads = record {
+        count = count_back;
+        blocks = unsigned_back file 4 N _ from_length (omega (arith, length_le N s.length_ok));
+        of_a = λ n h. sample_back file start_of_a a _ from_a n h (omega (arith, s.range_of_a n h));
+        of_b = λ n h. rw count_back (sample_back file (start_of_b (length a)) b _ from_b n (omega arith) (omega (arith, s.range_of_b n h)));
       }
 
-  pub own-bytes : AreBytes file
-  unfolding pairFile
-  own-bytes =
-      bytes-behind (unsignedBytes (length a) ++ unsignedBytes N ++ samplesBytes a) (samplesBytes b)
-      (bytes-behind (unsignedBytes (length a) ++ unsignedBytes N) (samplesBytes a)
-      (bytes-behind (unsignedBytes (length a)) (unsignedBytes N) (four_bytes (length a)) (four_bytes N)) (samples-bytes a))
-      (samples-bytes b)
+  pub own_bytes : AreBytes file
+  unfolding pair_file
+  own_bytes =
+      bytes_behind (unsigned_bytes (length a) ++ unsigned_bytes N ++ samples_bytes a) (samples_bytes b)
+      (bytes_behind (unsigned_bytes (length a) ++ unsigned_bytes N) (samples_bytes a)
+      (bytes_behind (unsigned_bytes (length a)) (unsigned_bytes N) (four_bytes (length a)) (four_bytes N)) (samples_bytes_lem a))
+      (samples_bytes_lem b)

@@ -11,85 +11,85 @@ use lib.ListN.{length, take}
 use lib.Seq.{length-take-le, get_or-take}
 use Rattle.words.specs.Words.{Samples, word, Written}
 use Rattle.words.proofs.Writing.{front, written_same}
-use Rattle.refusals.specs.Refusals.{accepted, someBelow}
-use Rattle.refusals.proofs.Conditions.{AllReach, all-reach, reach-all}
-use Rattle.pairfile.specs.File.{sampleCount, fileBytes, fileVerdict}
-use Rattle.pairfile.specs.OwnFile.{pairFile, writeVerdict}
+use Rattle.refusals.specs.Refusals.{accepted, some_below}
+use Rattle.refusals.proofs.Conditions.{AllReach, all_reach, reach_all}
+use Rattle.pairfile.specs.File.{sample_count, file_bytes, file_verdict}
+use Rattle.pairfile.specs.OwnFile.{pair_file, write_verdict}
 use Rattle.refusals.specs.Answers.{filled}
-use Rattle.pairfile.specs.Answers.{verdictOf, sizesOf}
+use Rattle.pairfile.specs.Answers.{verdict_of, sizes_of}
 use Rattle.pairfile.specs.Promises.{ReadDone, ReadPromise}
 use Rattle.pairfile.specs.Laws.{Reads, InputReadBack, InputHasOneFile, WrittenAndRead, ReadAndWritten}
-use Rattle.pairfile.proofs.Verdicts.{count-good, Passed3, accepted-3, file-accepted}
-use Rattle.pairfile.proofs.WriteVerdicts.{Passed, input-passed, input-accepted}
-use Rattle.pairfile.proofs.OneFile.{one-file}
-use Rattle.pairfile.proofs.OwnFiles.{file-length, own-reads, own-bytes}
+use Rattle.pairfile.proofs.Verdicts.{count_good, Passed3, accepted_3, file_accepted}
+use Rattle.pairfile.proofs.WriteVerdicts.{Passed, input_passed, input_accepted}
+use Rattle.pairfile.proofs.OneFile.{one_file}
+use Rattle.pairfile.proofs.OwnFiles.{file_length, own_reads, own_bytes}
 
 -- ---- an accepted input
 module _ (a b : List ℤ) (N room : ℕ) (s : Passed a b N room) where
-  reads : Reads (pairFile a b N) (length a) N (word a) (word b)
-  reads = own-reads a b N s.same s.sound
+  reads : Reads (pair_file a b N) (length a) N (word a) (word b)
+  reads = own_reads a b N s.same s.sound
 
-  file-read : (lent : List ℕ) → someBelow (length a) lent ≡ false → fileVerdict (pairFile a b N) lent ≡ accepted
-  file-read lent reach =
+  file_read : (lent : List ℕ) → some_below (length a) lent ≡ false → file_verdict (pair_file a b N) lent ≡ accepted
+  file_read lent reach =
       let t = s.sound in
-      let bytes = file-length a b N s.same in
-      file-accepted (pairFile a b N) lent
+      let bytes = file_length a b N s.same in
+      file_accepted (pair_file a b N) lent
       (record {
         past = record {
-          past = record { header = omega (arith, bytes); count = rw reads.count (count-good (length a) t.some t.most) };
+          past = record { header = omega (arith, bytes); count = rw reads.count (count_good (length a) t.some t.most) };
           bytes = rw reads.count bytes;
         };
-        length-ok = rw reads.blocks t.length-ok;
+        length_ok = rw reads.blocks t.length_ok;
         reach = rw reads.count reach;
       })
-      (λ n h. let l = rw reads.count at h in rw (reads.ofA n l) (t.rangeOfA n l))
-      (λ n h. let l = rw reads.count at h in rw (reads.ofB n l) (t.rangeOfB n l))
+      (λ n h. let l = rw reads.count at h in rw (reads.of_a n l) (t.range_of_a n l))
+      (λ n h. let l = rw reads.count at h in rw (reads.of_b n l) (t.range_of_b n l))
 
-pub input-read-back : InputReadBack
-input-read-back a b N room ok = let s = input-passed a b N room ok in (file-read a b N room s, reads a b N room s)
+pub input_read_back : InputReadBack
+input_read_back a b N room ok = let s = input_passed a b N room ok in (file_read a b N room s, reads a b N room s)
 
-pub input-has-one-file : InputHasOneFile
-input-has-one-file a b N room ok file lent bytes accepts r =
-    let s = input-passed a b N room ok in
+pub input_has_one_file : InputHasOneFile
+input_has_one_file a b N room ok file lent bytes accepts r =
+    let s = input_passed a b N room ok in
     let own = reads a b N room s in
-    one-file file (pairFile a b N) lent [] bytes (own-bytes a b N) accepts (file-read a b N room s [] refl)
+    one_file file (pair_file a b N) lent [] bytes (own_bytes a b N) accepts (file_read a b N room s [] refl)
     (record {
       count = r.count ∙ sym own.count;
       blocks = r.blocks ∙ sym own.blocks;
-      ofA = λ n h. let l = rw own.count at h in r.ofA n l ∙ sym (own.ofA n l);
-      ofB = λ n h. let l = rw own.count at h in r.ofB n l ∙ sym (own.ofB n l);
+      of_a = λ n h. let l = rw own.count at h in r.of_a n l ∙ sym (own.of_a n l);
+      of_b = λ n h. let l = rw own.count at h in r.of_b n l ∙ sym (own.of_b n l);
     })
 
 -- ---- both calls
-pub written-and-read : WrittenAndRead
-written-and-read a b N buffer buffer' wrote p ok c d c' d' answer q for-a for-b =
+pub written_and_read : WrittenAndRead
+written_and_read a b N buffer buffer' wrote p ok c d c' d' answer q for-a for-b =
     record {
-      verdict = is-accepted;
+      verdict = is_accepted;
       count = count;
-      blocks = done.length-is ∙ back.blocks;
-      wordsOfA = written_same done.wordsOfA (sym count) back.ofA;
-      wordsOfB = written_same done.wordsOfB (s.same ∙ sym count) (λ n h. back.ofB n (omega (arith, s.same)));
+      blocks = done.length_is ∙ back.blocks;
+      words_of_a = written_same done.words_of_a (sym count) back.of_a;
+      words_of_b = written_same done.words_of_b (s.same ∙ sym count) (λ n h. back.of_b n (omega (arith, s.same)));
     }
   where
     s : Passed a b N (length buffer)
-    s = input-passed a b N (length buffer) (sym p.verdict ∙ ok)
+    s = input_passed a b N (length buffer) (sym p.verdict ∙ ok)
 
-    back : Reads (pairFile a b N) (length a) N (word a) (word b)
+    back : Reads (pair_file a b N) (length a) N (word a) (word b)
     back = reads a b N (length buffer) s
 
-    promise : ReadPromise (pairFile a b N) c d c' d' answer
+    promise : ReadPromise (pair_file a b N) c d c' d' answer
     promise = rw (p.done ok).file.front at q
 
-    is-accepted : verdictOf answer ≡ accepted
-    is-accepted =
-        promise.verdict ∙ file-read a b N (length buffer) s (length c ∷ length d ∷ [])
-        (all-reach (length a) (length c ∷ length d ∷ []) (for-a, (for-b, tt)))
+    is_accepted : verdict_of answer ≡ accepted
+    is_accepted =
+        promise.verdict ∙ file_read a b N (length buffer) s (length c ∷ length d ∷ [])
+        (all_reach (length a) (length c ∷ length d ∷ []) (for-a, (for-b, tt)))
 
-    done : ReadDone (pairFile a b N) c d c' d' (sizesOf answer).samples (sizesOf answer).length
-    done = promise.done is-accepted
+    done : ReadDone (pair_file a b N) c d c' d' (sizes_of answer).samples (sizes_of answer).length
+    done = promise.done is_accepted
 
-    count : (sizesOf answer).samples ≡ length a
-    count = done.samples-is ∙ back.count
+    count : (sizes_of answer).samples ≡ length a
+    count = done.samples_is ∙ back.count
 
 -- the first m words of a recording that hold the samples z
 module _ (m : ℕ) {z : Samples} {before recording : List ℤ} (w : Written 0 m z before recording) (reach : m ≤ length before) where
@@ -108,68 +108,68 @@ module _ (file : List ℕ) (a b a' b' : List ℤ) (m N : ℕ) (done : ReadDone f
   abbrev y : List ℤ
   y = take m b'
 
-  of-a : length x ≡ m
-  of-a = kept m done.wordsOfA for-a
+  of_a_lem : length x ≡ m
+  of_a_lem = kept m done.words_of_a for-a
 
-  of-b : length y ≡ m
-  of-b = kept m done.wordsOfB for-b
+  of_b_lem : length y ≡ m
+  of_b_lem = kept m done.words_of_b for-b
 
-  read-passed : (room : ℕ) → fileBytes m ≤ room → Passed x y N room
-  read-passed room fits =
+  read_passed : (room : ℕ) → file_bytes m ≤ room → Passed x y N room
+  read_passed room fits =
       let s = done.sound in
       record {
-        same = of-b ∙ sym of-a;
+        same = of_b_lem ∙ sym of_a_lem;
         sound = record {
-          some = omega (arith, of-a, s.some);
-          most = omega (arith, of-a, s.most);
-          length-ok = s.length-ok;
-          rangeOfA = λ n h. let l = rw of-a at h in rw (holds m done.wordsOfA for-a n l) (s.rangeOfA n l);
-          rangeOfB = λ n h. let l = rw of-a at h in rw (holds m done.wordsOfB for-b n l) (s.rangeOfB n l);
+          some = omega (arith, of_a_lem, s.some);
+          most = omega (arith, of_a_lem, s.most);
+          length_ok = s.length_ok;
+          range_of_a = λ n h. let l = rw of_a_lem at h in rw (holds m done.words_of_a for-a n l) (s.range_of_a n l);
+          range_of_b = λ n h. let l = rw of_a_lem at h in rw (holds m done.words_of_b for-b n l) (s.range_of_b n l);
         };
-        fits = omega (arith, of-a);
+        fits = omega (arith, of_a_lem);
       }
 
-  read-reads : Reads file (length x) N (word x) (word y)
-  read-reads = record {
-    count = sym done.samples-is ∙ sym of-a;
-    blocks = sym done.length-is;
-    ofA = λ n h. let l = rw of-a at h in sym (holds m done.wordsOfA for-a n l);
-    ofB = λ n h. let l = rw of-a at h in sym (holds m done.wordsOfB for-b n l);
+  read_reads : Reads file (length x) N (word x) (word y)
+  read_reads = record {
+    count = sym done.samples_is ∙ sym of_a_lem;
+    blocks = sym done.length_is;
+    of_a = λ n h. let l = rw of_a_lem at h in sym (holds m done.words_of_a for-a n l);
+    of_b = λ n h. let l = rw of_a_lem at h in sym (holds m done.words_of_b for-b n l);
   }
 
-pub read-and-written : ReadAndWritten
-read-and-written file a b a' b' answer bytes p ok buffer buffer' wrote q room =
-    (is-accepted, (q.done is-accepted).file.front ∙ sym (input-has-one-file _ _ N (length buffer) stated file lent bytes verdict same))
+pub read_and_written : ReadAndWritten
+read_and_written file a b a' b' answer bytes p ok buffer buffer' wrote q room =
+    (is_accepted, (q.done is_accepted).file.front ∙ sym (input_has_one_file _ _ N (length buffer) stated file lent bytes verdict same))
   where
     m : ℕ
-    m = (sizesOf answer).samples
+    m = (sizes_of answer).samples
 
     N : ℕ
-    N = (sizesOf answer).length
+    N = (sizes_of answer).length
 
     lent : List ℕ
     lent = length a ∷ length b ∷ []
 
-    verdict : fileVerdict file lent ≡ accepted
+    verdict : file_verdict file lent ≡ accepted
     verdict = sym p.verdict ∙ ok
 
     done : ReadDone file a b a' b' m N
     done = p.done ok
 
     passed : Passed3 file lent
-    passed = accepted-3 file lent verdict
+    passed = accepted_3 file lent verdict
 
     reach : AllReach m lent
-    reach = rw done.samples-is (reach-all (sampleCount file) lent passed.reach)
+    reach = rw done.samples_is (reach_all (sample_count file) lent passed.reach)
 
     same : Reads file (length (take m a')) N (word (take m a')) (word (take m b'))
-    same = read-reads file a b a' b' m N done reach.0 reach.1.0
+    same = read_reads file a b a' b' m N done reach.0 reach.1.0
 
-    stated : writeVerdict (take m a') (take m b') N (length buffer) ≡ accepted
+    stated : write_verdict (take m a') (take m b') N (length buffer) ≡ accepted
     stated =
-        input-accepted _ _ N (length buffer)
-        (read-passed file a b a' b' m N done reach.0 reach.1.0 (length buffer)
-        (omega (arith, passed.past.bytes, done.samples-is)))
+        input_accepted _ _ N (length buffer)
+        (read_passed file a b a' b' m N done reach.0 reach.1.0 (length buffer)
+        (omega (arith, passed.past.bytes, done.samples_is)))
 
-    is-accepted : filled wrote ≡ accepted
-    is-accepted = q.verdict ∙ stated
+    is_accepted : filled wrote ≡ accepted
+    is_accepted = q.verdict ∙ stated

@@ -14,54 +14,54 @@ use mir.Val.{SFits, to_z, of_z}
 use mir.Facts.{to_z-of_z}
 use Rattle.words.specs.Words.{word}
 use Rattle.words.specs.Put.{Put}
-use Rattle.words.proofs.Putting.{put-none, ◌then◌}
-use Rattle.little_endian.specs.Numbers.{AreBytes, bits, signedBytes}
-use Rattle.little_endian.proofs.Bytes.{bytes-behind, four_bytes}
+use Rattle.words.proofs.Putting.{put_none, ◌then◌}
+use Rattle.little_endian.specs.Numbers.{AreBytes, bits, signed_bytes}
+use Rattle.little_endian.proofs.Bytes.{bytes_behind, four_bytes}
 
-abbrev pub samplesBytes : List ℤ → List ℕ
-samplesBytes xs = flat_map signedBytes xs
+abbrev pub samples_bytes : List ℤ → List ℕ
+samples_bytes xs = flat_map signed_bytes xs
 
-pub samples-length : (xs : List ℤ) → length (samplesBytes xs) ≡ 4 * length xs
+pub samples_length : (xs : List ℤ) → length (samples_bytes xs) ≡ 4 * length xs
 unfolding flat_map
-samples-length [] = refl
-samples-length (x ∷ xs) = omega (arith, samples-length xs)
+samples_length [] = refl
+samples_length (x ∷ xs) = omega (arith, samples_length xs)
 
 -- of a recording and one sample more
-samples-behind : (xs : List ℤ) (x : ℤ) → samplesBytes (xs ++ (x ∷ [])) ≡ samplesBytes xs ++ signedBytes x
+samples_behind : (xs : List ℤ) (x : ℤ) → samples_bytes (xs ++ (x ∷ [])) ≡ samples_bytes xs ++ signed_bytes x
 unfolding flat_map
-samples-behind [] x = append-nil _
-samples-behind (y ∷ xs) x = rw (samples-behind xs x) (sym (append_assoc (signedBytes y) (samplesBytes xs) (signedBytes x)))
+samples_behind [] x = append-nil _
+samples_behind (y ∷ xs) x = rw (samples_behind xs x) (sym (append_assoc (signed_bytes y) (samples_bytes xs) (signed_bytes x)))
 
 -- ---- a loop that has put i samples
-pub no-sample : {file : List ℕ} {at : ℕ} → at ≤ length file → Put file at (samplesBytes []) at file
+pub no_sample : {file : List ℕ} {at : ℕ} → at ≤ length file → Put file at (samples_bytes []) at file
 unfolding flat_map
-no-sample h = put-none h
+no_sample h = put_none h
 
 module _ (xs : List ℤ) {file : List ℕ} {at : ℕ} where
-  module _ {i next : ℕ} {file₁ : List ℕ} (p : Put file at (samplesBytes (take i xs)) next file₁) (h : i < length xs) where
-    pub sample-room : at + 4 * length xs ≤ length file → next + 4 ≤ length file₁
-    sample-room r = omega (arith, p.next-is, p.len, samples-length (take i xs), length-take-le i xs (omega arith))
+  module _ {i next : ℕ} {file₁ : List ℕ} (p : Put file at (samples_bytes (take i xs)) next file₁) (h : i < length xs) where
+    pub sample_room : at + 4 * length xs ≤ length file → next + 4 ≤ length file₁
+    sample_room r = omega (arith, p.next_is, p.len, samples_length (take i xs), length-take-le i xs (omega arith))
 
-    pub sample-more : {q : ℕ} {file₂ : List ℕ} → Put file₁ next (signedBytes (to_z w32 (of_z w32 (word xs i)))) q file₂
-        → SFits w32 (word xs i) → Put file at (samplesBytes (take (i + 1) xs)) q file₂
-    sample-more s f =
-        rw (add-one i, take-suc xs i (pos 0) h, samples-behind (take i xs) (word xs i)) (p then (rw (to_z-of_z f) at s))
+    pub sample_more : {q : ℕ} {file₂ : List ℕ} → Put file₁ next (signed_bytes (to_z w32 (of_z w32 (word xs i)))) q file₂
+        → SFits w32 (word xs i) → Put file at (samples_bytes (take (i + 1) xs)) q file₂
+    sample_more s f =
+        rw (add-one i, take-suc xs i (pos 0) h, samples_behind (take i xs) (word xs i)) (p then (rw (to_z-of_z f) at s))
 
-  pub all-samples : {i next : ℕ} {file₁ : List ℕ} → Put file at (samplesBytes (take i xs)) next file₁ → length xs ≤ i
-      → Put file at (samplesBytes xs) next file₁
-  all-samples {i} p h = rw (take_all i xs h) at p
+  pub all_samples : {i next : ℕ} {file₁ : List ℕ} → Put file at (samples_bytes (take i xs)) next file₁ → length xs ≤ i
+      → Put file at (samples_bytes xs) next file₁
+  all_samples {i} p h = rw (take_all i xs h) at p
 
 -- ---- where sample n stands
-pub sample-stands : (xs : List ℤ) (n : ℕ) (rest : List ℕ) → n < length xs
-    → drop (4 * n) (samplesBytes xs ++ rest) ≡ signedBytes (word xs n) ++ (samplesBytes (drop (suc n) xs) ++ rest)
+pub sample_stands : (xs : List ℤ) (n : ℕ) (rest : List ℕ) → n < length xs
+    → drop (4 * n) (samples_bytes xs ++ rest) ≡ signed_bytes (word xs n) ++ (samples_bytes (drop (suc n) xs) ++ rest)
 unfolding flat_map
-sample-stands [] n rest h = absurd (omega arith)
-sample-stands (x ∷ xs) zero rest h = refl
-sample-stands (x ∷ xs) (suc n) rest h =
+sample_stands [] n rest h = absurd (omega arith)
+sample_stands (x ∷ xs) zero rest h = refl
+sample_stands (x ∷ xs) (suc n) rest h =
     let four-more : 4 * suc n ≡ suc (suc (suc (suc (4 * n)))) = omega arith in
-    rw four-more (sample-stands xs n rest (omega arith))
+    rw four-more (sample_stands xs n rest (omega arith))
 
-pub samples-bytes : (xs : List ℤ) → AreBytes (samplesBytes xs)
+pub samples_bytes_lem : (xs : List ℤ) → AreBytes (samples_bytes xs)
 unfolding flat_map
-samples-bytes [] = λ k h. absurd (omega arith)
-samples-bytes (x ∷ xs) = bytes-behind (signedBytes x) (samplesBytes xs) (four_bytes (bits x)) (samples-bytes xs)
+samples_bytes_lem [] = λ k h. absurd (omega arith)
+samples_bytes_lem (x ∷ xs) = bytes_behind (signed_bytes x) (samples_bytes xs) (four_bytes (bits x)) (samples_bytes_lem xs)

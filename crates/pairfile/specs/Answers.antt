@@ -6,11 +6,11 @@ use Rattle.pairfile.specs.declared.reader.Sizes.{Sizes}
 use Rattle.pairfile.specs.declared.reader.ReadAnswer.{ReadAnswer}
 use Rattle.pairfile.specs.declared.reader.ReadAnswer.TheVariants.{Refused, Read}
 
-abbrev pub verdictOf : ReadAnswer → Verdict
-verdictOf (Refused r) = refusal.verdictOf r
-verdictOf (Read sizes) = accepted
+abbrev pub verdict_of : ReadAnswer → Verdict
+verdict_of (Refused r) = refusal.verdict_of r
+verdict_of (Read sizes) = accepted
 
 -- the sizes of a file that was read, m and N; 0 in every refusal
-abbrev pub sizesOf : ReadAnswer → Sizes
-sizesOf (Refused r) = record { samples = 0; length = 0 }
-sizesOf (Read sizes) = sizes
+abbrev pub sizes_of : ReadAnswer → Sizes
+sizes_of (Refused r) = record { samples = 0; length = 0 }
+sizes_of (Read sizes) = sizes

@@ -7,8 +7,8 @@ use Rattle.refusals.specs.Answers.{filled}
 use Rattle.refusals.specs.Exclusion.{nines, Never}
 use Rattle.little_endian.specs.Numbers.{byte}
 use Rattle.pairfile.specs.declared.reader.ReadAnswer.{ReadAnswer}
-use Rattle.pairfile.specs.File.{badCount}
-use Rattle.pairfile.specs.Answers.{verdictOf, sizesOf}
+use Rattle.pairfile.specs.File.{bad_count}
+use Rattle.pairfile.specs.Answers.{verdict_of, sizes_of}
 use Rattle.pairfile.specs.Promises.{ReadPromise, WritePromise}
 
 -- m = 1, N = 2, a = 3, and the four bytes of b
@@ -19,8 +19,8 @@ file b = 1 ∷ 0 ∷ 0 ∷ 0 ∷ 2 ∷ 0 ∷ 0 ∷ 0 ∷ 3 ∷ 0 ∷ 0 ∷ 0 ∷
 abbrev five : List ℕ
 five = 5 ∷ 0 ∷ 0 ∷ 0 ∷ []
 
-abbrev tooLarge : List ℕ
-tooLarge = 65 ∷ 66 ∷ 15 ∷ 0 ∷ []
+abbrev too_large : List ℕ
+too_large = 65 ∷ 66 ∷ 15 ∷ 0 ∷ []
 
 -- ---- the reader. What it leaves in the recordings, and its answer, may be anything
 module _ (a b : List ℤ) (answer : ReadAnswer) where
@@ -29,16 +29,16 @@ module _ (a b : List ℤ) (answer : ReadAnswer) where
 
   pub record ReadExcluded : Type 0 where
     -- "a then b": b before a
-    pub bFirst : Never (Read (file five)) (word a 0) (pos 5)
+    pub b_first : Never (Read (file five)) (word a 0) (pos 5)
     -- "Sizes first: sample count m .., block length N": N for m
-    pub sizesExchanged : Never (Read (file five)) (sizesOf answer).samples 2
+    pub sizes_exchanged : Never (Read (file five)) (sizes_of answer).samples 2
     -- 6 "over all m samples of a and then of b": no sample of b examined; a written before b is examined
-    pub bUnchecked : Never (Read (file tooLarge)) (number (verdictOf answer)) 0
-    pub aWritten : Never (Read (file tooLarge)) (word a 0) (pos 3)
+    pub b_unchecked : Never (Read (file too_large)) (number (verdict_of answer)) 0
+    pub a_written : Never (Read (file too_large)) (word a 0) (pos 3)
     -- "A file tests 7, 8, 9, 1, 3, then 6": 1 before 9
-    pub oneBeforeNine : Never (Read (1 ∷ 0 ∷ 0 ∷ 0 ∷ 3 ∷ 0 ∷ 0 ∷ 0 ∷ [])) (number (verdictOf answer)) 1
+    pub one_before_nine : Never (Read (1 ∷ 0 ∷ 0 ∷ 0 ∷ 3 ∷ 0 ∷ 0 ∷ 0 ∷ [])) (number (verdict_of answer)) 1
     -- 8, "m is 0 or above 4,096": 4,096 refused
-    pub mostRefused : badCount 4096 ≡ true → ⊥
+    pub most_refused : bad_count 4096 ≡ true → ⊥
 
 -- ---- the writer
 module _ (buffer : List ℕ) (answer : Filled) where
@@ -50,15 +50,15 @@ module _ (buffer : List ℕ) (answer : Filled) where
 
   pub record WriteExcluded : Type 0 where
     -- m, N, a, b: N before m, and b before a
-    pub lengthFirst : Never (Write three (pos 5 ∷ []) 2 16) (byte buffer 0) 2
-    pub bFirst : Never (Write three (pos 5 ∷ []) 2 16) (byte buffer 8) 5
+    pub length_first : Never (Write three (pos 5 ∷ []) 2 16) (byte buffer 0) 2
+    pub b_first : Never (Write three (pos 5 ∷ []) 2 16) (byte buffer 8) 5
     -- "Bytes after the file stay."
-    pub byteBehind : Never (Write three (pos 5 ∷ []) 2 17) (byte buffer 16) 0
+    pub byte_behind : Never (Write three (pos 5 ∷ []) 2 17) (byte buffer 16) 0
     -- "Order: 8 (by the length of a), 11, 1, 6 (over all of a, then of b), 3.": 11 before 8, 1 before 11, 3 before 6
-    pub elevenFirst : Never (Write [] three 2 16) (number (filled answer)) 11
-    pub oneFirst : Never (Write three [] 3 16) (number (filled answer)) 1
-    pub threeFirst : Never (Write (pos 1000001 ∷ []) three 2 0) (number (filled answer)) 3
+    pub eleven_first : Never (Write [] three 2 16) (number (filled answer)) 11
+    pub one_first : Never (Write three [] 3 16) (number (filled answer)) 1
+    pub three_first : Never (Write (pos 1000001 ∷ []) three 2 0) (number (filled answer)) 3
     -- no sample of b examined; the place lost; a buffer of one byte less than 8 + 8m taken
-    pub bUnchecked : Never (Write three (pos 1000001 ∷ []) 2 16) (number (filled answer)) 0
-    pub placeLost : Never (Write (pos 3 ∷ pos 1000001 ∷ []) (nines 2) 2 24) (place (filled answer)) 0
-    pub aByteShort : Never (Write three three 2 15) (number (filled answer)) 0
+    pub b_unchecked : Never (Write three (pos 1000001 ∷ []) 2 16) (number (filled answer)) 0
+    pub place_lost : Never (Write (pos 3 ∷ pos 1000001 ∷ []) (nines 2) 2 24) (place (filled answer)) 0
+    pub a_byte_short : Never (Write three three 2 15) (number (filled answer)) 0

@@ -1,10 +1,10 @@
 // The number of samples of a recording in a pair file.
 ghost use Rattle.std.specs.Prelude.{◌≡◌};
-ghost use Rattle.pairfile.specs.File.{badCount};
+ghost use Rattle.pairfile.specs.File.{bad_count};
 
 // Whether m is 0 or above 4,096.
 pub fn bad_count(m: usize) -> bool
-    ensures { result ≡ badCount m }
+    ensures { result ≡ bad_count m }
 {
     if m < 1 {
         return true;

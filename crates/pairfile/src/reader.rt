@@ -1,9 +1,9 @@
 // The reader of the pair file.
 ghost use Rattle.std.specs.Prelude.{◌+◌, ◌*◌, ◌≤◌, length};
 ghost use Rattle.words.specs.Words.{Written};
-ghost use Rattle.lengths.specs.Block.{largestSample};
+ghost use Rattle.lengths.specs.Block.{largest_sample};
 ghost use Rattle.refusals.specs.Passes.{OnePass};
-ghost use Rattle.pairfile.specs.File.{samplesAt};
+ghost use Rattle.pairfile.specs.File.{samples_at};
 ghost use Rattle.pairfile.specs.Promises.{ReadPromise};
 
 use crate::count::bad_count;
@@ -30,7 +30,7 @@ pub enum ReadAnswer {
 // The pass over the m samples that stand in bytes, from byte `start` on: up to the first that is out of range, with a look at each.
 fn first_out(file: &[u8], start: usize, m: usize) -> Pass
     requires { start + 4 * m ≤ length file.now }
-    ensures { OnePass largestSample (samplesAt file.now start) 0 m result }
+    ensures { OnePass largest_sample (samples_at file.now start) 0 m result }
 {
     let mut looks = 0;
     let mut i = 0;
@@ -48,7 +48,7 @@ fn first_out(file: &[u8], start: usize, m: usize) -> Pass
 // The m samples from byte `start` on, to the front of a recording.
 fn fill(file: &[u8], start: usize, m: usize, recording: &mut [i32])
     requires { (start + 4 * m ≤ length file.now) × (m ≤ length recording.old) }
-    ensures { Written 0 m (samplesAt file.now start) recording.old recording.new }
+    ensures { Written 0 m (samples_at file.now start) recording.old recording.new }
 {
     let mut i = 0;
     while i < m {

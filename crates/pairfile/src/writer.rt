@@ -2,8 +2,8 @@
 ghost use mathlib.Core.List.{flat_map};
 ghost use Rattle.std.specs.Prelude.{◌≡◌, ◌+◌, ◌*◌, ◌≤◌, length};
 ghost use Rattle.words.specs.Put.{Put};
-ghost use Rattle.little_endian.specs.Numbers.{signedBytes};
-ghost use Rattle.pairfile.specs.OwnFile.{pairFile};
+ghost use Rattle.little_endian.specs.Numbers.{signed_bytes};
+ghost use Rattle.pairfile.specs.OwnFile.{pair_file};
 ghost use Rattle.pairfile.specs.Promises.{WritePromise};
 
 use crate::count::bad_count;
@@ -15,7 +15,7 @@ use refusals::refusal::{Filled, Refusal};
 // The samples of a recording, put from byte `at` on; the answer is the place behind them.
 fn put_samples(recording: &[i32], file: &mut [u8], at: usize) -> usize
     requires { at + 4 * length recording.now ≤ length file.old }
-    ensures { Put file.old at (flat_map signedBytes recording.now) result file.new }
+    ensures { Put file.old at (flat_map signed_bytes recording.now) result file.new }
 {
     let mut next = at;
     let mut i = 0;
@@ -30,7 +30,7 @@ fn put_samples(recording: &[i32], file: &mut [u8], at: usize) -> usize
 // The whole file, put from byte 0 on; the answer is the number of its bytes.
 fn put_file(a: &[i32], b: &[i32], n: usize, file: &mut [u8]) -> usize
     requires { (length a.now ≤ 4096) × (length b.now ≡ length a.now) × (n ≤ 1024) × (8 + 8 * length a.now ≤ length file.old) }
-    ensures { Put file.old 0 (pairFile a.now b.now n) result file.new }
+    ensures { Put file.old 0 (pair_file a.now b.now n) result file.new }
 {
     let of_length = put_unsigned(a.len() as u32, file, 0);
     let of_a = put_unsigned(n as u32, file, of_length);

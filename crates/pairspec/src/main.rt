@@ -1,7 +1,7 @@
 // pairspec: reads a pair file from standard input and prints the spectra of its blocks (document 01, "The pair file"). All that it prints
 // is what the library function `report::put_output` puts into the page: the definition `output` of the bytes that were read.
 ghost use Rattle.std.specs.Prelude.{◌≡◌, length};
-ghost use Rattle.refusals.specs.Refusals.{scratchWords};
+ghost use Rattle.refusals.specs.Refusals.{scratch_words};
 
 use libc::{STDIN_FILENO, STDOUT_FILENO};
 use refusals::length::MOST_SCRATCH;
@@ -27,7 +27,7 @@ fn coefficients() -> [i32; 1024]
 }
 
 fn scratch_words() -> [i64; MOST_SCRATCH]
-    ensures { scratchWords 1024 ≡ length result }
+    ensures { scratch_words 1024 ≡ length result }
 {
     [0; MOST_SCRATCH]
 }

@@ -8,84 +8,84 @@ use Prim.Native.Nat.{ℕ, ◌+◌, min, ◌≤◌, ◌<◌}
 use native.Mathlib.Omega.{arith}
 use lib.Dec.{ltb}
 use borrow.Author.Tests.{lt-ltb, le-ltb, ltb-false}
-use Rattle.whole.proofs.Cases.{le-or-lt}
+use Rattle.whole.proofs.Cases.{le_or_lt}
 use Rattle.words.specs.Words.{Samples}
-use Rattle.lengths.specs.Block.{largestSample}
+use Rattle.lengths.specs.Block.{largest_sample}
 use Rattle.refusals.specs.declared.range.Pass.{Pass}
 use Rattle.refusals.specs.declared.range.Pass.TheVariants.{None, At}
-use Rattle.refusals.specs.Refusals.{someBelow, firstBeyond, firstBeyondOr, firstOutIn, Verdict, refusedAt, accepted}
+use Rattle.refusals.specs.Refusals.{some_below, first_beyond, first_beyond_or, first_out_in, Verdict, refused_at, accepted}
 use Rattle.refusals.specs.Passes.{AllWithin, FirstAt, OnePass}
-use Rattle.refusals.proofs.Promises.{not-both}
-use Rattle.refusals.proofs.Passes.{all_in, first-at}
-use Rattle.refusals.proofs.Ranges.{first-end, first-place, all-within}
+use Rattle.refusals.proofs.Promises.{not_both}
+use Rattle.refusals.proofs.Passes.{all_in, first_at}
+use Rattle.refusals.proofs.Ranges.{first_end, first_place, all_within}
 
 -- ---- lengths that all reach n
 abbrev pub AllReach : ℕ → List ℕ → Type 0
 AllReach n [] = Unit {0}
 AllReach n (m ∷ ms) = (n ≤ m) × AllReach n ms
 
-pub all-reach : (n : ℕ) (ms : List ℕ) → AllReach n ms → someBelow n ms ≡ false
-all-reach n [] h = refl
-all-reach n (m ∷ ms) (l, h) = rw (le-ltb m n l) (all-reach n ms h)
+pub all_reach : (n : ℕ) (ms : List ℕ) → AllReach n ms → some_below n ms ≡ false
+all_reach n [] h = refl
+all_reach n (m ∷ ms) (l, h) = rw (le-ltb m n l) (all_reach n ms h)
 
 pub none_of : (a b : Bool) → (a || b) ≡ false → (a ≡ false) × (b ≡ false)
 none_of true b e = absurd (false≢true (sym e))
 none_of false b e = (refl, e)
 
-pub reach-all : (n : ℕ) (ms : List ℕ) → someBelow n ms ≡ false → AllReach n ms
-reach-all n [] e = tt
-reach-all n (m ∷ ms) e = let (f, g) = none_of (ltb m n) (someBelow n ms) e in (ltb-false m n f, reach-all n ms g)
+pub reach_all : (n : ℕ) (ms : List ℕ) → some_below n ms ≡ false → AllReach n ms
+reach_all n [] e = tt
+reach_all n (m ∷ ms) e = let (f, g) = none_of (ltb m n) (some_below n ms) e in (ltb-false m n f, reach_all n ms g)
 
 -- of two lengths the shorter decides
-pub two-below : (a b : ℕ) {m : ℕ} → m ≡ min a b → (n : ℕ) → someBelow n (a ∷ b ∷ []) ≡ someBelow n (m ∷ [])
-two-below a b {m} e n = ⊎_elim
+pub two_below : (a b : ℕ) {m : ℕ} → m ≡ min a b → (n : ℕ) → some_below n (a ∷ b ∷ []) ≡ some_below n (m ∷ [])
+two_below a b {m} e n = ⊎_elim
     (λ h. rw (le-ltb a n h) (⊎_elim
     (λ l. rw (le-ltb b n l, le-ltb m n (omega arith)))
     (λ l. rw (lt-ltb b n l, lt-ltb m n (omega arith)))
-    (le-or-lt n b)))
+    (le_or_lt n b)))
     (λ h. rw (lt-ltb a n h, lt-ltb m n (omega arith)))
-    (le-or-lt n a)
+    (le_or_lt n a)
 
 -- ---- numbers with a limit: all are within it, or the first that is not stands at a place
 module _ (number limit : ℕ) (x : Samples) (s N : ℕ) (rest : Verdict) where
-  pub none-beyond : AllWithin limit x s (s + N) → firstBeyondOr number limit x s N rest ≡ rest
-  none-beyond h = rw (le-ltb (firstBeyond limit x s N) (s + N) (omega (arith, first-end limit x s N h)))
+  pub none_beyond : AllWithin limit x s (s + N) → first_beyond_or number limit x s N rest ≡ rest
+  none_beyond h = rw (le-ltb (first_beyond limit x s N) (s + N) (omega (arith, first_end limit x s N h)))
 
-  first-beyond : {place : ℕ} → FirstAt limit x s N place → firstBeyondOr number limit x s N rest ≡ refusedAt number place
-  first-beyond f = rw (first-place limit x s N f, lt-ltb _ (s + N) f.to)
+  first_beyond_lem : {place : ℕ} → FirstAt limit x s N place → first_beyond_or number limit x s N rest ≡ refused_at number place
+  first_beyond_lem f = rw (first_place limit x s N f, lt-ltb _ (s + N) f.to)
 
   -- a verdict that accepts has passed the test
-  past-beyond : firstBeyondOr number limit x s N rest ≡ accepted → AllWithin limit x s (s + N) × (rest ≡ accepted)
-  past-beyond e = ⊎_elim within out (le-or-lt (s + N) (firstBeyond limit x s N))
+  past_beyond : first_beyond_or number limit x s N rest ≡ accepted → AllWithin limit x s (s + N) × (rest ≡ accepted)
+  past_beyond e = ⊎_elim within out (le_or_lt (s + N) (first_beyond limit x s N))
     where
-      within : s + N ≤ firstBeyond limit x s N → AllWithin limit x s (s + N) × (rest ≡ accepted)
-      within h = let all = all-within limit x s N h in (all, sym (none-beyond all) ∙ e)
+      within : s + N ≤ first_beyond limit x s N → AllWithin limit x s (s + N) × (rest ≡ accepted)
+      within h = let all = all_within limit x s N h in (all, sym (none_beyond all) ∙ e)
 
-      out : firstBeyond limit x s N < s + N → AllWithin limit x s (s + N) × (rest ≡ accepted)
-      out h = absurd (not-both (rw (lt-ltb _ (s + N) h) at e))
+      out : first_beyond limit x s N < s + N → AllWithin limit x s (s + N) × (rest ≡ accepted)
+      out h = absurd (not_both (rw (lt-ltb _ (s + N) h) at e))
 
 -- the same by what a pass has found
 module _ (number : ℕ) (rest : Verdict) {limit : ℕ} {x : Samples} {s N : ℕ} {pass : Pass} (p : OnePass limit x s N pass) where
-  pub found_none : {looks : ℕ} → pass ≡ None looks → firstBeyondOr number limit x s N rest ≡ rest
-  found_none e = none-beyond number limit x s N rest (all_in p e)
+  pub found_none : {looks : ℕ} → pass ≡ None looks → first_beyond_or number limit x s N rest ≡ rest
+  found_none e = none_beyond number limit x s N rest (all_in p e)
 
-  pub found_at : {place looks : ℕ} → pass ≡ At place looks → firstBeyondOr number limit x s N rest ≡ refusedAt number place
-  found_at e = first-beyond number limit x s N rest (first-at p e)
+  pub found_at : {place looks : ℕ} → pass ≡ At place looks → first_beyond_or number limit x s N rest ≡ refused_at number place
+  found_at e = first_beyond_lem number limit x s N rest (first_at p e)
 
 -- ---- samples: all are in range, in each of some recordings
 abbrev pub AllIn : List Samples → ℕ → ℕ → Type 0
 AllIn [] s N = Unit {0}
-AllIn (x ∷ xs) s N = AllWithin largestSample x s (s + N) × AllIn xs s N
+AllIn (x ∷ xs) s N = AllWithin largest_sample x s (s + N) × AllIn xs s N
 
 module _ (s N : ℕ) (rest : Verdict) where
-  pub in-verdict : (xs : List Samples) → AllIn xs s N → firstOutIn xs s N rest ≡ rest
-  in-verdict [] h = refl
-  in-verdict (x ∷ xs) (e, h) = none-beyond 6 _ x s N _ e ∙ in-verdict xs h
+  pub in_verdict : (xs : List Samples) → AllIn xs s N → first_out_in xs s N rest ≡ rest
+  in_verdict [] h = refl
+  in_verdict (x ∷ xs) (e, h) = none_beyond 6 _ x s N _ e ∙ in_verdict xs h
 
   -- a verdict that accepts has passed the tests
-  pub past-in : (xs : List Samples) → firstOutIn xs s N rest ≡ accepted → AllIn xs s N × (rest ≡ accepted)
-  past-in [] e = (tt, e)
-  past-in (x ∷ xs) e =
-      let (here, on) = past-beyond 6 _ x s N _ e in
-      let (there, end) = past-in xs on in
+  pub past_in : (xs : List Samples) → first_out_in xs s N rest ≡ accepted → AllIn xs s N × (rest ≡ accepted)
+  past_in [] e = (tt, e)
+  past_in (x ∷ xs) e =
+      let (here, on) = past_beyond 6 _ x s N _ e in
+      let (there, end) = past_in xs on in
       ((here, there), end)

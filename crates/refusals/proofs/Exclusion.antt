@@ -23,12 +23,12 @@ unfoldable pub code : ℤ → ℕ
 code (pos n) = 2 * n
 code (negsuc n) = 2 * n + 1
 
-pub words-differ : {seen right wrong : ℤ} → seen ≡ right → seen ≡ wrong → T (not (eqb (code right) (code wrong))) → ⊥
-words-differ e f t = differ (ap code e) (ap code f) t
+pub words_differ : {seen right wrong : ℤ} → seen ≡ right → seen ≡ wrong → T (not (eqb (code right) (code wrong))) → ⊥
+words_differ e f t = differ (ap code e) (ap code f) t
 
 -- what is done where the stated verdict computes to acceptance; and where it computes to a refusal, what stays
-pub done-of : {told : Verdict} {Unchanged Done : Type 0} → Promise told accepted Unchanged Done → Done
-done-of p = p.done p.verdict
+pub done_of : {told : Verdict} {Unchanged Done : Type 0} → Promise told accepted Unchanged Done → Done
+done_of p = p.done p.verdict
 
 pub stays : {told stated : Verdict} {Unchanged Done : Type 0} → Promise told stated Unchanged Done → T (not (eqb (number stated) 0))
     → Unchanged
@@ -37,10 +37,10 @@ stays p t = p.unchanged (λ a. differ (ap number p.verdict) (ap number a) t)
 -- a byte of what was put at the front of a buffer, and one behind it
 module _ {before bytes after : List ℕ} {next : ℕ} (p : Put before 0 bytes next after) where
   pub byte_put : (k : ℕ) → k < length bytes → get_or after k 0 ≡ get_or bytes k 0
-  byte_put k h = sym (get_or-take next after k 0 (omega (arith, p.next-is))) ∙ ap (λ l. get_or l k 0) p.front
+  byte_put k h = sym (get_or-take next after k 0 (omega (arith, p.next_is))) ∙ ap (λ l. get_or l k 0) p.front
 
-  pub byte-behind : (k : ℕ) → next ≡ k → get_or after k 0 ≡ get_or before k 0
-  byte-behind k e =
+  pub byte_behind_lem : (k : ℕ) → next ≡ k → get_or after k 0 ≡ get_or before k 0
+  byte_behind_lem k e =
       rw (← e)
       (ap (λ i. get_or after i 0) {x = next} {y = next + 0} (omega arith)
       ∙ sym (get_or-drop next after 0 0)
@@ -51,9 +51,9 @@ module _ {before bytes after : List ℕ} {next : ℕ} (p : Put before 0 bytes ne
 -- ---- passes
 pub excluded : Excluded
 excluded = record {
-  goesOn = λ p. omega (arith, p.looks);
-  lookNotTallied = λ p. omega (arith, p.looks);
-  placeInBlock = λ p. omega (arith, p.finds.from);
-  noneFound = λ p. let within : 1000001 ≤ 1000000 = p.finds 1 (lit≤ tt) (lit< tt) in omega arith;
-  allOutOfRange = λ looks p. omega (arith, p.finds.beyond);
+  goes_on = λ p. omega (arith, p.looks);
+  look_not_tallied = λ p. omega (arith, p.looks);
+  place_in_block = λ p. omega (arith, p.finds.from);
+  none_found = λ p. let within : 1000001 ≤ 1000000 = p.finds 1 (lit≤ tt) (lit< tt) in omega arith;
+  all_out_of_range = λ looks p. omega (arith, p.finds.beyond);
 }

@@ -7,7 +7,7 @@ use Prim.Native.Nat.{ℕ, ◌+◌, ◌≤◌, ◌<◌}
 use native.Mathlib.Omega.{arith}
 use lib.IntN.{nat_abs}
 use borrow.Author.Tests.{leb-true, leb-false, not-true, not-false}
-use Rattle.whole.proofs.Cases.{le-or-lt}
+use Rattle.whole.proofs.Cases.{le_or_lt}
 use Rattle.words.specs.Words.{Samples}
 use Rattle.refusals.specs.declared.range.Pass.{Pass}
 use Rattle.refusals.specs.declared.range.Pass.TheVariants.{None, At}
@@ -19,25 +19,25 @@ pub record Looked (limit : ℕ) (x : Samples) (start i looks : ℕ) : Type 0 whe
   pub within : AllWithin limit x start i
   pub tallied : i ≡ start + looks
 
-pub looked-none : {limit : ℕ} {x : Samples} {start : ℕ} → Looked limit x start start 0
-looked-none = record { within = λ j h l. absurd (omega arith); tallied = omega arith }
+pub looked_none : {limit : ℕ} {x : Samples} {start : ℕ} → Looked limit x start start 0
+looked_none = record { within = λ j h l. absurd (omega arith); tallied = omega arith }
 
 module _ {limit : ℕ} {x : Samples} {start i looks : ℕ} (l : Looked limit x start i looks) where
   -- a look more, which tells that the number is within the limit
-  pub looked-on : {looks' : ℕ} {b : Bool} → looks' ≡ looks + 1 → b ≡ at_most limit (x i) → not b ≡ false
+  pub looked_on : {looks' : ℕ} {b : Bool} → looks' ≡ looks + 1 → b ≡ at_most limit (x i) → not b ≡ false
       → Looked limit x start (i + 1) looks'
-  looked-on e is h = record { within = within; tallied = omega (arith, l.tallied) }
+  looked_on e is h = record { within = within; tallied = omega (arith, l.tallied) }
     where
       within : AllWithin limit x start (i + 1)
       within j from to = ⊎_elim
           (λ k. let same : j ≡ i = omega arith in rw same (leb-true _ _ (sym is ∙ not-false _ h)))
           (λ k. l.within j from k)
-          (le-or-lt i j)
+          (le_or_lt i j)
 
   -- one that tells that it is not; or none is left
-  pub looked-out : {N place looks' : ℕ} {b : Bool} → place ≡ i → looks' ≡ looks + 1 → i < start + N → b ≡ at_most limit (x i) → not b ≡ true
+  pub looked_out : {N place looks' : ℕ} {b : Bool} → place ≡ i → looks' ≡ looks + 1 → i < start + N → b ≡ at_most limit (x i) → not b ≡ true
       → OnePass limit x start N (At place looks')
-  looked-out same e to is h =
+  looked_out same e to is h =
       let from : start ≤ i = omega (arith, l.tallied) in
       let beyond : limit < nat_abs (x i) = leb-false _ _ (sym is ∙ not-true _ h) in
       record {
@@ -46,8 +46,8 @@ module _ {limit : ℕ} {x : Samples} {start i looks : ℕ} (l : Looked limit x s
         looks = omega (arith, l.tallied);
       }
 
-  pub looked-all : {N : ℕ} → i ≡ start + N → OnePass limit x start N (None looks)
-  looked-all {N} e =
+  pub looked_all : {N : ℕ} → i ≡ start + N → OnePass limit x start N (None looks)
+  looked_all {N} e =
       let each : looks ≡ N = omega (arith, l.tallied) in
       record { finds = subst (AllWithin limit x start) e l.within; none = λ _. ap None each; looks = each }
 
@@ -56,5 +56,5 @@ module _ {limit : ℕ} {x : Samples} {start N : ℕ} {pass : Pass} (p : OnePass 
   pub all_in : {looks : ℕ} → pass ≡ None looks → AllWithin limit x start (start + N)
   all_in e = (subst (OnePass limit x start N) e p).finds
 
-  pub first-at : {place looks : ℕ} → pass ≡ At place looks → FirstAt limit x start N place
-  first-at e = (subst (OnePass limit x start N) e p).finds
+  pub first_at : {place looks : ℕ} → pass ≡ At place looks → FirstAt limit x start N place
+  first_at e = (subst (OnePass limit x start N) e p).finds

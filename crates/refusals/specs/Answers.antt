@@ -9,30 +9,30 @@ use Rattle.refusals.specs.declared.refusal.Outcome.{Outcome}
 use Rattle.refusals.specs.declared.refusal.Outcome.TheVariants.{Refused, Accepted}
 use Rattle.refusals.specs.declared.refusal.Filled.{Filled}
 use Rattle.refusals.specs.declared.refusal.Filled.TheVariants.{Refused as NotFilled, Bytes}
-use Rattle.refusals.specs.Refusals.{Verdict, refused, refusedAt, accepted}
+use Rattle.refusals.specs.Refusals.{Verdict, refused, refused_at, accepted}
 
 -- document 01, "When a call is turned down", 1 to 9, and the answers of document 02, 10 to 16
-abbrev pub verdictOf : Refusal → Verdict
-verdictOf BadLength = refused 1
-verdictOf InputTooShort = refused 2
-verdictOf ResultTooShort = refused 3
-verdictOf ScratchTooShort = refused 4
-verdictOf AllowanceTooSmall = refused 5
-verdictOf (OutOfRange place) = refusedAt 6 place
-verdictOf BelowHeader = refused 7
-verdictOf BadCount = refused 8
-verdictOf BadFileLength = refused 9
-verdictOf (BeyondLimit place) = refusedAt 10 place
-verdictOf RecordingsDiffer = refused 11
-verdictOf BadFigures = refused 12
-verdictOf OtherLength = refused 13
-verdictOf MonthFull = refused 14
-verdictOf UnknownParty = refused 15
-verdictOf NotYielded = refused 16
+abbrev pub verdict_of : Refusal → Verdict
+verdict_of BadLength = refused 1
+verdict_of InputTooShort = refused 2
+verdict_of ResultTooShort = refused 3
+verdict_of ScratchTooShort = refused 4
+verdict_of AllowanceTooSmall = refused 5
+verdict_of (OutOfRange place) = refused_at 6 place
+verdict_of BelowHeader = refused 7
+verdict_of BadCount = refused 8
+verdict_of BadFileLength = refused 9
+verdict_of (BeyondLimit place) = refused_at 10 place
+verdict_of RecordingsDiffer = refused 11
+verdict_of BadFigures = refused 12
+verdict_of OtherLength = refused 13
+verdict_of MonthFull = refused 14
+verdict_of UnknownParty = refused 15
+verdict_of NotYielded = refused 16
 
 -- ---- an outcome: a refusal, whatever is tested behind it; else what comes behind
 abbrev pub behind : Outcome → Verdict → Verdict
-behind (Refused refusal) rest = verdictOf refusal
+behind (Refused refusal) rest = verdict_of refusal
 behind Accepted rest = rest
 
 -- the verdict that it is by itself
@@ -41,7 +41,7 @@ outcome o = behind o accepted
 
 -- ---- the answer of a call that fills a buffer, and the number of bytes, 0 in every refusal
 abbrev pub filled : Filled → Verdict
-filled (NotFilled refusal) = verdictOf refusal
+filled (NotFilled refusal) = verdict_of refusal
 filled (Bytes n) = accepted
 
 abbrev pub bytes_of : Filled → ℕ

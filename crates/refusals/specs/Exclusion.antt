@@ -2,7 +2,7 @@
 -- specs/Excluded; here are those of the pass over numbers.
 use Rattle.std.specs.Prelude.{List, [], ◌∷◌, ◌≡◌, ℕ, ℤ, pos, replicate}
 use Rattle.words.specs.Words.{word}
-use Rattle.lengths.specs.Block.{largestSample}
+use Rattle.lengths.specs.Block.{largest_sample}
 use Rattle.refusals.specs.declared.range.Pass.{Pass}
 use Rattle.refusals.specs.declared.range.Pass.TheVariants.{None, At}
 use Rattle.refusals.specs.Passes.{OnePass}
@@ -17,15 +17,15 @@ nines n = replicate n (pos 9)
 
 -- ---- passes over the samples 5, 1,000,001, 5, from start 1 on
 abbrev Looks : Pass → Type 0
-Looks pass = OnePass largestSample (word (pos 5 ∷ pos 1000001 ∷ pos 5 ∷ [])) 1 2 pass
+Looks pass = OnePass largest_sample (word (pos 5 ∷ pos 1000001 ∷ pos 5 ∷ [])) 1 2 pass
 
 pub record Excluded : Type 0 where
   -- "stops at the first out of range": a look at the sample behind it
-  pub goesOn : Looks (At 1 2) → ⊥
+  pub goes_on : Looks (At 1 2) → ⊥
   -- the look at that sample itself is not tallied
-  pub lookNotTallied : Looks (At 1 0) → ⊥
+  pub look_not_tallied : Looks (At 1 0) → ⊥
   -- the place counted from the block
-  pub placeInBlock : Looks (At 0 1) → ⊥
+  pub place_in_block : Looks (At 0 1) → ⊥
   -- "or none exactly when all are in range"
-  pub noneFound : Looks (None 2) → ⊥
-  pub allOutOfRange : (looks : ℕ) → OnePass largestSample (word (pos 1000000 ∷ [])) 0 1 (At 0 looks) → ⊥
+  pub none_found : Looks (None 2) → ⊥
+  pub all_out_of_range : (looks : ℕ) → OnePass largest_sample (word (pos 1000000 ∷ [])) 0 1 (At 0 looks) → ⊥

@@ -1,7 +1,7 @@
 // The tests of a call on recordings, which every such call makes before it writes anything.
 ghost use Rattle.std.specs.Prelude.{◌≤◌, length as List·length};
 ghost use Rattle.words.specs.Words.{word};
-ghost use Rattle.refusals.specs.Calls.{tests, oneRecording};
+ghost use Rattle.refusals.specs.Calls.{tests, one_recording};
 ghost use Rattle.refusals.specs.Tests.{Tells};
 
 use crate::length::{reaches_beyond, scratch_words};
@@ -22,7 +22,7 @@ pub fn test(
     products: u64,
 ) -> Outcome
     requires { shortest ≤ List·length recording.now }
-    ensures { Tells (tests (oneRecording (word recording.now) shortest start length allowance
+    ensures { Tells (tests (one_recording (word recording.now) shortest start length allowance
         room yields scratch products)) result }
 {
     if !is_length(length) {

@@ -1,6 +1,6 @@
 // Lengths of what is lent.
 ghost use Rattle.std.specs.Prelude.{◌≡◌, ◌+◌, min, ◌≤◌, ltb};
-ghost use Rattle.refusals.specs.Refusals.{scratchWords};
+ghost use Rattle.refusals.specs.Refusals.{scratch_words};
 
 // Whether start + n exceeds len; the sum itself might not fit a word.
 pub fn reaches_beyond(start: usize, n: usize, len: usize) -> bool
@@ -22,7 +22,7 @@ pub fn shorter(a: usize, b: usize) -> usize
 // The words of scratch that a call on n samples asks for, and clears.
 pub fn scratch_words(n: usize) -> usize
     requires { n ≤ 1024 }
-    ensures { result ≡ scratchWords n }
+    ensures { result ≡ scratch_words n }
 {
     8 * n + 64
 }

@@ -1,7 +1,7 @@
 // The range of samples, and of other numbers that have a limit on either side.
 ghost use Rattle.std.specs.Prelude.{◌≡◌, ◌+◌, ◌^◌, ◌≤◌, ◌<◌, length};
 ghost use Rattle.words.specs.Words.{word};
-ghost use Rattle.lengths.specs.Block.{largestSample};
+ghost use Rattle.lengths.specs.Block.{largest_sample};
 ghost use Rattle.refusals.specs.Refusals.{at_most, in_range};
 ghost use Rattle.refusals.specs.Passes.{OnePass};
 
@@ -53,7 +53,7 @@ pub fn first_beyond(limit: u32, words: &[i32], start: usize, n: usize) -> Pass
 // The pass over the n samples of a recording from start on, up to the first that is out of range.
 pub fn first_out(recording: &[i32], start: usize, n: usize) -> Pass
     requires { start + n ≤ length recording.now }
-    ensures { OnePass largestSample (word recording.now) start n result }
+    ensures { OnePass largest_sample (word recording.now) start n result }
 {
     first_beyond(LARGEST_SAMPLE, recording, start, n)
 }

@@ -1,7 +1,7 @@
 // The refusals of documents 01 and 02, and the answers that consist of one or of little more.
 ghost use Rattle.std.specs.Prelude.{◌≡◌};
 ghost use Rattle.refusals.specs.Refusals.{number, place};
-ghost use Rattle.refusals.specs.Answers.{verdictOf};
+ghost use Rattle.refusals.specs.Answers.{verdict_of};
 
 // A case for each number, 1 to 16; 6 and 10 with the place of what they refuse.
 #[derive(Drop)]
@@ -40,7 +40,7 @@ pub enum Filled {
 
 // The number of a refusal in documents 01 and 02.
 pub fn number_of(refusal: Refusal) -> u32
-    ensures { result ≡ number (verdictOf refusal) }
+    ensures { result ≡ number (verdict_of refusal) }
 {
     match refusal {
         Refusal::BadLength => 1,
@@ -64,7 +64,7 @@ pub fn number_of(refusal: Refusal) -> u32
 
 // The place of the first sample out of range, or of the first coefficient beyond its limit; 0 in every other refusal.
 pub fn place_of(refusal: Refusal) -> usize
-    ensures { result ≡ place (verdictOf refusal) }
+    ensures { result ≡ place (verdict_of refusal) }
 {
     match refusal {
         Refusal::OutOfRange(place) => place,

@@ -1,6 +1,6 @@
 // The tests of a call on a stored block, which every such call makes before it writes anything.
 ghost use Rattle.std.specs.Prelude.{[], ◌∷◌};
-ghost use Rattle.refusals.specs.Calls.{storedTests};
+ghost use Rattle.refusals.specs.Calls.{stored_tests};
 ghost use Rattle.refusals.specs.Tests.{Tells};
 
 use crate::refusal::{Outcome, Refusal};
@@ -9,7 +9,7 @@ use lengths::is_length;
 // The tests 1 and 2, of a block of which `needed` coefficients are read. Of several kinds of coefficients the fewest that are stored are
 // given.
 pub fn test_stored(length: usize, stored: usize, needed: usize) -> Outcome
-    ensures { Tells (storedTests length needed (stored ∷ [])) result }
+    ensures { Tells (stored_tests length needed (stored ∷ [])) result }
 {
     if !is_length(length) {
         return Outcome::Refused(Refusal::BadLength);

@@ -13,63 +13,63 @@ use lib.Pow.{pow_pos}
 use mir.Syntax.{w64}
 use mir.Val.{Fits}
 use Rattle.words.specs.Words.{Samples, word}
-use Rattle.lengths.specs.Block.{isLength, level}
+use Rattle.lengths.specs.Block.{is_length, level}
 use Rattle.ffct.specs.Transforms.{pair as pair_of}
-use Rattle.lengths.proofs.ElevenLengths.{is-power}
+use Rattle.lengths.proofs.ElevenLengths.{is_power}
 use Rattle.refusals.specs.Refusals.{block, accepted}
-use Rattle.refusals.proofs.Calls.{is-accepted}
+use Rattle.refusals.proofs.Calls.{is_accepted}
 use Rattle.spectra.specs.declared.Answer.{Answer}
 use Rattle.spectra.specs.Answers.{spent}
 use Rattle.spectra.specs.Promises.{PairBuffers, PairDone, PairPromise}
 use Rattle.words.specs.Put.{Put}
-use Rattle.words.proofs.Putting.{◌then◌, joined-none, joined-more}
+use Rattle.words.proofs.Putting.{◌then◌, joined_none, joined_more}
 use Rattle.report.specs.Lines.{heading}
-use Rattle.report.specs.Output.{linesAt, block_lines, spectra}
+use Rattle.report.specs.Output.{lines_at, block_lines, spectra}
 use Rattle.report.specs.Puts.{Printable, Kept, PutFrom}
 
 -- ---- Pair accepts a block of recordings that are printable up to its end
 module _ (i : ℕ) {N allowance : ℕ} {a b : List ℤ} {work work' : PairBuffers} (answer : Answer) where
-  pub pair-done : Printable (i * N + N) N a b work → ((x y : Samples) → allowance ≡ (pair_of (level N) x y).products)
+  pub pair_done : Printable (i * N + N) N a b work → ((x y : Samples) → allowance ≡ (pair_of (level N) x y).products)
       → PairPromise a b (i * N) N allowance work work' answer
       → PairDone N (block a (i * N)) (block b (i * N)) allowance work work' (spent answer)
-  pair-done p e promise = promise.done (promise.verdict ∙ is-accepted (record {
-    length-ok = p.length-ok;
-    recordings = (p.wordsOfA, (p.wordsOfB, tt));
-    results = (p.realWords, (p.imaginaryWords, tt));
-    scratch = p.scratchFits;
+  pair_done p e promise = promise.done (promise.verdict ∙ is_accepted (record {
+    length_ok = p.length_ok;
+    recordings = (p.words_of_a, (p.words_of_b, tt));
+    results = (p.real_words, (p.imaginary_words, tt));
+    scratch = p.scratch_fits;
     allowance = omega (arith, e (block a (i * N)) (block b (i * N)));
-    range = ((λ j _ l. p.rangeOfA j l), ((λ j _ l. p.rangeOfB j l), tt));
+    range = ((λ j _ l. p.range_of_a j l), ((λ j _ l. p.range_of_b j l), tt));
   }) accepted)
 
 -- ---- the number of a block, and the lines of all blocks up to it, are small
-pub some-samples : (N : ℕ) → isLength N ≡ true → 1 ≤ N
-some-samples N h = omega (arith, is-power N h, pow_pos (level N))
+pub some_samples : (N : ℕ) → is_length N ≡ true → 1 ≤ N
+some_samples N h = omega (arith, is_power N h, pow_pos (level N))
 
-pub few-blocks : (i N m : ℕ) → isLength N ≡ true → i * N + N ≤ m → i < m
-few-blocks i N m h l = omega (arith, some-samples N h, mul-le-mul_left i (some-samples N h))
+pub few_blocks : (i N m : ℕ) → is_length N ≡ true → i * N + N ≤ m → i < m
+few_blocks i N m h l = omega (arith, some_samples N h, mul-le-mul_left i (some_samples N h))
 
-pub whole-blocks : (i m N : ℕ) → isLength N ≡ true → i ≤ m / N → i * N ≤ m
-whole-blocks i m N h l = omega (arith, some-samples N h, mul-le-mul_right N l, div-mul-le_self m N)
+pub whole_blocks : (i m N : ℕ) → is_length N ≡ true → i ≤ m / N → i * N ≤ m
+whole_blocks i m N h l = omega (arith, some_samples N h, mul-le-mul_right N l, div-mul-le_self m N)
 
-pub next-block : (i N : ℕ) → (i + 1) * N ≡ i * N + N
-next-block i N = rw add-one (suc-mul i N)
+pub next_block : (i N : ℕ) → (i + 1) * N ≡ i * N + N
+next_block i N = rw add-one (suc-mul i N)
 
 -- ---- what the loop over the blocks puts: nothing yet, and one block more
-kept-both : {u v w : PairBuffers} → Kept u v → Kept v w → Kept u w
-kept-both a b = record { real = b.real ∙ a.real; imaginary = b.imaginary ∙ a.imaginary; scratch = b.scratch ∙ a.scratch }
+kept_both : {u v w : PairBuffers} → Kept u v → Kept v w → Kept u w
+kept_both a b = record { real = b.real ∙ a.real; imaginary = b.imaginary ∙ a.imaginary; scratch = b.scratch ∙ a.scratch }
 
 module _ (N : ℕ) (a b : Samples) {at : ℕ} {page : List ℕ} {work : PairBuffers} where
   pub no_blocks : at ≤ length page → PutFrom page at (block_lines N a b 0) (34 * (0 * N)) at page work work
-  no_blocks h = record { put = joined-none _ h; fits = omega arith; kept = record { real = refl; imaginary = refl; scratch = refl } }
+  no_blocks h = record { put = joined_none _ h; fits = omega arith; kept = record { real = refl; imaginary = refl; scratch = refl } }
 
   pub one_more : (i : ℕ) {next next' : ℕ} {page' page'' : List ℕ} {work' work'' : PairBuffers}
       → PutFrom page at (block_lines N a b i) (34 * (i * N)) next page' work work'
-      → PutFrom page' next (linesAt N a b i) (34 * N) next' page'' work' work''
+      → PutFrom page' next (lines_at N a b i) (34 * N) next' page'' work' work''
       → PutFrom page at (block_lines N a b (i + 1)) (34 * ((i + 1) * N)) next' page'' work work''
   one_more i p q = record {
-    put = joined-more _ i p.put q.put;
-    fits = omega (arith, p.fits, q.fits, next-block i N);
-    kept = kept-both p.kept q.kept;
+    put = joined_more _ i p.put q.put;
+    fits = omega (arith, p.fits, q.fits, next_block i N);
+    kept = kept_both p.kept q.kept;
   }
 
 pub next_fits : {m N : ℕ} (i : ℕ) {a b : List ℤ} {work : PairBuffers} → Printable m N a b work → i < m / N → Fits w64 (i + 1)
@@ -80,29 +80,29 @@ module _ (m N : ℕ) (a b : List ℤ) {work : PairBuffers} (k : Printable m N a 
     {at : ℕ} {page page₁ : List ℕ} (h : Put page 0 heading at page₁) (i : ℕ) {next : ℕ} {page' : List ℕ}
     {work' : PairBuffers} (p : PutFrom page₁ at (block_lines N (word a) (word b) i) (34 * (i * N)) next page' work work') where
   fits : i < m / N → i * N + N ≤ m
-  fits l = omega (arith, whole-blocks (i + 1) m N k.length-ok (omega arith), next-block i N)
+  fits l = omega (arith, whole_blocks (i + 1) m N k.length_ok (omega arith), next_block i N)
 
-  pub block-ready : i < m / N → Printable (i * N + N) N a b work'
-  block-ready l = record {
-    length-ok = k.length-ok;
+  pub block_ready : i < m / N → Printable (i * N + N) N a b work'
+  block_ready l = record {
+    length_ok = k.length_ok;
     most = omega (arith, fits l, k.most);
-    wordsOfA = omega (arith, fits l, k.wordsOfA);
-    wordsOfB = omega (arith, fits l, k.wordsOfB);
-    rangeOfA = λ n h. k.rangeOfA n (omega (arith, fits l));
-    rangeOfB = λ n h. k.rangeOfB n (omega (arith, fits l));
-    realWords = omega (arith, k.realWords, p.kept.real);
-    imaginaryWords = omega (arith, k.imaginaryWords, p.kept.imaginary);
-    scratchFits = omega (arith, k.scratchFits, p.kept.scratch);
+    words_of_a = omega (arith, fits l, k.words_of_a);
+    words_of_b = omega (arith, fits l, k.words_of_b);
+    range_of_a = λ n h. k.range_of_a n (omega (arith, fits l));
+    range_of_b = λ n h. k.range_of_b n (omega (arith, fits l));
+    real_words = omega (arith, k.real_words, p.kept.real);
+    imaginary_words = omega (arith, k.imaginary_words, p.kept.imaginary);
+    scratch_fits = omega (arith, k.scratch_fits, p.kept.scratch);
   }
 
   pub block_room : i < m / N → 14 + 34 * m ≤ length page → next + 34 * N ≤ length page'
-  block_room l room = omega (arith, fits l, h.next-is, h.len, p.fits, p.put.len)
+  block_room l room = omega (arith, fits l, h.next_is, h.len, p.fits, p.put.len)
 
-  pub spectra-put : i ≤ m / N → m / N ≤ i → PutFrom page 0 (spectra m N (word a) (word b)) (14 + 34 * m) next page' work work'
-  spectra-put l g =
+  pub spectra_put : i ≤ m / N → m / N ≤ i → PutFrom page 0 (spectra m N (word a) (word b)) (14 + 34 * m) next page' work work'
+  spectra_put l g =
       let all : i ≡ m / N = omega arith in
       record {
         put = rw all at (h then p.put);
-        fits = omega (arith, p.fits, h.next-is, whole-blocks i m N k.length-ok l);
+        fits = omega (arith, p.fits, h.next_is, whole_blocks i m N k.length_ok l);
         kept = p.kept;
       }

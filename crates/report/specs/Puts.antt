@@ -1,23 +1,23 @@
 -- What the functions of this crate ask for and leave behind.
 use Rattle.std.specs.Prelude.{true, List, ◌≡◌, ℕ, ◌+◌, ◌≤◌, ◌<◌, ℤ, nat_abs, length}
 use Rattle.words.specs.Words.{word}
-use Rattle.lengths.specs.Block.{isLength, largestSample}
-use Rattle.refusals.specs.Refusals.{scratchWords}
+use Rattle.lengths.specs.Block.{is_length, largest_sample}
+use Rattle.refusals.specs.Refusals.{scratch_words}
 use Rattle.spectra.specs.Promises.{PairBuffers}
 use Rattle.words.specs.Put.{Put}
 use Rattle.report.specs.Output.{output}
 
 -- two recordings with m samples in range, in blocks of N, and buffers that Pair works in
 pub record Printable (m N : ℕ) (a b : List ℤ) (work : PairBuffers) : Type 0 where
-  pub length-ok : isLength N ≡ true
+  pub length_ok : is_length N ≡ true
   pub most : m ≤ 4096
-  pub wordsOfA : m ≤ length a
-  pub wordsOfB : m ≤ length b
-  pub rangeOfA : (n : ℕ) → n < m → nat_abs (word a n) ≤ largestSample
-  pub rangeOfB : (n : ℕ) → n < m → nat_abs (word b n) ≤ largestSample
-  pub realWords : N ≤ length work.real
-  pub imaginaryWords : N ≤ length work.imaginary
-  pub scratchFits : scratchWords N ≤ length work.scratch
+  pub words_of_a : m ≤ length a
+  pub words_of_b : m ≤ length b
+  pub range_of_a : (n : ℕ) → n < m → nat_abs (word a n) ≤ largest_sample
+  pub range_of_b : (n : ℕ) → n < m → nat_abs (word b n) ≤ largest_sample
+  pub real_words : N ≤ length work.real
+  pub imaginary_words : N ≤ length work.imaginary
+  pub scratch_fits : scratch_words N ≤ length work.scratch
 
 -- what stands in these buffers is the program's choice; they keep their number of words
 pub record Kept (work work' : PairBuffers) : Type 0 where
@@ -35,6 +35,6 @@ pub record PutFrom (page : List ℕ) (at : ℕ) (text : List ℕ) (most next : �
 pub record OutputPut (file page : List ℕ) (next : ℕ) (page' : List ℕ) (a b : List ℤ) (work : PairBuffers) (a' b' : List ℤ)
     (work' : PairBuffers) : Type 0 where
   pub put : Put page 0 (output file) next page'
-  pub wordsOfA : length a' ≡ length a
-  pub wordsOfB : length b' ≡ length b
+  pub words_of_a : length a' ≡ length a
+  pub words_of_b : length b' ≡ length b
   pub kept : Kept work work'

@@ -3,11 +3,11 @@ mod lines;
 
 ghost use Rattle.std.specs.Prelude.{true, ◌≡◌, ◌+◌, ◌*◌, ◌/◌, ◌≤◌, ◌<◌, length};
 ghost use Rattle.words.specs.Words.{Samples, word};
-ghost use Rattle.lengths.specs.Block.{isLength, level};
+ghost use Rattle.lengths.specs.Block.{is_length, level};
 ghost use Rattle.ffct.specs.Transforms.{pair as pair_of};
-ghost use Rattle.refusals.specs.Refusals.{scratchWords};
-ghost use Rattle.spectra.specs.Promises.{pairBuffers};
-ghost use Rattle.report.specs.Output.{linesAt, spectra};
+ghost use Rattle.refusals.specs.Refusals.{scratch_words};
+ghost use Rattle.spectra.specs.Promises.{pair_buffers};
+ghost use Rattle.report.specs.Output.{lines_at, spectra};
 ghost use Rattle.report.specs.Puts.{Printable, PutFrom, OutputPut};
 
 use crate::lines::{put_heading, put_lines, put_refusal};
@@ -17,7 +17,7 @@ use spectra::{CountsAnswer, count_query, pair};
 
 // Just Pair's products, for one block of n samples.
 fn pair_products(n: usize) -> u64
-    requires { isLength n ≡ true }
+    requires { is_length n ≡ true }
     ensures { (x y : Samples) → result ≡ (pair_of (level n) x y).products }
 {
     match count_query(n) {
@@ -38,12 +38,12 @@ fn put_block(
     page: &mut [u8],
     at: usize,
 ) -> usize
-    requires { Printable (block * n + n) n a.now b.now (pairBuffers real.old imaginary.old scratch.old)
+    requires { Printable (block * n + n) n a.now b.now (pair_buffers real.old imaginary.old scratch.old)
         × (at + 34 * n ≤ length page.old) }
     ensures { PutFrom page.old at
-        (linesAt n (word a.now) (word b.now) block) (34 * n) result page.new
-        (pairBuffers real.old imaginary.old scratch.old)
-        (pairBuffers real.new imaginary.new scratch.new) }
+        (lines_at n (word a.now) (word b.now) block) (34 * n) result page.new
+        (pair_buffers real.old imaginary.old scratch.old)
+        (pair_buffers real.new imaginary.new scratch.new) }
 {
     let allowance = pair_products(n);
     pair(a, b, block * n, n, allowance, real, imaginary, scratch);
@@ -61,12 +61,12 @@ fn put_spectra(
     scratch: &mut [i64],
     page: &mut [u8],
 ) -> usize
-    requires { Printable m n a.now b.now (pairBuffers real.old imaginary.old scratch.old)
+    requires { Printable m n a.now b.now (pair_buffers real.old imaginary.old scratch.old)
         × (14 + 34 * m ≤ length page.old) }
     ensures { PutFrom page.old 0
         (spectra m n (word a.now) (word b.now)) (14 + 34 * m) result page.new
-        (pairBuffers real.old imaginary.old scratch.old)
-        (pairBuffers real.new imaginary.new scratch.new) }
+        (pair_buffers real.old imaginary.old scratch.old)
+        (pair_buffers real.new imaginary.new scratch.new) }
 {
     let count = m / n;
     let mut at = put_heading(page, 0);
@@ -90,11 +90,11 @@ pub fn put_output(
     page: &mut [u8],
 ) -> usize
     requires { (length a.old ≡ 4096) × (length b.old ≡ 4096)
-        × (1024 ≤ length real.old) × (1024 ≤ length imaginary.old) × (scratchWords 1024 ≤ length scratch.old)
+        × (1024 ≤ length real.old) × (1024 ≤ length imaginary.old) × (scratch_words 1024 ≤ length scratch.old)
         × (139278 ≤ length page.old) }
     ensures { OutputPut file.now page.old result page.new
-        a.old b.old (pairBuffers real.old imaginary.old scratch.old)
-        a.new b.new (pairBuffers real.new imaginary.new scratch.new) }
+        a.old b.old (pair_buffers real.old imaginary.old scratch.old)
+        a.new b.new (pair_buffers real.new imaginary.new scratch.new) }
 {
     let answer = read(file, a, b);
     match answer {

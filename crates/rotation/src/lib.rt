@@ -2,7 +2,7 @@
 // n - k. Each whole expression is rounded once, and the largest size of a rest is kept as the roundings are made.
 ghost use Rattle.std.specs.Prelude.{◌+◌, ◌*◌, ◌/◌, ◌^◌, ◌≤◌, ◌≡◌, nat_abs};
 ghost use Rattle.circle.specs.Circle.{IsQuarterWave};
-ghost use Rattle.lengths.specs.Block.{largestSum};
+ghost use Rattle.lengths.specs.Block.{largest_sum};
 ghost use Rattle.rotation.specs.Rotation.{PairRotated, MiddleRotated};
 ghost use Rattle.rotation.specs.Rotation.{PairReady, PairPut, SingleReady, SinglePut, RotationReady, Rotated};
 
@@ -22,7 +22,7 @@ struct Rotation {
 
 // (20), from the cosine-DFT and the sine-DFT at k, c and s being the table's entries. (c + s and s - c are sums of table entries alone.)
 fn rotate_pair(c: i64, s: i64, cosine: i64, sine: i64) -> Rotation
-    requires cosine_bound { (nat_abs cosine ≤ largestSum + 128) × (nat_abs sine ≤ largestSum + 128) }
+    requires cosine_bound { (nat_abs cosine ≤ largest_sum + 128) × (nat_abs sine ≤ largest_sum + 128) }
     requires c_bound { (nat_abs c ≤ 2 ^ 30) × (nat_abs s ≤ 2 ^ 30) }
     ensures { PairRotated c s cosine sine result.low result.high result.products result.sums result.rest }
 {
@@ -59,7 +59,7 @@ pub struct Middle {
 
 // T(512) C(n / 2), rounded.
 pub fn rotate_middle(wave: &[i32; 1025], cosine: i64) -> Middle
-    requires { IsQuarterWave wave.now × (nat_abs cosine ≤ largestSum + 128) }
+    requires { IsQuarterWave wave.now × (nat_abs cosine ≤ largest_sum + 128) }
     ensures { MiddleRotated cosine result.value result.products result.rest }
 {
     let mut products: u64 = 0;

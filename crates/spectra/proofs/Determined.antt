@@ -3,45 +3,45 @@
 use mathlib.Core.Path.{◌≡◌, refl, sym, ap, ◌∙◌}
 use Prim.Native.Nat.{ℕ}
 use Rattle.words.specs.Words.{Samples}
-use Rattle.words.proofs.Writing.{written-alike}
+use Rattle.words.proofs.Writing.{written_alike}
 use Rattle.counts.specs.declared.tally.Tally.{Tally}
 use Rattle.counts.specs.Tally.{none}
 use Rattle.refusals.specs.Refusals.{accepted}
-use Rattle.refusals.proofs.Promises.{refuses, same-refusal}
+use Rattle.refusals.proofs.Promises.{refuses, same_refusal}
 use Rattle.spectra.specs.declared.Answer.{Answer}
 use Rattle.spectra.specs.declared.Answer.TheVariants.{Refused, Done}
-use Rattle.spectra.specs.Answers.{verdictOf, spent}
+use Rattle.spectra.specs.Answers.{verdict_of, spent}
 use Rattle.spectra.specs.Promises.{Buffers, SpectrumDone}
 
 -- ---- an answer is determined by its verdict and by what it has spent; a refusal has spent nothing
-pub same_answer : (a b : Answer) → verdictOf a ≡ verdictOf b → spent a ≡ spent b → a ≡ b
-same_answer (Refused r) (Refused s) e f = ap Refused (same-refusal r s e)
+pub same_answer : (a b : Answer) → verdict_of a ≡ verdict_of b → spent a ≡ spent b → a ≡ b
+same_answer (Refused r) (Refused s) e f = ap Refused (same_refusal r s e)
 same_answer (Refused r) (Done u) e f = absurd (refuses r e)
 same_answer (Done t) (Refused s) e f = absurd (refuses s (sym e))
 same_answer (Done t) (Done u) e f = ap Done f
 
-pub none-spent : (a : Answer) → (verdictOf a ≡ accepted → ⊥) → spent a ≡ none
-none-spent (Refused r) h = refl
-none-spent (Done t) h = absurd (h refl)
+pub none_spent : (a : Answer) → (verdict_of a ≡ accepted → ⊥) → spent a ≡ none
+none_spent (Refused r) h = refl
+none_spent (Done t) h = absurd (h refl)
 
-same-tally : {t u : Tally} → t.products ≡ u.products → t.sums ≡ u.sums → t.largest_rest ≡ u.largest_rest → t ≡ u
-same-tally e f g = λ i. record { products = e i; sums = f i; largest_rest = g i }
+same_tally : {t u : Tally} → t.products ≡ u.products → t.sums ≡ u.sums → t.largest_rest ≡ u.largest_rest → t ≡ u
+same_tally e f g = λ i. record { products = e i; sums = f i; largest_rest = g i }
 
-same-buffers : {l m : Buffers} → l.cosine ≡ m.cosine → l.sine ≡ m.sine → l.scratch ≡ m.scratch → l ≡ m
-same-buffers e f g = λ i. record { cosine = e i; sine = f i; scratch = g i }
+same_buffers : {l m : Buffers} → l.cosine ≡ m.cosine → l.sine ≡ m.sine → l.scratch ≡ m.scratch → l ≡ m
+same_buffers e f g = λ i. record { cosine = e i; sine = f i; scratch = g i }
 
 -- ---- an accepted call, made twice
 module _ {N : ℕ} {x : Samples} {allowance : ℕ} {lent one other : Buffers} {t u : Tally}
     (p : SpectrumDone N x allowance lent one t) (q : SpectrumDone N x allowance lent other u) where
-  pub spent-alike : t ≡ u
-  spent-alike =
+  pub spent_alike : t ≡ u
+  spent_alike =
       let (products, sums) = p.spends.tallied in
       let (products', sums') = q.spends.tallied in
-      same-tally (products ∙ sym products') (sums ∙ sym sums') (p.spends.rest ∙ sym q.spends.rest)
+      same_tally (products ∙ sym products') (sums ∙ sym sums') (p.spends.rest ∙ sym q.spends.rest)
 
-  pub left-alike : one ≡ other
-  left-alike =
-      same-buffers
-      (written-alike p.cosineWords q.cosineWords)
-      (written-alike p.sineWords q.sineWords)
-      (written-alike p.spends.scratchCleared q.spends.scratchCleared)
+  pub left_alike : one ≡ other
+  left_alike =
+      same_buffers
+      (written_alike p.cosine_words q.cosine_words)
+      (written_alike p.sine_words q.sine_words)
+      (written_alike p.spends.scratch_cleared q.spends.scratch_cleared)

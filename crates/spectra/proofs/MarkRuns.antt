@@ -23,15 +23,15 @@ use Rattle.refusals.specs.declared.refusal.Outcome.{Outcome}
 use Rattle.refusals.specs.declared.refusal.Outcome.TheVariants.{Refused as TestRefused, Accepted}
 use Rattle.refusals.specs.Tests.{Tells}
 use Rattle.refusals.proofs.Conditions.{none_of}
-use Rattle.refusals.proofs.Promises.{refuses, turned_down, carried-out}
-use Rattle.refusals.proofs.Calls.{passes, refused-by, passed-by}
+use Rattle.refusals.proofs.Promises.{refuses, turned_down, carried_out}
+use Rattle.refusals.proofs.Calls.{passes, refused_by, passed_by}
 use Rattle.spectra.specs.declared.Answer.{Answer}
 use Rattle.spectra.specs.declared.Answer.TheVariants.{Refused, Done}
 use Rattle.spectra.specs.declared.marks.Mark.{Mark}
 use Rattle.spectra.specs.declared.marks.MarkAnswer.TheVariants.{Refused as MarkRefused, Marked}
-use Rattle.spectra.specs.Marks.{mark, badFigures, markVerdict}
-use Rattle.spectra.specs.Promises.{Buffers, spectrumCall, SpectrumPromise, MarkPromise}
-use Rattle.spectra.proofs.MarkRules.{mark-same}
+use Rattle.spectra.specs.Marks.{mark, bad_figures, mark_verdict}
+use Rattle.spectra.specs.Promises.{Buffers, spectrum_call, SpectrumPromise, MarkPromise}
+use Rattle.spectra.proofs.MarkRules.{mark_same}
 
 -- ---- figures that are accepted
 pub record Natural (z : ℤ) : Type 0 where
@@ -43,72 +43,72 @@ natural : (z : ℤ) (n : ℕ) → lt_z z (pos n) ≡ false → Natural z × (n �
 natural (pos m) n e = (record { sign = tt; is = refl; fits = λ f. f.sfits }, ltb-false m n e)
 natural (negsuc m) n e = absurd (true≢false e)
 
-pub record Figures (flatLimit clipLevel : ℤ) : Type 0 where
-  pub flat-limit : Natural flatLimit
-  pub clip-level : Natural clipLevel
-  pub clip-some : 1 ≤ nat_abs clipLevel
+pub record Figures (flat_limit clip_level : ℤ) : Type 0 where
+  pub flat_limit_lem : Natural flat_limit
+  pub clip_level_lem : Natural clip_level
+  pub clip_some : 1 ≤ nat_abs clip_level
 
-pub figures : (flatLimit clipLevel : ℤ) → badFigures flatLimit clipLevel ≡ false → Figures flatLimit clipLevel
+pub figures : (flat_limit clip_level : ℤ) → bad_figures flat_limit clip_level ≡ false → Figures flat_limit clip_level
 figures f c e =
     let (not_negative, of-clip) = none_of (lt_z f (pos 0)) _ e in
     let (some, _) = none_of (lt_z c (pos 1)) (lt_z (pos 1000000) c) of-clip in
-    let (clip-level, clip-some) = natural c 1 some in
-    record { flat-limit = (natural f 0 not_negative).0; clip-level = clip-level; clip-some = clip-some }
+    let (clip_level_lem, clip_some) = natural c 1 some in
+    record { flat_limit_lem = (natural f 0 not_negative).0; clip_level_lem = clip_level_lem; clip_some = clip_some }
 
 -- ---- a run
-module _ (r : List ℤ) (start N allowance : ℕ) (flatLimit clipLevel : ℤ) (lent : Buffers) where
+module _ (r : List ℤ) (start N allowance : ℕ) (flat_limit clip_level : ℤ) (lent : Buffers) where
   abbrev call : Call
-  call = spectrumCall r start N allowance lent
+  call = spectrum_call r start N allowance lent
 
   module _ {tested : Outcome} (t : Tells (tests call) tested) where
-    pub tests-refused : {refusal : Refusal} → tested ≡ TestRefused refusal
-        → MarkPromise r start N allowance flatLimit clipLevel lent lent (MarkRefused refusal)
-    tests-refused e = refused-by t _ refl e
+    pub tests_refused : {refusal : Refusal} → tested ≡ TestRefused refusal
+        → MarkPromise r start N allowance flat_limit clip_level lent lent (MarkRefused refusal)
+    tests_refused e = refused_by t _ refl e
 
-    pub figures-refused : badFigures flatLimit clipLevel ≡ true → tested ≡ Accepted
-        → MarkPromise r start N allowance flatLimit clipLevel lent lent (MarkRefused BadFigures)
-    figures-refused bad e = turned_down BadFigures refl (passed-by t _ e ∙ rw bad)
+    pub figures_refused : bad_figures flat_limit clip_level ≡ true → tested ≡ Accepted
+        → MarkPromise r start N allowance flat_limit clip_level lent lent (MarkRefused BadFigures)
+    figures_refused bad e = turned_down BadFigures refl (passed_by t _ e ∙ rw bad)
 
-  module _ (good : badFigures flatLimit clipLevel ≡ false) where
-    as-spectrum : markVerdict call flatLimit clipLevel ≡ verdict call
-    as-spectrum = rw good
+  module _ (good : bad_figures flat_limit clip_level ≡ false) where
+    as_spectrum : mark_verdict call flat_limit clip_level ≡ verdict call
+    as_spectrum = rw good
 
     module _ {lent' : Buffers} {answer : Answer} (p : SpectrumPromise r start N allowance lent lent' answer) where
-      with-answer : {a : Answer} → answer ≡ a → SpectrumPromise r start N allowance lent lent' a
-      with-answer e = subst (λ a. SpectrumPromise r start N allowance lent lent' a) e p
+      with_answer : {a : Answer} → answer ≡ a → SpectrumPromise r start N allowance lent lent' a
+      with_answer e = subst (λ a. SpectrumPromise r start N allowance lent lent' a) e p
 
-      pub spectrum-refused : {refusal : Refusal} → answer ≡ Refused refusal
-          → MarkPromise r start N allowance flatLimit clipLevel lent lent' (MarkRefused refusal)
-      spectrum-refused {refusal} e =
-          let q = with-answer e in
-          turned_down refusal (q.unchanged (refuses refusal)) (as-spectrum ∙ sym q.verdict)
+      pub spectrum_refused : {refusal : Refusal} → answer ≡ Refused refusal
+          → MarkPromise r start N allowance flat_limit clip_level lent lent' (MarkRefused refusal)
+      spectrum_refused {refusal} e =
+          let q = with_answer e in
+          turned_down refusal (q.unchanged (refuses refusal)) (as_spectrum ∙ sym q.verdict)
 
-      pub spectrum-ready : SFits w32 flatLimit → SFits w32 clipLevel → {tally : Tally} → answer ≡ Done tally
-          → (nat_abs flatLimit < 2 ^ 31) × (1 ≤ nat_abs clipLevel) × (nat_abs clipLevel < 2 ^ 31)
+      pub spectrum_ready : SFits w32 flat_limit → SFits w32 clip_level → {tally : Tally} → answer ≡ Done tally
+          → (nat_abs flat_limit < 2 ^ 31) × (1 ≤ nat_abs clip_level) × (nat_abs clip_level < 2 ^ 31)
           × (start + N ≤ length r) × (N / 2 + 1 ≤ length lent'.cosine) × (N / 2 + 1 ≤ length lent'.sine)
-      spectrum-ready flat-fits clip-fits e =
-          let q = with-answer e in
+      spectrum_ready flat-fits clip-fits e =
+          let q = with_answer e in
           let passed = passes call (sym q.verdict) in
           let done = q.done refl in
-          let figures = figures flatLimit clipLevel good in (
-            figures.flat-limit.fits flat-fits,
-            figures.clip-some,
-            figures.clip-level.fits clip-fits,
+          let figures = figures flat_limit clip_level good in (
+            figures.flat_limit_lem.fits flat-fits,
+            figures.clip_some,
+            figures.clip_level_lem.fits clip-fits,
             passed.recordings.0,
-            omega (arith, passed.results.0, done.cosineWords.len),
-            omega (arith, passed.results.1.0, done.sineWords.len),
+            omega (arith, passed.results.0, done.cosine_words.len),
+            omega (arith, passed.results.1.0, done.sine_words.len),
           )
 
-      pub spectrum-marked : {tally : Tally} {m : Mark} → answer ≡ Done tally
-          → m ≡ mark (pos (nat_abs flatLimit)) (pos (nat_abs clipLevel)) N (block r start) (word lent'.cosine) (word lent'.sine)
-          → MarkPromise r start N allowance flatLimit clipLevel lent lent' (Marked m tally)
-      spectrum-marked {tally} e is =
-          let q = with-answer e in
+      pub spectrum_marked : {tally : Tally} {m : Mark} → answer ≡ Done tally
+          → m ≡ mark (pos (nat_abs flat_limit)) (pos (nat_abs clip_level)) N (block r start) (word lent'.cosine) (word lent'.sine)
+          → MarkPromise r start N allowance flat_limit clip_level lent lent' (Marked m tally)
+      spectrum_marked {tally} e is =
+          let q = with_answer e in
           let done = q.done refl in
-          let figures = figures flatLimit clipLevel good in
-          carried-out refl (as-spectrum ∙ sym q.verdict) (record {
+          let figures = figures flat_limit clip_level good in
+          carried_out refl (as_spectrum ∙ sym q.verdict) (record {
             spectrum = done;
             marked = ap (λ m. Marked m tally)
-                (rw (← figures.flat-limit.is, ← figures.clip-level.is) at is
-                ∙ mark-same flatLimit clipLevel N (block r start) (front done.cosineWords) (front done.sineWords));
+                (rw (← figures.flat_limit_lem.is, ← figures.clip_level_lem.is) at is
+                ∙ mark_same flat_limit clip_level N (block r start) (front done.cosine_words) (front done.sine_words));
           })

@@ -16,41 +16,41 @@ use Rattle.spectra.specs.declared.marks.MarkAnswer.{MarkAnswer}
 use Rattle.spectra.specs.declared.marks.MarkAnswer.TheVariants.{Refused as NotMarked, Marked}
 
 -- ---- the answer of a call on recordings, with the counts that an accepted call spent and its largest rest; else none
-abbrev pub verdictOf : Answer → Verdict
-verdictOf (Refused r) = refusal.verdictOf r
-verdictOf (Done tally) = accepted
+abbrev pub verdict_of : Answer → Verdict
+verdict_of (Refused r) = refusal.verdict_of r
+verdict_of (Done tally) = accepted
 
 abbrev pub spent : Answer → Tally
 spent (Refused r) = none
 spent (Done tally) = tally
 
 -- ---- the answer of the count query, with the six counts of a length; else none
-abbrev pub verdictOfCounts : CountsAnswer → Verdict
-verdictOfCounts (NotCounted r) = refusal.verdictOf r
-verdictOfCounts (Counted counts) = accepted
+abbrev pub verdict_of_counts : CountsAnswer → Verdict
+verdict_of_counts (NotCounted r) = refusal.verdict_of r
+verdict_of_counts (Counted counts) = accepted
 
-abbrev pub noCost : Cost
-noCost = record { products = 0; sums = 0 }
+abbrev pub no_cost : Cost
+no_cost = record { products = 0; sums = 0 }
 
-abbrev pub countsOf : CountsAnswer → Counts
-countsOf (NotCounted r) = record { dct = noCost; spectrum = noCost; pair = noCost }
-countsOf (Counted counts) = counts
+abbrev pub counts_of : CountsAnswer → Counts
+counts_of (NotCounted r) = record { dct = no_cost; spectrum = no_cost; pair = no_cost }
+counts_of (Counted counts) = counts
 
 -- ---- the answer of the call that marks a block, with what it spent; else none
-abbrev pub verdictOfMark : MarkAnswer → Verdict
-verdictOfMark (NotMarked r) = refusal.verdictOf r
-verdictOfMark (Marked mark tally) = accepted
+abbrev pub verdict_of_mark : MarkAnswer → Verdict
+verdict_of_mark (NotMarked r) = refusal.verdict_of r
+verdict_of_mark (Marked mark tally) = accepted
 
-abbrev pub spentMarking : MarkAnswer → Tally
-spentMarking (NotMarked r) = none
-spentMarking (Marked mark tally) = tally
+abbrev pub spent_marking : MarkAnswer → Tally
+spent_marking (NotMarked r) = none
+spent_marking (Marked mark tally) = tally
 
 -- a mark as a number; 0 where there is none
-abbrev pub numberOfMark : Mark → ℕ
-numberOfMark Flat = 1
-numberOfMark Clipped = 2
-numberOfMark Plain = 3
+abbrev pub number_of_mark : Mark → ℕ
+number_of_mark Flat = 1
+number_of_mark Clipped = 2
+number_of_mark Plain = 3
 
-abbrev pub markNumber : MarkAnswer → ℕ
-markNumber (NotMarked r) = 0
-markNumber (Marked mark tally) = numberOfMark mark
+abbrev pub mark_number : MarkAnswer → ℕ
+mark_number (NotMarked r) = 0
+mark_number (Marked mark tally) = number_of_mark mark

@@ -23,21 +23,21 @@ some p i (suc d) = p i || some p (suc i) d
 -- "A block is flat if all cosine and sine coefficients from k = 1 are at most the flat limit in size." They end at k = N / 2, so that there
 -- are none at N = 1
 abbrev pub flat : ℤ → ℕ → Samples → Samples → Bool
-flat flatLimit N cosine sine =
-    all (λ k. le_z (size (cosine k)) flatLimit) 1 (N / 2) && all (λ k. le_z (size (sine k)) flatLimit) 1 (N / 2)
+flat flat_limit N cosine sine =
+    all (λ k. le_z (size (cosine k)) flat_limit) 1 (N / 2) && all (λ k. le_z (size (sine k)) flat_limit) 1 (N / 2)
 
 -- "It is clipped if a sample is at least the clip level in size."
 abbrev pub clipped : ℤ → ℕ → Samples → Bool
-clipped clipLevel N x = some (λ n. le_z clipLevel (size (x n))) 0 N
+clipped clip_level N x = some (λ n. le_z clip_level (size (x n))) 0 N
 
 -- "It is plain otherwise. Flat is looked at first."
-unfoldable pub mark : (flatLimit clipLevel : ℤ) → ℕ → (x cosine sine : Samples) → Mark
-mark flatLimit clipLevel N x cosine sine = cond (flat flatLimit N cosine sine) Flat (cond (clipped clipLevel N x) Clipped Plain)
+unfoldable pub mark : (flat_limit clip_level : ℤ) → ℕ → (x cosine sine : Samples) → Mark
+mark flat_limit clip_level N x cosine sine = cond (flat flat_limit N cosine sine) Flat (cond (clipped clip_level N x) Clipped Plain)
 
 -- 12: "when the flat limit is negative or the clip level is outside 1 to 1,000,000"
-abbrev pub badFigures : (flatLimit clipLevel : ℤ) → Bool
-badFigures flatLimit clipLevel = lt_z flatLimit (pos 0) || (lt_z clipLevel (pos 1) || lt_z (pos 1000000) clipLevel)
+abbrev pub bad_figures : (flat_limit clip_level : ℤ) → Bool
+bad_figures flat_limit clip_level = lt_z flat_limit (pos 0) || (lt_z clip_level (pos 1) || lt_z (pos 1000000) clip_level)
 
 -- "Order: 1 to 6, then 12."
-abbrev pub markVerdict : Call → (flatLimit clipLevel : ℤ) → Verdict
-markVerdict call flatLimit clipLevel = tests call (cond (badFigures flatLimit clipLevel) (refused 12) accepted)
+abbrev pub mark_verdict : Call → (flat_limit clip_level : ℤ) → Verdict
+mark_verdict call flat_limit clip_level = tests call (cond (bad_figures flat_limit clip_level) (refused 12) accepted)

@@ -2,32 +2,32 @@
 -- N is the length, x the samples of the block, x(0) being the sample at the start. What a buffer holds after the call is marked '.
 use Rattle.std.specs.Prelude.{not, cond, List, [], ◌∷◌, ◌≡◌, ℕ, ◌+◌, ◌/◌, ◌≤◌, ◌<◌, ℤ, pos, length}
 use Rattle.words.specs.Words.{Samples, word, Written}
-use Rattle.lengths.specs.Block.{AcceptedBlock, isLength, level, spectrumYields}
-use Rattle.ffct.specs.Exact.{exactCosine, exactSine, exactDct, exactReal, exactImaginary, eighth, quarterOfNext, quarter, Within}
-use Rattle.ffct.specs.Transforms.{dct as dctOf, spectrum as spectrumOf, pair as pair_of}
-use Rattle.ffct.specs.Counts.{dctProducts, dctSums, spectrumProducts, spectrumSums, pairProducts, pair_sums}
+use Rattle.lengths.specs.Block.{AcceptedBlock, is_length, level, spectrum_yields}
+use Rattle.ffct.specs.Exact.{exact_cosine, exact_sine, exact_dct, exact_real, exact_imaginary, eighth, quarter_of_next, quarter, Within}
+use Rattle.ffct.specs.Transforms.{dct as dct_of, spectrum as spectrum_of, pair as pair_of}
+use Rattle.ffct.specs.Counts.{dct_products, dct_sums, spectrum_products, spectrum_sums, pair_products, pair_sums}
 use Rattle.counts.specs.declared.tally.Tally.{Tally}
 use Rattle.counts.specs.Counts.{SixCounts, SixPublished}
-use Rattle.refusals.specs.Refusals.{scratchWords, block, refused, accepted, Promise}
+use Rattle.refusals.specs.Refusals.{scratch_words, block, refused, accepted, Promise}
 use Rattle.refusals.specs.Calls.{Call, verdict}
 use Rattle.spectra.specs.declared.Answer.{Answer}
 use Rattle.spectra.specs.declared.CountsAnswer.{CountsAnswer}
 use Rattle.spectra.specs.declared.marks.MarkAnswer.{MarkAnswer}
 use Rattle.spectra.specs.declared.marks.MarkAnswer.TheVariants.{Marked}
-use Rattle.spectra.specs.Answers.{verdictOf, spent, verdictOfCounts, countsOf, verdictOfMark, spentMarking}
-use Rattle.spectra.specs.Marks.{mark, markVerdict}
+use Rattle.spectra.specs.Answers.{verdict_of, spent, verdict_of_counts, counts_of, verdict_of_mark, spent_marking}
+use Rattle.spectra.specs.Marks.{mark, mark_verdict}
 
 -- ---- what every accepted call spends and clears. Products, sums and the largest rest are those that the definition of its coefficients
 -- carries. From a length on the counts are the published closed forms; below it, which is at N = 1 for Spectrum and Pair, the call "costs
 -- nothing"
-pub record Spends (N allowance products sums largestRest from : ℕ) (publishedProducts publishedSums : ℤ)
+pub record Spends (N allowance products sums largest_rest from : ℕ) (published_products published_sums : ℤ)
     (scratch scratch' : List ℤ) (spent : Tally) : Type 0 where
   pub tallied : (spent.products ≡ products) × (spent.sums ≡ sums)
-  pub rest : spent.largest_rest ≡ largestRest
-  pub published : from ≤ N → (pos spent.products ≡ publishedProducts) × (pos spent.sums ≡ publishedSums)
-  pub nothingBelow : N < from → (spent.products ≡ 0) × (spent.sums ≡ 0)
+  pub rest : spent.largest_rest ≡ largest_rest
+  pub published : from ≤ N → (pos spent.products ≡ published_products) × (pos spent.sums ≡ published_sums)
+  pub nothing_below : N < from → (spent.products ≡ 0) × (spent.sums ≡ 0)
   pub allowed : spent.products ≤ allowance
-  pub scratchCleared : Written 0 (scratchWords N) (λ k. pos 0) scratch scratch'
+  pub scratch_cleared : Written 0 (scratch_words N) (λ k. pos 0) scratch scratch'
 
 -- ---- Spectrum. What it is lent: two result buffers and scratch
 pub record Buffers : Type 0 where
@@ -38,8 +38,8 @@ pub record Buffers : Type 0 where
 abbrev pub buffers : (cosine sine scratch : List ℤ) → Buffers
 buffers cosine sine scratch = record { cosine = cosine; sine = sine; scratch = scratch }
 
-abbrev pub spectrumCall : List ℤ → (start N allowance : ℕ) → Buffers → Call
-spectrumCall recording start N allowance lent =
+abbrev pub spectrum_call : List ℤ → (start N allowance : ℕ) → Buffers → Call
+spectrum_call recording start N allowance lent =
     record {
       lengths = length recording ∷ [];
       samples = word recording ∷ [];
@@ -47,30 +47,30 @@ spectrumCall recording start N allowance lent =
       N = N;
       allowance = allowance;
       results = length lent.cosine ∷ length lent.sine ∷ [];
-      yields = spectrumYields N;
+      yields = spectrum_yields N;
       scratch = length lent.scratch;
-      products = (spectrumOf (level N) (block recording start)).products;
+      products = (spectrum_of (level N) (block recording start)).products;
     }
 
 -- an accepted call that spends a tally
 pub record SpectrumDone (N : ℕ) (x : Samples) (allowance : ℕ) (lent lent' : Buffers) (spent : Tally) : Type 0 where
   pub block : AcceptedBlock (level N) x
-  pub cosineWords : Written 0 (spectrumYields N) (spectrumOf (level N) x).cosine lent.cosine lent'.cosine
-  pub sineWords : Written 0 (spectrumYields N) (spectrumOf (level N) x).sine lent.sine lent'.sine
-  pub cosineNear : (k : ℕ) → k ≤ N / 2 → Within (eighth N) (word lent'.cosine k) (exactCosine N x k)
-  pub sineNear : (k : ℕ) → k ≤ N / 2 → Within (eighth N) (word lent'.sine k) (exactSine N x k)
-  pub spends : let t = spectrumOf (level N) x in Spends N allowance t.products t.sums t.largestRest
-      2 (spectrumProducts (level N)) (spectrumSums (level N)) lent.scratch lent'.scratch spent
+  pub cosine_words : Written 0 (spectrum_yields N) (spectrum_of (level N) x).cosine lent.cosine lent'.cosine
+  pub sine_words : Written 0 (spectrum_yields N) (spectrum_of (level N) x).sine lent.sine lent'.sine
+  pub cosine_near : (k : ℕ) → k ≤ N / 2 → Within (eighth N) (word lent'.cosine k) (exact_cosine N x k)
+  pub sine_near : (k : ℕ) → k ≤ N / 2 → Within (eighth N) (word lent'.sine k) (exact_sine N x k)
+  pub spends : let t = spectrum_of (level N) x in Spends N allowance t.products t.sums t.largest_rest
+      2 (spectrum_products (level N)) (spectrum_sums (level N)) lent.scratch lent'.scratch spent
 
 abbrev pub SpectrumPromise : List ℤ → (start N allowance : ℕ) → (lent lent' : Buffers) → Answer → Type 0
 SpectrumPromise recording start N allowance lent lent' answer =
-    Promise (verdictOf answer) (verdict (spectrumCall recording start N allowance lent))
+    Promise (verdict_of answer) (verdict (spectrum_call recording start N allowance lent))
     (lent' ≡ lent)
     (SpectrumDone N (block recording start) allowance lent lent' (spent answer))
 
 -- ---- Cosine
-abbrev pub cosineCall : List ℤ → (start N allowance : ℕ) → (coefficients scratch : List ℤ) → Call
-cosineCall recording start N allowance coefficients scratch =
+abbrev pub cosine_call : List ℤ → (start N allowance : ℕ) → (coefficients scratch : List ℤ) → Call
+cosine_call recording start N allowance coefficients scratch =
     record {
       lengths = length recording ∷ [];
       samples = word recording ∷ [];
@@ -80,20 +80,20 @@ cosineCall recording start N allowance coefficients scratch =
       results = length coefficients ∷ [];
       yields = N;
       scratch = length scratch;
-      products = (dctOf (level N) (block recording start)).products;
+      products = (dct_of (level N) (block recording start)).products;
     }
 
 pub record CosineDone (N : ℕ) (x : Samples) (allowance : ℕ)
     (coefficients scratch coefficients' scratch' : List ℤ) (spent : Tally) : Type 0 where
   pub block : AcceptedBlock (level N) x
-  pub words : Written 0 N (dctOf (level N) x).at coefficients coefficients'
-  pub near : (k : ℕ) → k < N → Within (quarterOfNext N) (word coefficients' k) (exactDct N x k)
-  pub spends : let t = dctOf (level N) x in Spends N allowance t.products t.sums t.largestRest
-      1 (dctProducts (level N)) (dctSums (level N)) scratch scratch' spent
+  pub words : Written 0 N (dct_of (level N) x).at coefficients coefficients'
+  pub near : (k : ℕ) → k < N → Within (quarter_of_next N) (word coefficients' k) (exact_dct N x k)
+  pub spends : let t = dct_of (level N) x in Spends N allowance t.products t.sums t.largest_rest
+      1 (dct_products (level N)) (dct_sums (level N)) scratch scratch' spent
 
 abbrev pub CosinePromise : List ℤ → ℕ → ℕ → ℕ → (coefficients scratch coefficients' scratch' : List ℤ) → Answer → Type 0
 CosinePromise recording start N allowance coefficients scratch coefficients' scratch' answer =
-    Promise (verdictOf answer) (verdict (cosineCall recording start N allowance coefficients scratch))
+    Promise (verdict_of answer) (verdict (cosine_call recording start N allowance coefficients scratch))
     ((coefficients' ≡ coefficients) × (scratch' ≡ scratch))
     (CosineDone N (block recording start) allowance coefficients scratch coefficients' scratch' (spent answer))
 
@@ -103,11 +103,11 @@ pub record PairBuffers : Type 0 where
   pub imaginary : List ℤ
   pub scratch : List ℤ
 
-abbrev pub pairBuffers : (real imaginary scratch : List ℤ) → PairBuffers
-pairBuffers real imaginary scratch = record { real = real; imaginary = imaginary; scratch = scratch }
+abbrev pub pair_buffers : (real imaginary scratch : List ℤ) → PairBuffers
+pair_buffers real imaginary scratch = record { real = real; imaginary = imaginary; scratch = scratch }
 
-abbrev pub pairCall : (a b : List ℤ) → (start N allowance : ℕ) → PairBuffers → Call
-pairCall a b start N allowance lent =
+abbrev pub pair_call : (a b : List ℤ) → (start N allowance : ℕ) → PairBuffers → Call
+pair_call a b start N allowance lent =
     record {
       lengths = length a ∷ length b ∷ [];
       samples = word a ∷ word b ∷ [];
@@ -121,36 +121,36 @@ pairCall a b start N allowance lent =
     }
 
 pub record PairDone (N : ℕ) (x y : Samples) (allowance : ℕ) (lent lent' : PairBuffers) (spent : Tally) : Type 0 where
-  pub blockA : AcceptedBlock (level N) x
-  pub blockB : AcceptedBlock (level N) y
-  pub realWords : Written 0 N (pair_of (level N) x y).real lent.real lent'.real
-  pub imaginaryWords : Written 0 N (pair_of (level N) x y).imaginary lent.imaginary lent'.imaginary
-  pub realNear : (k : ℕ) → k < N → Within (quarter N) (word lent'.real k) (exactReal N x y k)
-  pub imaginaryNear : (k : ℕ) → k < N → Within (quarter N) (word lent'.imaginary k) (exactImaginary N x y k)
-  pub spends : let t = pair_of (level N) x y in Spends N allowance t.products t.sums t.largestRest
-      2 (pairProducts (level N)) (pair_sums (level N)) lent.scratch lent'.scratch spent
+  pub block_a : AcceptedBlock (level N) x
+  pub block_b : AcceptedBlock (level N) y
+  pub real_words : Written 0 N (pair_of (level N) x y).real lent.real lent'.real
+  pub imaginary_words : Written 0 N (pair_of (level N) x y).imaginary lent.imaginary lent'.imaginary
+  pub real_near : (k : ℕ) → k < N → Within (quarter N) (word lent'.real k) (exact_real N x y k)
+  pub imaginary_near : (k : ℕ) → k < N → Within (quarter N) (word lent'.imaginary k) (exact_imaginary N x y k)
+  pub spends : let t = pair_of (level N) x y in Spends N allowance t.products t.sums t.largest_rest
+      2 (pair_products (level N)) (pair_sums (level N)) lent.scratch lent'.scratch spent
 
 abbrev pub PairPromise : (a b : List ℤ) → (start N allowance : ℕ) → (lent lent' : PairBuffers) → Answer → Type 0
 PairPromise a b start N allowance lent lent' answer =
-    Promise (verdictOf answer) (verdict (pairCall a b start N allowance lent))
+    Promise (verdict_of answer) (verdict (pair_call a b start N allowance lent))
     (lent' ≡ lent)
     (PairDone N (block a start) (block b start) allowance lent lent' (spent answer))
 
 -- ---- the count query: it tests 1 alone, and gives all six counts, by the definitions and by the closed forms
 pub record CountsPromise (N : ℕ) (answer : CountsAnswer) : Type 0 where
-  pub verdict : verdictOfCounts answer ≡ cond (not (isLength N)) (refused 1) accepted
-  pub counted : verdictOfCounts answer ≡ accepted → SixCounts (level N) (countsOf answer) × SixPublished N (countsOf answer)
+  pub verdict : verdict_of_counts answer ≡ cond (not (is_length N)) (refused 1) accepted
+  pub counted : verdict_of_counts answer ≡ accepted → SixCounts (level N) (counts_of answer) × SixPublished N (counts_of answer)
 
 -- ---- the mark of a block. "A new call takes these two signed 32-bit figures beside all that Spectrum takes, and returns the mark with
 -- Spectrum's full answer."
-pub record MarkDone (flatLimit clipLevel : ℤ) (N : ℕ) (x : Samples) (allowance : ℕ) (lent lent' : Buffers) (answer : MarkAnswer)
+pub record MarkDone (flat_limit clip_level : ℤ) (N : ℕ) (x : Samples) (allowance : ℕ) (lent lent' : Buffers) (answer : MarkAnswer)
     : Type 0 where
-  pub spectrum : SpectrumDone N x allowance lent lent' (spentMarking answer)
-  pub marked : answer ≡ Marked (mark flatLimit clipLevel N x (spectrumOf (level N) x).cosine (spectrumOf (level N) x).sine)
-      (spentMarking answer)
+  pub spectrum : SpectrumDone N x allowance lent lent' (spent_marking answer)
+  pub marked : answer ≡ Marked (mark flat_limit clip_level N x (spectrum_of (level N) x).cosine (spectrum_of (level N) x).sine)
+      (spent_marking answer)
 
-abbrev pub MarkPromise : List ℤ → (start N allowance : ℕ) → (flatLimit clipLevel : ℤ) → (lent lent' : Buffers) → MarkAnswer → Type 0
-MarkPromise recording start N allowance flatLimit clipLevel lent lent' answer =
-    Promise (verdictOfMark answer) (markVerdict (spectrumCall recording start N allowance lent) flatLimit clipLevel)
+abbrev pub MarkPromise : List ℤ → (start N allowance : ℕ) → (flat_limit clip_level : ℤ) → (lent lent' : Buffers) → MarkAnswer → Type 0
+MarkPromise recording start N allowance flat_limit clip_level lent lent' answer =
+    Promise (verdict_of_mark answer) (mark_verdict (spectrum_call recording start N allowance lent) flat_limit clip_level)
     (lent' ≡ lent)
-    (MarkDone flatLimit clipLevel N (block recording start) allowance lent lent' answer)
+    (MarkDone flat_limit clip_level N (block recording start) allowance lent lent' answer)

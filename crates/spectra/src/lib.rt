@@ -3,11 +3,11 @@
 pub mod marks;
 
 ghost use Rattle.std.specs.Prelude.{true, ◌≡◌};
-ghost use Rattle.lengths.specs.Block.{isLength, level};
+ghost use Rattle.lengths.specs.Block.{is_length, level};
 ghost use Rattle.counts.specs.Counts.{SixCounts};
 ghost use Rattle.refusals.specs.Calls.{tests};
 ghost use Rattle.refusals.specs.Tests.{Tells};
-ghost use Rattle.spectra.specs.Promises.{buffers, pairBuffers, spectrumCall, cosineCall, pairCall};
+ghost use Rattle.spectra.specs.Promises.{buffers, pair_buffers, spectrum_call, cosine_call, pair_call};
 ghost use Rattle.spectra.specs.Promises.{SpectrumPromise, CosinePromise, PairPromise, CountsPromise};
 
 use blocks::{cosine_of, pair_of, spectrum_of};
@@ -37,7 +37,7 @@ pub enum CountsAnswer {
 
 // The counts of a length; where it is none, those of one sample, which are 0.
 fn counts_at(length: usize) -> Counts
-    ensures { isLength length ≡ true → SixCounts (level length) result }
+    ensures { is_length length ≡ true → SixCounts (level length) result }
 {
     if is_length(length) {
         counts_of(length)
@@ -56,7 +56,7 @@ fn test_spectrum(
     sine: &[i32],
     scratch: &[i64],
 ) -> Outcome
-    ensures { Tells (tests (spectrumCall recording.now start length allowance
+    ensures { Tells (tests (spectrum_call recording.now start length allowance
         (buffers cosine.now sine.now scratch.now))) result }
 {
     let counts = counts_at(length);
@@ -83,7 +83,7 @@ fn test_cosine(
     coefficients: &[i32],
     scratch: &[i64],
 ) -> Outcome
-    ensures { Tells (tests (cosineCall recording.now start length allowance
+    ensures { Tells (tests (cosine_call recording.now start length allowance
         coefficients.now scratch.now)) result }
 {
     let counts = counts_at(length);
@@ -111,8 +111,8 @@ fn test_pair(
     imaginary: &[i32],
     scratch: &[i64],
 ) -> Outcome
-    ensures { Tells (tests (pairCall a.now b.now start length allowance
-        (pairBuffers real.now imaginary.now scratch.now))) result }
+    ensures { Tells (tests (pair_call a.now b.now start length allowance
+        (pair_buffers real.now imaginary.now scratch.now))) result }
 {
     let counts = counts_at(length);
     let shortest = shorter(a.len(), b.len());
@@ -196,8 +196,8 @@ pub fn pair(
     scratch: &mut [i64],
 ) -> Answer
     ensures { PairPromise a.now b.now start length allowance
-        (pairBuffers real.old imaginary.old scratch.old)
-        (pairBuffers real.new imaginary.new scratch.new) result }
+        (pair_buffers real.old imaginary.old scratch.old)
+        (pair_buffers real.new imaginary.new scratch.new) result }
 {
     let tested = test_pair(a, b, start, length, allowance, real, imaginary, scratch);
     if let Outcome::Refused(refusal) = tested {

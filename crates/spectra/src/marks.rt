@@ -3,7 +3,7 @@ ghost use Rattle.std.specs.Prelude.{◌≡◌, ◌+◌, ◌/◌, ◌^◌, ◌≤
 ghost use Rattle.std.specs.Int.Signed.{le_z};
 ghost use Rattle.words.specs.Words.{word};
 ghost use Rattle.refusals.specs.Refusals.{block};
-ghost use Rattle.spectra.specs.Marks.{size, all, flat, clipped, mark, badFigures};
+ghost use Rattle.spectra.specs.Marks.{size, all, flat, clipped, mark, bad_figures};
 ghost use Rattle.spectra.specs.Promises.{buffers, MarkPromise};
 
 use crate::{Answer, spectrum, test_spectrum};
@@ -29,7 +29,7 @@ pub enum MarkAnswer {
 
 // Whether the flat limit is negative or the clip level is outside 1 to 1,000,000.
 fn bad_figures(flat_limit: i32, clip_level: i32) -> bool
-    ensures { result ≡ badFigures flat_limit clip_level }
+    ensures { result ≡ bad_figures flat_limit clip_level }
 {
     if flat_limit < 0 {
         return true;

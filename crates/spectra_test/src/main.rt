@@ -1,7 +1,7 @@
 // Runs Spectrum, Cosine, Pair and the count query, and writes what each answers and what then stands in its buffers. The file stdout beside
 // src/ was made by tests/expect_spectra.py, which shares nothing with the product.
 ghost use Rattle.std.specs.Prelude.{◌≡◌, ◌+◌, ◌≤◌, length};
-ghost use Rattle.refusals.specs.Refusals.{scratchWords};
+ghost use Rattle.refusals.specs.Refusals.{scratch_words};
 
 use counts::tally::Tally;
 use libc::STDOUT_FILENO;
@@ -131,7 +131,7 @@ const MOST_LENT: usize = MOST_SCRATCH + 2;
 
 // Scratch as it is before a call.
 fn scratch_row() -> [i64; MOST_LENT]
-    ensures { scratchWords 1024 + 2 ≡ length result }
+    ensures { scratch_words 1024 + 2 ≡ length result }
 {
     [90; MOST_LENT]
 }
@@ -176,7 +176,7 @@ fn write_call(
 }
 
 fn run_call(call: Call, a: &[i32], b: &[i32], case: Case)
-    requires { (case.first ≤ 1040) × (case.second ≤ 1040) × (case.scratch ≤ scratchWords 1024 + 2) }
+    requires { (case.first ≤ 1040) × (case.second ≤ 1040) × (case.scratch ≤ scratch_words 1024 + 2) }
 {
     let mut firsts = row(70);
     let mut seconds = row(80);
@@ -196,7 +196,7 @@ fn run_call(call: Call, a: &[i32], b: &[i32], case: Case)
 }
 
 fn run_calls(a: &[i32], b: &[i32], case: Case)
-    requires { (case.first ≤ 1040) × (case.second ≤ 1040) × (case.scratch ≤ scratchWords 1024 + 2) }
+    requires { (case.first ≤ 1040) × (case.second ≤ 1040) × (case.scratch ≤ scratch_words 1024 + 2) }
 {
     run_call(Call::Spectrum, a, b, case);
     run_call(Call::Cosine, a, b, case);

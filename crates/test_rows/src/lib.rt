@@ -1,6 +1,6 @@
 // What the test programs write: numbers with a blank before each, and rows of words; and samples for them.
 ghost use Rattle.std.specs.Prelude.{◌≤◌, ◌<◌, nat_abs};
-ghost use Rattle.lengths.specs.Block.{largestSample};
+ghost use Rattle.lengths.specs.Block.{largest_sample};
 
 use libc::STDOUT_FILENO;
 use whole::size_of_small;
@@ -47,7 +47,7 @@ pub fn write_words(words: &[i32]) {
 
 // A sample from a number: -1000000 to 1000000.
 pub fn random_sample(state: u64) -> i32
-    ensures { nat_abs result ≤ largestSample }
+    ensures { nat_abs result ≤ largest_sample }
 {
     let n = state % 2000001;
     if n < 1000000 {

@@ -14,7 +14,7 @@ use Rattle.io.specs.Digits.{last_digits, IsDigitCount}
 use Rattle.text.specs.Decimal.{number, decimal}
 use Rattle.words.specs.Put.{Put}
 use Rattle.words.proofs.Putting.{◌then◌}
-use Rattle.text.proofs.Spelling.{digits_number, decimal-negative, decimal-natural}
+use Rattle.text.proofs.Spelling.{digits_number, decimal_negative, decimal_natural}
 
 -- the number that a signed parameter's bits hold
 abbrev pub held : ℤ → ℤ
@@ -26,12 +26,12 @@ module _ (n k at : ℕ) (out end page : List ℕ) (small : Fits w64 n) (few : Is
   spelled_out : take k out ≡ number n
   spelled_out = written ∙ digits_number k n small.fits few
 
-  pub digits-ready : at + length (take k out) ≤ length page
-  digits-ready = rw spelled_out (omega (arith, length-append (number n) end))
+  pub digits_ready : at + length (take k out) ≤ length page
+  digits_ready = rw spelled_out (omega (arith, length-append (number n) end))
 
   module _ (r : ℕ) (page₁ : List ℕ) (put : Put page at (take k out) r page₁) where
-    pub end-ready : r + length end ≤ length page₁
-    end-ready = omega (arith, ap length spelled_out, length-append (number n) end)
+    pub end_ready : r + length end ≤ length page₁
+    end_ready = omega (arith, ap length spelled_out, length-append (number n) end)
 
     pub number_put : {q : ℕ} {page₂ : List ℕ} → Put page₁ r end q page₂ → Put page at (number n ++ end) q page₂
     number_put e = (rw spelled_out at put) then e
@@ -41,25 +41,25 @@ module _ (x : ℤ) (size at : ℕ) (end page : List ℕ) (small : SFits w32 x) (
     (room : at + length (decimal x ++ end) ≤ length page) where
   module _ (below : lt_z (held x) (pos 0) ≡ true) where
     negative : decimal x ≡ 45 ∷ number size
-    negative = rw (is, to_z-of_z small) (decimal-negative x (rw (to_z-of_z small) at below))
+    negative = rw (is, to_z-of_z small) (decimal_negative x (rw (to_z-of_z small) at below))
 
-    pub sign-ready : at + 1 ≤ length page
-    sign-ready = omega (arith, rw negative at room)
+    pub sign_ready : at + 1 ≤ length page
+    sign_ready = omega (arith, rw negative at room)
 
-    pub size-ready : (sign : List ℕ) {r : ℕ} {page₁ : List ℕ} → Put page at sign r page₁ → length sign ≤ 1
+    pub size_ready : (sign : List ℕ) {r : ℕ} {page₁ : List ℕ} → Put page at sign r page₁ → length sign ≤ 1
         → r + length (number size ++ end) ≤ length page₁
-    size-ready sign put one = omega (arith, rw negative at room)
+    size_ready sign put one = omega (arith, rw negative at room)
 
-    pub negative-put : {r q : ℕ} {page₁ page₂ : List ℕ} → Put page at (45 ∷ []) r page₁ → Put page₁ r (number size ++ end) q page₂
+    pub negative_put : {r q : ℕ} {page₁ page₂ : List ℕ} → Put page at (45 ∷ []) r page₁ → Put page₁ r (number size ++ end) q page₂
         → Put page at (decimal x ++ end) q page₂
-    negative-put put e = rw negative (put then e)
+    negative_put put e = rw negative (put then e)
 
   module _ (above : lt_z (held x) (pos 0) ≡ false) where
     natural : decimal x ≡ number size
-    natural = rw (is, to_z-of_z small) (decimal-natural x (rw (to_z-of_z small) at above))
+    natural = rw (is, to_z-of_z small) (decimal_natural x (rw (to_z-of_z small) at above))
 
-    pub natural-ready : at + length (number size ++ end) ≤ length page
-    natural-ready = rw natural at room
+    pub natural_ready : at + length (number size ++ end) ≤ length page
+    natural_ready = rw natural at room
 
-    pub natural-put : {q : ℕ} {page₁ : List ℕ} → Put page at (number size ++ end) q page₁ → Put page at (decimal x ++ end) q page₁
-    natural-put put = rw natural put
+    pub natural_put : {q : ℕ} {page₁ : List ℕ} → Put page at (number size ++ end) q page₁ → Put page at (decimal x ++ end) q page₁
+    natural_put put = rw natural put

@@ -6,5 +6,5 @@ abbrev pub spaces : ℕ → List ℕ
 spaces n = replicate n 32
 
 -- "right aligned": spaces up to the width of the column, then the text
-unfoldable pub rightAligned : (width : ℕ) → List ℕ → List ℕ
-rightAligned width text = spaces (width - length text) ++ text
+unfoldable pub right_aligned : (width : ℕ) → List ℕ → List ℕ
+right_aligned width text = spaces (width - length text) ++ text

@@ -6,8 +6,8 @@ use mathlib.Core.List.{List, [], ◌∷◌, ◌++◌, Memᴰ}
 abbrev pub space : List ℕ
 space = 32 ∷ []
 
-abbrev pub lineFeed : List ℕ
-lineFeed = 10 ∷ []
+abbrev pub line_feed : List ℕ
+line_feed = 10 ∷ []
 
 abbrev pub digit : ℕ → ℕ
 digit d = 48 + d
@@ -37,6 +37,6 @@ abbrev pub value : List ℕ → ℕ
 value text = read_on 0 text
 
 pub record InDecimal : Type 0 where
-  pub readsBack : (n : ℕ) → value (number n) ≡ n
+  pub reads_back : (n : ℕ) → value (number n) ≡ n
   pub digits : (n c : ℕ) → n < 10 ^ 20 → Memᴰ c (number n) → (48 ≤ c) × (c ≤ 57)
-  pub noLeadingZero : (n : ℕ) → 0 < n → 48 < get_or (number n) 0 0
+  pub no_leading_zero : (n : ℕ) → 0 < n → 48 < get_or (number n) 0 0

@@ -2,7 +2,7 @@
 ghost use Rattle.std.specs.Prelude.{◌+◌, ◌≤◌, length, ◌++◌};
 ghost use Rattle.words.specs.Put.{Put};
 ghost use Rattle.text.specs.Decimal.{decimal};
-ghost use Rattle.text.specs.Alignment.{rightAligned};
+ghost use Rattle.text.specs.Alignment.{right_aligned};
 
 use crate::{put, put_decimal};
 
@@ -12,7 +12,7 @@ const WIDEST: usize = 12;
 // A text in a column of this width, right aligned.
 fn put_right(text: &[u8], width: usize, page: &mut [u8], at: usize) -> usize
     requires { (length text.now ≤ width) × (width ≤ 12) × (at + width ≤ length page.old) }
-    ensures { Put page.old at (rightAligned width text.now) result page.new }
+    ensures { Put page.old at (right_aligned width text.now) result page.new }
 {
     let spaces = [b' '; WIDEST];
     let blank = &spaces[..width - text.len()];
@@ -23,7 +23,7 @@ fn put_right(text: &[u8], width: usize, page: &mut [u8], at: usize) -> usize
 // A number in a column of this width, right aligned, and what ends the column.
 pub fn put_column(x: i32, width: usize, end: &[u8], page: &mut [u8], at: usize) -> usize
     requires { (length (decimal x) ≤ width) × (width ≤ 12) × (at + width + length end.now ≤ length page.old) }
-    ensures { Put page.old at (rightAligned width (decimal x) ++ end.now) result page.new }
+    ensures { Put page.old at (right_aligned width (decimal x) ++ end.now) result page.new }
 {
     let mut digits = [0u8; WIDEST];
     let count = put_decimal(x, b"", &mut digits, 0);

@@ -11,26 +11,26 @@ use mathlib.Core.List.{List}
 use Prim.Native.Nat.{ℕ, ◌+◌, ◌-◌, ◌*◌, ◌/◌, ◌≤◌, ◌<◌, max}
 use native.Mathlib.Omega.{arith}
 use lib.IntN.{ℤ}
-use Rattle.whole.proofs.Size.{within-size}
+use Rattle.whole.proofs.Size.{within_size}
 use Rattle.words.specs.Words.{Samples, word}
-use Rattle.lengths.specs.Block.{isLength, level}
-use Rattle.ffct.specs.Transforms.{Transform, rearranged, rotated, rotationRest, cosineDft, sineDft, dct}
-use Rattle.lengths.proofs.Lengths.{len, per, len-per}
-use Rattle.lengths.proofs.ElevenLengths.{as-len, level-le, Half, half, quarter}
-use Rattle.ffct.proofs.Sizes.{dft-size}
-use Rattle.ffct.proofs.Blocks.{Same, dft-same, rotated-same, rotation-rest-same}
-use Rattle.ffct.proofs.Steps.{dct-step, dct-products, dct-sums, dct-rest}
+use Rattle.lengths.specs.Block.{is_length, level}
+use Rattle.ffct.specs.Transforms.{Transform, rearranged, rotated, rotation_rest, cosine_dft, sine_dft, dct}
+use Rattle.lengths.proofs.Lengths.{len, per, len_per}
+use Rattle.lengths.proofs.ElevenLengths.{as_len, level_le, Half, half, quarter}
+use Rattle.ffct.proofs.Sizes.{dft_size}
+use Rattle.ffct.proofs.Blocks.{Same, dft_same, rotated_same, rotation_rest_same}
+use Rattle.ffct.proofs.Steps.{dct_step, dct_products, dct_sums, dct_rest}
 use Rattle.counts.specs.declared.tally.Tally.{Tally}
 use Rattle.counts.specs.Tally.{TalliedAs}
 use Rattle.transforms.specs.Pairs.{paired}
-use Rattle.rotation.specs.Rotation.{cosineAt, sineAt, RotationReady, Rotated}
+use Rattle.rotation.specs.Rotation.{cosine_at, sine_at, RotationReady, Rotated}
 use Rattle.transforms.specs.Steps.{Ready, DftReady, DftDone, DctReady, DctDone}
-use Rattle.transforms.proofs.Pairs.{paired-source, paired_same, paired-rearranged}
-use Rattle.transforms.proofs.Levels.{inner, ready-same}
+use Rattle.transforms.proofs.Pairs.{paired_source, paired_same, paired_rearranged}
+use Rattle.transforms.proofs.Levels.{inner, ready_same}
 
 module _ {n : ℕ} {w₀ : List ℤ} {spent : Tally} (start : DctReady n w₀ spent) (many : 2 ≤ n) where
   H : Half n
-  H = half n start.ready.length-ok many
+  H = half n start.ready.length_ok many
 
   abbrev l : ℕ
   l = level (n / 2)
@@ -45,120 +45,120 @@ module _ {n : ℕ} {w₀ : List ℤ} {spent : Tally} (start : DctReady n w₀ sp
   half_is : n / 2 ≡ len l
   half_is = omega (arith, H.twice)
 
-  block-is : Same (level n) (paired n 1 (word w₀)) z
-  block-is i h = paired-rearranged n (word w₀) even i (omega (arith, as-len n start.ready.length-ok))
+  block_is : Same (level n) (paired n 1 (word w₀)) z
+  block_is i h = paired_rearranged n (word w₀) even i (omega (arith, as_len n start.ready.length_ok))
 
   abbrev C : Transform
-  C = cosineDft (level n) z
+  C = cosine_dft (level n) z
 
   abbrev S : Transform
-  S = sineDft (level n) z
+  S = sine_dft (level n) z
 
-  whole-counts : ((dct (level n) (word w₀)).products ≡ C.products + S.products + (3 * (n / 2 - 1) + 1))
+  whole_counts : ((dct (level n) (word w₀)).products ≡ C.products + S.products + (3 * (n / 2 - 1) + 1))
       × ((dct (level n) (word w₀)).sums ≡ C.sums + S.sums + 3 * (n / 2 - 1))
-      × ((dct (level n) (word w₀)).largestRest ≡ max (max C.largestRest S.largestRest) (rotationRest n C.at S.at))
-  whole-counts = rw H.level-is (
-    rw (sym H.twice, sym half_is) at (dct-products l (word w₀)),
-    rw (sym H.twice, sym half_is) at (dct-sums l (word w₀)),
-    rw (sym H.twice) at (dct-rest l (word w₀)),
+      × ((dct (level n) (word w₀)).largest_rest ≡ max (max C.largest_rest S.largest_rest) (rotation_rest n C.at S.at))
+  whole_counts = rw H.level_is (
+    rw (sym H.twice, sym half_is) at (dct_products l (word w₀)),
+    rw (sym H.twice, sym half_is) at (dct_sums l (word w₀)),
+    rw (sym H.twice) at (dct_rest l (word w₀)),
   )
 
-  block-ready : Ready n (paired n 1 (word w₀))
-  block-ready = record {
-    length-ok = start.ready.length-ok;
+  block_ready : Ready n (paired n 1 (word w₀))
+  block_ready = record {
+    length_ok = start.ready.length_ok;
     samples = λ i h.
-        let o = paired-source n 1 i (omega arith) h in
+        let o = paired_source n 1 i (omega arith) h in
         rw (o.2 (word w₀)) (start.ready.samples o.0 (omega (arith, o.1)));
   }
 
-  cosine-is : cosineDft (level n) (paired n 1 (word w₀)) ≡ C
-  cosine-is = (dft-same (level n) _ _ block-is).0
+  cosine_is : cosine_dft (level n) (paired n 1 (word w₀)) ≡ C
+  cosine_is = (dft_same (level n) _ _ block_is).0
 
-  pub cosine-ready : DftReady cosineDft n 1 n w₀ spent
-  cosine-ready = record {
-    ready = block-ready;
+  pub cosine_ready : DftReady cosine_dft n 1 n w₀ spent
+  cosine_ready = record {
+    ready = block_ready;
     stride = omega arith;
     behind = omega arith;
     fits = omega (arith, start.fits, H.twice);
-    room = rw cosine-is (omega (arith, start.room, whole-counts));
+    room = rw cosine_is (omega (arith, start.room, whole_counts));
   }
 
   -- ---- after the cosine-DFT
-  module _ {w₁ : List ℤ} {t₁ : Tally} (cosined : DftDone cosineDft n 1 n w₀ w₁ spent t₁) where
-    cosine-tallied : TalliedAs C spent t₁
-    cosine-tallied = subst (λ t. TalliedAs t spent t₁) cosine-is cosined.tallied
+  module _ {w₁ : List ℤ} {t₁ : Tally} (cosined : DftDone cosine_dft n 1 n w₀ w₁ spent t₁) where
+    cosine_tallied : TalliedAs C spent t₁
+    cosine_tallied = subst (λ t. TalliedAs t spent t₁) cosine_is cosined.tallied
 
     block₁ : (i : ℕ) → i < n → paired n 1 (word w₁) i ≡ paired n 1 (word w₀) i
     block₁ = paired_same n 1 (word w₁) (word w₀) (omega arith) (λ j h. cosined.front j (omega arith))
 
-    sine-is : sineDft (level n) (paired n 1 (word w₁)) ≡ S
-    sine-is = (dft-same (level n) _ _ (λ i h. block₁ i (omega (arith, as-len n start.ready.length-ok)) ∙ block-is i h)).1
+    sine_is : sine_dft (level n) (paired n 1 (word w₁)) ≡ S
+    sine_is = (dft_same (level n) _ _ (λ i h. block₁ i (omega (arith, as_len n start.ready.length_ok)) ∙ block_is i h)).1
 
     -- where the sine-DFT goes
     abbrev at : ℕ
     at = n + n / 2 + 1
 
-    pub sine-ready : DftReady sineDft n 1 at w₁ t₁
-    sine-ready = record {
-      ready = ready-same block-ready block₁;
+    pub sine_ready : DftReady sine_dft n 1 at w₁ t₁
+    sine_ready = record {
+      ready = ready_same block_ready block₁;
       stride = omega arith;
       behind = omega arith;
       fits = omega (arith, start.fits, H.twice, cosined.len);
-      room = rw sine-is (omega (arith, start.room, whole-counts, cosine-tallied));
+      room = rw sine_is (omega (arith, start.room, whole_counts, cosine_tallied));
     }
 
     -- ---- after the sine-DFT
-    module _ {w₂ : List ℤ} {t₂ : Tally} (sined : DftDone sineDft n 1 at w₁ w₂ t₁ t₂) where
-      sine-tallied : TalliedAs S t₁ t₂
-      sine-tallied = subst (λ t. TalliedAs t t₁ t₂) sine-is sined.tallied
+    module _ {w₂ : List ℤ} {t₂ : Tally} (sined : DftDone sine_dft n 1 at w₁ w₂ t₁ t₂) where
+      sine_tallied : TalliedAs S t₁ t₂
+      sine_tallied = subst (λ t. TalliedAs t t₁ t₂) sine_is sined.tallied
 
-      cosine-word : (k : ℕ) → k ≤ n / 2 → cosineAt n w₂ k ≡ (cosineDft (level n) (paired n 1 (word w₀))).at k
-      cosine-word k h = sined.front (n + k) (omega arith) ∙ cosined.coefficients k (omega arith)
+      cosine_word : (k : ℕ) → k ≤ n / 2 → cosine_at n w₂ k ≡ (cosine_dft (level n) (paired n 1 (word w₀))).at k
+      cosine_word k h = sined.front (n + k) (omega arith) ∙ cosined.coefficients k (omega arith)
 
-      sine-word : (k : ℕ) → k ≤ n / 2 → sineAt n w₂ k ≡ (sineDft (level n) (paired n 1 (word w₁))).at k
-      sine-word k h = sined.coefficients k (omega arith)
+      sine_word : (k : ℕ) → k ≤ n / 2 → sine_at n w₂ k ≡ (sine_dft (level n) (paired n 1 (word w₁))).at k
+      sine_word k h = sined.coefficients k (omega arith)
 
-      pub rotation-ready : RotationReady n w₂ t₂
-      rotation-ready =
-          let e = as-len n start.ready.length-ok in
+      pub rotation_ready : RotationReady n w₂ t₂
+      rotation_ready =
+          let e = as_len n start.ready.length_ok in
           record {
-            length-ok = start.ready.length-ok;
+            length_ok = start.ready.length_ok;
             some = many;
             fits = omega (arith, start.fits, H.twice, sined.len, cosined.len);
-            cosine-small = λ k h. rw (cosine-word k (omega arith)) (within-size (dft-size (inner block-ready) k (omega (arith, e))).0);
-            sine-small = λ k h. rw (sine-word k (omega arith)) (within-size (dft-size (inner sine-ready.ready) k (omega (arith, e))).1);
-            room = omega (arith, start.room, whole-counts, cosine-tallied, sine-tallied);
+            cosine_small = λ k h. rw (cosine_word k (omega arith)) (within_size (dft_size (inner block_ready) k (omega (arith, e))).0);
+            sine_small = λ k h. rw (sine_word k (omega arith)) (within_size (dft_size (inner sine_ready.ready) k (omega (arith, e))).1);
+            room = omega (arith, start.room, whole_counts, cosine_tallied, sine_tallied);
           }
 
-      pub dct-ends : {w₃ : List ℤ} {t₃ : Tally} → Rotated n w₂ w₃ t₂ t₃ → DctDone n w₀ w₃ spent t₃
-      dct-ends rot = record {
-        coefficients = λ k h. rot.words.new k h ∙ rotated-is k h ∙ sym (whole-at k);
+      pub dct_ends : {w₃ : List ℤ} {t₃ : Tally} → Rotated n w₂ w₃ t₂ t₃ → DctDone n w₀ w₃ spent t₃
+      dct_ends rot = record {
+        coefficients = λ k h. rot.words.new k h ∙ rotated_is k h ∙ sym (whole_at k);
         front = λ k h. absurd (omega arith);
-        tallied = omega (arith, whole-counts, cosine-tallied, sine-tallied, rot.tallied, rest-is);
+        tallied = omega (arith, whole_counts, cosine_tallied, sine_tallied, rot.tallied, rest_is);
         len = rot.words.len ∙ sined.len ∙ cosined.len;
       }
         where
-          whole-at : (k : ℕ) → (dct (level n) (word w₀)).at k ≡ rotated n C.at S.at k
-          whole-at k = rw H.level-is (rw (sym H.twice) at (dct-step l (word w₀) k))
+          whole_at : (k : ℕ) → (dct (level n) (word w₀)).at k ≡ rotated n C.at S.at k
+          whole_at k = rw H.level_is (rw (sym H.twice) at (dct_step l (word w₀) k))
 
-          per-is : 2 * (n / 2) * per (level n) ≡ 1024
-          per-is =
-              let ok = start.ready.length-ok in
-              rw even (ap (λ m. m * per (level n)) (as-len n ok) ∙ len-per (level n) (level-le n ok))
+          per_is : 2 * (n / 2) * per (level n) ≡ 1024
+          per_is =
+              let ok = start.ready.length_ok in
+              rw even (ap (λ m. m * per (level n)) (as_len n ok) ∙ len_per (level n) (level_le n ok))
 
-          cosine-at : (j : ℕ) → j ≤ n / 2 → cosineAt n w₂ j ≡ C.at j
-          cosine-at j o = cosine-word j o ∙ ap (λ t. t.at j) cosine-is
+          cosine_at_lem : (j : ℕ) → j ≤ n / 2 → cosine_at n w₂ j ≡ C.at j
+          cosine_at_lem j o = cosine_word j o ∙ ap (λ t. t.at j) cosine_is
 
-          sine-at : (j : ℕ) → j ≤ n / 2 → sineAt n w₂ j ≡ S.at j
-          sine-at j o = sine-word j o ∙ ap (λ t. t.at j) sine-is
+          sine_at_lem : (j : ℕ) → j ≤ n / 2 → sine_at n w₂ j ≡ S.at j
+          sine_at_lem j o = sine_word j o ∙ ap (λ t. t.at j) sine_is
 
-          rotated-is : (k : ℕ) → k < n → rotated n (cosineAt n w₂) (sineAt n w₂) k ≡ rotated n C.at S.at k
-          rotated-is k h =
-              rw even at (rotated-same (n / 2) (per (level n)) _ _ _ _ per-is cosine-at sine-at k (omega (arith, even)))
+          rotated_is : (k : ℕ) → k < n → rotated n (cosine_at n w₂) (sine_at n w₂) k ≡ rotated n C.at S.at k
+          rotated_is k h =
+              rw even at (rotated_same (n / 2) (per (level n)) _ _ _ _ per_is cosine_at_lem sine_at_lem k (omega (arith, even)))
 
-          rest-is : rotationRest n (cosineAt n w₂) (sineAt n w₂) ≡ rotationRest n C.at S.at
-          rest-is = rw even at (rotation-rest-same (n / 2) (per (level n)) _ _ _ _ per-is cosine-at sine-at)
+          rest_is : rotation_rest n (cosine_at n w₂) (sine_at n w₂) ≡ rotation_rest n C.at S.at
+          rest_is = rw even at (rotation_rest_same (n / 2) (per (level n)) _ _ _ _ per_is cosine_at_lem sine_at_lem)
 
 -- two pairs are rotated at a time, where a block is not short
-pub fourths : {n : ℕ} → isLength n ≡ true → 16 < n → 4 * (n / 4) ≡ n
+pub fourths : {n : ℕ} → is_length n ≡ true → 16 < n → 4 * (n / 4) ≡ n
 fourths {n} ok h = omega (arith, (quarter n ok (omega arith)).four)

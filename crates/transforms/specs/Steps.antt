@@ -3,8 +3,8 @@
 -- `spent` is the tally that a function is handed, `total` the one that it gives back.
 use Rattle.std.specs.Prelude.{true, List, ◌≡◌, ℕ, ◌+◌, ◌-◌, ◌*◌, ◌/◌, ◌≤◌, ◌<◌, min, ℤ, nat_abs, ◌+ℤ◌, ◌-ℤ◌, length}
 use Rattle.words.specs.Words.{Samples, word, Written}
-use Rattle.lengths.specs.Block.{isLength, level, largestSum}
-use Rattle.ffct.specs.Transforms.{Transform, dct, cosineBeyond, sineBeyond, dctBeyond, apart}
+use Rattle.lengths.specs.Block.{is_length, level, largest_sum}
+use Rattle.ffct.specs.Transforms.{Transform, dct, cosine_beyond, sine_beyond, dct_beyond, apart}
 use Rattle.counts.specs.declared.tally.Tally.{Tally}
 use Rattle.counts.specs.Tally.{TalliedAs, Summed, HasRoom}
 use Rattle.transforms.specs.Pairs.{paired}
@@ -14,8 +14,8 @@ use Rattle.transforms.specs.Pairs.{paired}
 -- a block of n samples, n one of the eleven lengths, and n times the size of each sample at most 1,024 times 1,000,000: that holds of an
 -- accepted block and of the samples of every step
 pub record Ready (n : ℕ) (x : Samples) : Type 0 where
-  pub length-ok : isLength n ≡ true
-  pub samples : (i : ℕ) → i < n → n * nat_abs (x i) ≤ largestSum
+  pub length_ok : is_length n ≡ true
+  pub samples : (i : ℕ) → i < n → n * nat_abs (x i) ≤ largest_sum
 
 -- what a transform t leaves: its first m coefficients from place `at` on, its counts and its largest rest; the words below `at` are as
 -- before. What stands in the words behind the coefficients is the program's choice. The length stays
@@ -27,19 +27,19 @@ pub record Gives (t : Transform) (at m : ℕ) (before after : List ℤ) (spent t
 
 -- the words that a DCT of n samples works in: the samples, which its coefficients replace, and its two DFTs, 3 n words in all; for one
 -- sample that one word
-abbrev pub dctRoom : ℕ → ℕ
-dctRoom n = min (3 * n) (5 * n - 4)
+abbrev pub dct_room : ℕ → ℕ
+dct_room n = min (3 * n) (5 * n - 4)
 
 -- the words from its result on that a cosine- or sine-DFT of n samples works in: its n/2 + 1 coefficients, and the DCT of n/4 behind them
-abbrev pub dftRoom : ℕ → ℕ
-dftRoom n = n / 2 + 1 + dctRoom (n / 4)
+abbrev pub dft_room : ℕ → ℕ
+dft_room n = n / 2 + 1 + dct_room (n / 4)
 
 -- a cosine- or sine-DFT: n samples in pairs at the front, with the stride s, and a result at `at`, behind them
 pub record DftReady (transform : ℕ → Samples → Transform) (n s at : ℕ) (words : List ℤ) (spent : Tally) : Type 0 where
   pub ready : Ready n (paired n s (word words))
   pub stride : 1 ≤ s
   pub behind : s * n ≤ at
-  pub fits : at + dftRoom n ≤ length words
+  pub fits : at + dft_room n ≤ length words
   pub room :
       let t = transform (level n) (paired n s (word words)) in
       HasRoom t.products t.sums spent
@@ -51,7 +51,7 @@ DftDone transform n s at before after spent total =
 -- a DCT: n samples at the front, and its coefficients in their place
 pub record DctReady (n : ℕ) (words : List ℤ) (spent : Tally) : Type 0 where
   pub ready : Ready n (word words)
-  pub fits : dctRoom n ≤ length words
+  pub fits : dct_room n ≤ length words
   pub room :
       let t = dct (level n) (word words) in
       HasRoom t.products t.sums spent
@@ -65,7 +65,7 @@ pub record FoldReady (n s b : ℕ) (words : List ℤ) (spent : Tally) : Type 0 w
   pub stride : 1 ≤ s
   pub behind : s * n ≤ b
   pub fits : b + n / 4 ≤ length words
-  pub samples : (i : ℕ) → i < n → nat_abs (paired n s (word words) i) ≤ largestSum
+  pub samples : (i : ℕ) → i < n → nat_abs (paired n s (word words) i) ≤ largest_sum
   pub room : HasRoom 0 (n / 4) spent
 
 pub record Folded (fold : ℕ → Samples → Samples) (n s b : ℕ) (before after : List ℤ) (spent total : Tally) : Type 0 where
@@ -75,10 +75,10 @@ pub record Folded (fold : ℕ → Samples → Samples) (n s b : ℕ) (before aft
 -- the word at x less the word at y, put at a place behind them
 pub record DifferenceReady (x y place : ℕ) (words : List ℤ) (spent : Tally) : Type 0 where
   pub x_below : x < place
-  pub y-below : y < place
+  pub y_below : y < place
   pub fits : place < length words
-  pub x-small : nat_abs (word words x) ≤ largestSum
-  pub y-small : nat_abs (word words y) ≤ largestSum
+  pub x_small : nat_abs (word words x) ≤ largest_sum
+  pub y_small : nat_abs (word words y) ≤ largest_sum
   pub room : HasRoom 0 1 spent
 
 pub record DifferencePut (x y place : ℕ) (before after : List ℤ) (spent total : Tally) : Type 0 where
@@ -87,29 +87,29 @@ pub record DifferencePut (x y place : ℕ) (before after : List ℤ) (spent tota
 
 -- ---- the joins of (12) and (15): the coefficients E of the even samples stand at `at` .. at + n/4, those of the DCT, D, from at + n/2 +
 -- 1 on; what they make stands at `at` .. at + n/2
-abbrev pub evenAt : ℕ → List ℤ → ℕ → ℤ
-evenAt at words k = word words (at + k)
+abbrev pub even_at : ℕ → List ℤ → ℕ → ℤ
+even_at at words k = word words (at + k)
 
-abbrev pub oddAt : ℕ → ℕ → List ℤ → ℕ → ℤ
-oddAt n at words k = word words (at + n / 2 + 1 + k)
+abbrev pub odd_at : ℕ → ℕ → List ℤ → ℕ → ℤ
+odd_at n at words k = word words (at + n / 2 + 1 + k)
 
 -- (12)
-abbrev pub cosineJoin : ℕ → (ℕ → ℤ) → (ℕ → ℤ) → ℕ → ℤ
-cosineJoin n E D k = cosineBeyond (n / 2) E k +ℤ dctBeyond (n / 4) D k
+abbrev pub cosine_join : ℕ → (ℕ → ℤ) → (ℕ → ℤ) → ℕ → ℤ
+cosine_join n E D k = cosine_beyond (n / 2) E k +ℤ dct_beyond (n / 4) D k
 
 -- (15)
-abbrev pub sineJoin : ℕ → (ℕ → ℤ) → (ℕ → ℤ) → ℕ → ℤ
-sineJoin n E D k = sineBeyond (n / 2) E k +ℤ dctBeyond (n / 4) D (apart (n / 4) k)
+abbrev pub sine_join : ℕ → (ℕ → ℤ) → (ℕ → ℤ) → ℕ → ℤ
+sine_join n E D k = sine_beyond (n / 2) E k +ℤ dct_beyond (n / 4) D (apart (n / 4) k)
 
 -- `sums` of them are made
 pub record JoinReady (sums n at : ℕ) (words : List ℤ) (spent : Tally) : Type 0 where
   pub quarters : 4 * (n / 4) ≡ n
   pub some : 4 ≤ n
-  pub fits : at + dftRoom n ≤ length words
-  pub even-small : (k : ℕ) → k < n / 4 + 1 → nat_abs (evenAt at words k) ≤ 2 * largestSum
-  pub odd-small : (k : ℕ) → k < n / 4 → nat_abs (oddAt n at words k) ≤ 2 * largestSum
+  pub fits : at + dft_room n ≤ length words
+  pub even_small : (k : ℕ) → k < n / 4 + 1 → nat_abs (even_at at words k) ≤ 2 * largest_sum
+  pub odd_small : (k : ℕ) → k < n / 4 → nat_abs (odd_at n at words k) ≤ 2 * largest_sum
   pub room : HasRoom 0 sums spent
 
 pub record Joined (join : ℕ → (ℕ → ℤ) → (ℕ → ℤ) → ℕ → ℤ) (sums n at : ℕ) (before after : List ℤ) (spent total : Tally) : Type 0 where
-  pub words : Written at (n / 2 + 1) (join n (evenAt at before) (oddAt n at before)) before after
+  pub words : Written at (n / 2 + 1) (join n (even_at at before) (odd_at n at before)) before after
   pub tallied : Summed sums spent total

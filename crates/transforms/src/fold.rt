@@ -1,7 +1,7 @@
 // The samples of which the steps of (12) and (15) take a DCT, made of a block in pairs and put behind it. In pairs, sample 2 i + 1 and
 // its mirror image are neighbours.
 ghost use Rattle.std.specs.Prelude.{◌+◌, ◌*◌, ◌/◌, ◌≡◌};
-ghost use Rattle.ffct.specs.Transforms.{foldedSums, foldedDifferences};
+ghost use Rattle.ffct.specs.Transforms.{folded_sums, folded_differences};
 ghost use Rattle.transforms.specs.Steps.{FoldReady, Folded, DifferenceReady, DifferencePut};
 
 use counts::tally::Tally;
@@ -9,7 +9,7 @@ use counts::tally::Tally;
 // x2 of (12): each odd sample and its mirror image added.
 pub fn put_folded_sums(w: &mut [i64], n: usize, stride: usize, b: usize, spent: Tally) -> Tally
     requires { FoldReady n stride b w.old spent }
-    ensures { Folded foldedSums n stride b w.old w.new spent result }
+    ensures { Folded folded_sums n stride b w.old w.new spent result }
 {
     let mut sums = spent.sums;
     let mut i = 0;
@@ -52,7 +52,7 @@ pub fn put_folded_differences(
     spent: Tally,
 ) -> Tally
     requires { FoldReady n stride b w.old spent × (8 * (n / 8) ≡ n) }
-    ensures { Folded foldedDifferences n stride b w.old w.new spent result }
+    ensures { Folded folded_differences n stride b w.old w.new spent result }
 {
     let mut tally = spent;
     let mut i = 0;

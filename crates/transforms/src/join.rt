@@ -1,14 +1,14 @@
 // The joins: the coefficients of a cosine- or sine-DFT of n samples at `at`, from those of its even samples, E, at the same place and
 // those of the DCT, D, behind the result. A sum with a term that is zero for every block is not made.
 ghost use Rattle.std.specs.Prelude.{◌≡◌, ◌-◌, ◌/◌, pos};
-ghost use Rattle.transforms.specs.Steps.{evenAt, cosineJoin, sineJoin, JoinReady, Joined};
+ghost use Rattle.transforms.specs.Steps.{even_at, cosine_join, sine_join, JoinReady, Joined};
 
 use counts::tally::Tally;
 
 // (12): E(k) + D(k) at k and E(k) - D(k) at n / 2 - k. By (6) the DCT has no part in the coefficient n / 4.
 pub fn join_cosine(w: &mut [i64], n: usize, at: usize, spent: Tally) -> Tally
     requires { JoinReady (n / 2) n at w.old spent }
-    ensures { Joined cosineJoin (n / 2) n at w.old w.new spent result }
+    ensures { Joined cosine_join (n / 2) n at w.old w.new spent result }
 {
     let h = n / 2;
     let b = at + h + 1;
@@ -33,8 +33,8 @@ pub fn join_cosine(w: &mut [i64], n: usize, at: usize, spent: Tally) -> Tally
 // (15): E(k) + D(n / 4 - k) at k and D(n / 4 - k) - E(k) at n / 2 - k. The coefficients 0 and n / 2 are zero, and E has no part in the
 // coefficient n / 4.
 pub fn join_sine(w: &mut [i64], n: usize, at: usize, spent: Tally) -> Tally
-    requires { JoinReady (n / 2 - 2) n at w.old spent × (evenAt at w.old 0 ≡ pos 0) × (evenAt at w.old (n / 4) ≡ pos 0) }
-    ensures { Joined sineJoin (n / 2 - 2) n at w.old w.new spent result }
+    requires { JoinReady (n / 2 - 2) n at w.old spent × (even_at at w.old 0 ≡ pos 0) × (even_at at w.old (n / 4) ≡ pos 0) }
+    ensures { Joined sine_join (n / 2 - 2) n at w.old w.new spent result }
 {
     let q = n / 4;
     let h = n / 2;

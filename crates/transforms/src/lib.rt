@@ -6,7 +6,7 @@ pub mod join;
 pub mod short;
 
 ghost use Rattle.circle.specs.Circle.{IsQuarterWave};
-ghost use Rattle.ffct.specs.Transforms.{cosineDft, sineDft};
+ghost use Rattle.ffct.specs.Transforms.{cosine_dft, sine_dft};
 ghost use Rattle.transforms.specs.Steps.{DftReady, DftDone, DctReady, DctDone};
 
 use counts::tally::Tally;
@@ -25,8 +25,8 @@ pub fn cosine_dft(
     at: usize,
     spent: Tally,
 ) -> Tally
-    requires { IsQuarterWave wave.now × DftReady cosineDft n stride at w.old spent }
-    ensures { DftDone cosineDft n stride at w.old w.new spent result }
+    requires { IsQuarterWave wave.now × DftReady cosine_dft n stride at w.old spent }
+    ensures { DftDone cosine_dft n stride at w.old w.new spent result }
 {
     if n <= 32 {
         return cosine_short(wave, w, n, stride, at, spent);
@@ -48,8 +48,8 @@ pub fn sine_dft(
     at: usize,
     spent: Tally,
 ) -> Tally
-    requires { IsQuarterWave wave.now × DftReady sineDft n stride at w.old spent }
-    ensures { DftDone sineDft n stride at w.old w.new spent result }
+    requires { IsQuarterWave wave.now × DftReady sine_dft n stride at w.old spent }
+    ensures { DftDone sine_dft n stride at w.old w.new spent result }
 {
     if n <= 32 {
         return sine_short(wave, w, n, stride, at, spent);

@@ -3,7 +3,7 @@
 ghost use Rattle.std.specs.Prelude.{◌+◌, ◌/◌, ◌≤◌, ◌<◌, pos, length};
 ghost use Rattle.circle.specs.Circle.{IsQuarterWave};
 ghost use Rattle.words.specs.Words.{Written};
-ghost use Rattle.ffct.specs.Transforms.{cosineDft, sineDft};
+ghost use Rattle.ffct.specs.Transforms.{cosine_dft, sine_dft};
 ghost use Rattle.transforms.specs.Steps.{DftReady, DftDone, DctReady, DctDone};
 
 use crate::fold::{put_difference, put_folded_differences, put_folded_sums};
@@ -15,8 +15,8 @@ use whole::larger;
 // ---- one and two samples
 
 fn cosine_2(w: &mut [i64], stride: usize, at: usize, spent: Tally) -> Tally
-    requires { DftReady cosineDft 2 stride at w.old spent }
-    ensures { DftDone cosineDft 2 stride at w.old w.new spent result }
+    requires { DftReady cosine_dft 2 stride at w.old spent }
+    ensures { DftDone cosine_dft 2 stride at w.old w.new spent result }
 {
     let x = w[0];
     let y = w[2 * stride - 1];
@@ -66,8 +66,8 @@ fn dct_2(wave: &[i32; 1025], w: &mut [i64], spent: Tally) -> Tally
 // ---- four samples: the DCT of one is that sample
 
 fn cosine_4(w: &mut [i64], stride: usize, at: usize, spent: Tally) -> Tally
-    requires { DftReady cosineDft 4 stride at w.old spent }
-    ensures { DftDone cosineDft 4 stride at w.old w.new spent result }
+    requires { DftReady cosine_dft 4 stride at w.old spent }
+    ensures { DftDone cosine_dft 4 stride at w.old w.new spent result }
 {
     let even = cosine_2(w, 2 * stride, at, spent);
     let odd = put_folded_sums(w, 4, stride, at + 2 + 1, even);
@@ -75,8 +75,8 @@ fn cosine_4(w: &mut [i64], stride: usize, at: usize, spent: Tally) -> Tally
 }
 
 fn sine_4(w: &mut [i64], stride: usize, at: usize, spent: Tally) -> Tally
-    requires { DftReady sineDft 4 stride at w.old spent }
-    ensures { DftDone sineDft 4 stride at w.old w.new spent result }
+    requires { DftReady sine_dft 4 stride at w.old spent }
+    ensures { DftDone sine_dft 4 stride at w.old w.new spent result }
 {
     put_zeros(w, 2, at);
     let odd = put_difference(w, 2 * stride, 2 * stride - 1, at + 2 + 1, spent);
@@ -95,8 +95,8 @@ fn dct_4(wave: &[i32; 1025], w: &mut [i64], spent: Tally) -> Tally
 // ---- 8 samples
 
 fn cosine_8(wave: &[i32; 1025], w: &mut [i64], stride: usize, at: usize, spent: Tally) -> Tally
-    requires { IsQuarterWave wave.now × DftReady cosineDft 8 stride at w.old spent }
-    ensures { DftDone cosineDft 8 stride at w.old w.new spent result }
+    requires { IsQuarterWave wave.now × DftReady cosine_dft 8 stride at w.old spent }
+    ensures { DftDone cosine_dft 8 stride at w.old w.new spent result }
 {
     let even = cosine_4(w, 2 * stride, at, spent);
     let b = at + 4 + 1;
@@ -106,8 +106,8 @@ fn cosine_8(wave: &[i32; 1025], w: &mut [i64], stride: usize, at: usize, spent: 
 }
 
 fn sine_8(wave: &[i32; 1025], w: &mut [i64], stride: usize, at: usize, spent: Tally) -> Tally
-    requires { IsQuarterWave wave.now × DftReady sineDft 8 stride at w.old spent }
-    ensures { DftDone sineDft 8 stride at w.old w.new spent result }
+    requires { IsQuarterWave wave.now × DftReady sine_dft 8 stride at w.old spent }
+    ensures { DftDone sine_dft 8 stride at w.old w.new spent result }
 {
     let even = sine_4(w, 2 * stride, at, spent);
     let b = at + 4 + 1;
@@ -128,8 +128,8 @@ fn dct_8(wave: &[i32; 1025], w: &mut [i64], spent: Tally) -> Tally
 // ---- 16 samples
 
 fn cosine_16(wave: &[i32; 1025], w: &mut [i64], stride: usize, at: usize, spent: Tally) -> Tally
-    requires { IsQuarterWave wave.now × DftReady cosineDft 16 stride at w.old spent }
-    ensures { DftDone cosineDft 16 stride at w.old w.new spent result }
+    requires { IsQuarterWave wave.now × DftReady cosine_dft 16 stride at w.old spent }
+    ensures { DftDone cosine_dft 16 stride at w.old w.new spent result }
 {
     let even = cosine_8(wave, w, 2 * stride, at, spent);
     let b = at + 8 + 1;
@@ -139,8 +139,8 @@ fn cosine_16(wave: &[i32; 1025], w: &mut [i64], stride: usize, at: usize, spent:
 }
 
 fn sine_16(wave: &[i32; 1025], w: &mut [i64], stride: usize, at: usize, spent: Tally) -> Tally
-    requires { IsQuarterWave wave.now × DftReady sineDft 16 stride at w.old spent }
-    ensures { DftDone sineDft 16 stride at w.old w.new spent result }
+    requires { IsQuarterWave wave.now × DftReady sine_dft 16 stride at w.old spent }
+    ensures { DftDone sine_dft 16 stride at w.old w.new spent result }
 {
     let even = sine_8(wave, w, 2 * stride, at, spent);
     let b = at + 8 + 1;
@@ -161,8 +161,8 @@ fn dct_16(wave: &[i32; 1025], w: &mut [i64], spent: Tally) -> Tally
 // ---- 32 samples
 
 fn cosine_32(wave: &[i32; 1025], w: &mut [i64], stride: usize, at: usize, spent: Tally) -> Tally
-    requires { IsQuarterWave wave.now × DftReady cosineDft 32 stride at w.old spent }
-    ensures { DftDone cosineDft 32 stride at w.old w.new spent result }
+    requires { IsQuarterWave wave.now × DftReady cosine_dft 32 stride at w.old spent }
+    ensures { DftDone cosine_dft 32 stride at w.old w.new spent result }
 {
     let even = cosine_16(wave, w, 2 * stride, at, spent);
     let b = at + 16 + 1;
@@ -172,8 +172,8 @@ fn cosine_32(wave: &[i32; 1025], w: &mut [i64], stride: usize, at: usize, spent:
 }
 
 fn sine_32(wave: &[i32; 1025], w: &mut [i64], stride: usize, at: usize, spent: Tally) -> Tally
-    requires { IsQuarterWave wave.now × DftReady sineDft 32 stride at w.old spent }
-    ensures { DftDone sineDft 32 stride at w.old w.new spent result }
+    requires { IsQuarterWave wave.now × DftReady sine_dft 32 stride at w.old spent }
+    ensures { DftDone sine_dft 32 stride at w.old w.new spent result }
 {
     let even = sine_16(wave, w, 2 * stride, at, spent);
     let b = at + 16 + 1;
@@ -192,8 +192,8 @@ pub fn cosine_short(
     at: usize,
     spent: Tally,
 ) -> Tally
-    requires { IsQuarterWave wave.now × DftReady cosineDft n stride at w.old spent × (n ≤ 32) }
-    ensures { DftDone cosineDft n stride at w.old w.new spent result }
+    requires { IsQuarterWave wave.now × DftReady cosine_dft n stride at w.old spent × (n ≤ 32) }
+    ensures { DftDone cosine_dft n stride at w.old w.new spent result }
 {
     if n <= 1 {
         let x = w[0];
@@ -223,8 +223,8 @@ pub fn sine_short(
     at: usize,
     spent: Tally,
 ) -> Tally
-    requires { IsQuarterWave wave.now × DftReady sineDft n stride at w.old spent × (n ≤ 32) }
-    ensures { DftDone sineDft n stride at w.old w.new spent result }
+    requires { IsQuarterWave wave.now × DftReady sine_dft n stride at w.old spent × (n ≤ 32) }
+    ensures { DftDone sine_dft n stride at w.old w.new spent result }
 {
     if n <= 2 {
         put_zeros(w, n, at);

@@ -8,16 +8,16 @@ use native.Mathlib.Decide.{dec_le}
 use native.Mathlib.Omega.{arith}
 use lib.Dec.{T}
 
-pub le-or-lt : (m n : ℕ) → (m ≤ n) ⊎ (n < m)
-le-or-lt m n = from (dec_le m n)
+pub le_or_lt : (m n : ℕ) → (m ≤ n) ⊎ (n < m)
+le_or_lt m n = from (dec_le m n)
   where
     from : Dec (m ≤ n) → (m ≤ n) ⊎ (n < m)
     from (yes l) = inl l
     from (no l) = inr (omega arith)
 
 pub same_or_not : (m n : ℕ) → (m ≡ n) ⊎ (m ≡ n → ⊥)
-same_or_not m n = ⊎_elim (λ l. ⊎_elim (λ g. inl (omega arith)) (λ g. inr (λ e. omega arith)) (le-or-lt n m))
-    (λ l. inr (λ e. omega arith)) (le-or-lt m n)
+same_or_not m n = ⊎_elim (λ l. ⊎_elim (λ g. inl (omega arith)) (λ g. inr (λ e. omega arith)) (le_or_lt n m))
+    (λ l. inr (λ e. omega arith)) (le_or_lt m n)
 
 -- ---- tests that the checker computes
 -- (shut, unlike the library's `◌&&◌`, so that the two tests are inferred from a hypothesis)
@@ -46,4 +46,4 @@ below_at zero p t i h = absurd (omega arith)
 below_at (suc n) p t i h = ⊎_elim
     (λ l. subst (λ j. T (p j)) {x = n} {y = i} (omega arith) (both_left _ _ t))
     (λ l. below_at n p (both_right _ _ t) i l)
-    (le-or-lt n i)
+    (le_or_lt n i)

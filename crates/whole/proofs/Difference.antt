@@ -55,48 +55,48 @@ pub ⊖-same : (p n q m : ℕ) → p ⊖ n ≡ q ⊖ m → p + m ≡ q + n
 ⊖-same p n q m e = omega (arith, ⊖-parts p n, ⊖-parts q m, ap plus e, ap minus e)
 
 -- ---- the parts of a sum, of -a and of a product
-plus-minus-+ : (a b : ℤ) → plus (a +ℤ b) + (minus a + minus b) ≡ plus a + plus b + minus (a +ℤ b)
+plus_minus-+ : (a b : ℤ) → plus (a +ℤ b) + (minus a + minus b) ≡ plus a + plus b + minus (a +ℤ b)
 unfolding plus minus
-plus-minus-+ (pos a) (pos b) = omega arith
-plus-minus-+ (pos a) (negsuc b) = sub_cases a (suc b) (λ z. plus z + (0 + suc b) ≡ a + 0 + minus z) (λ h. omega arith) (λ h. omega arith)
-plus-minus-+ (negsuc a) (pos b) = sub_cases b (suc a) (λ z. plus z + (suc a + 0) ≡ 0 + b + minus z) (λ h. omega arith) (λ h. omega arith)
-plus-minus-+ (negsuc a) (negsuc b) = omega arith
+plus_minus-+ (pos a) (pos b) = omega arith
+plus_minus-+ (pos a) (negsuc b) = sub_cases a (suc b) (λ z. plus z + (0 + suc b) ≡ a + 0 + minus z) (λ h. omega arith) (λ h. omega arith)
+plus_minus-+ (negsuc a) (pos b) = sub_cases b (suc a) (λ z. plus z + (suc a + 0) ≡ 0 + b + minus z) (λ h. omega arith) (λ h. omega arith)
+plus_minus-+ (negsuc a) (negsuc b) = omega arith
 
-plus-neg : (a : ℤ) → plus (neg_ℤ a) ≡ minus a
+plus_neg : (a : ℤ) → plus (neg_ℤ a) ≡ minus a
 unfolding plus minus
-plus-neg (pos zero) = refl
-plus-neg (pos (suc n)) = refl
-plus-neg (negsuc n) = refl
+plus_neg (pos zero) = refl
+plus_neg (pos (suc n)) = refl
+plus_neg (negsuc n) = refl
 
-minus-neg : (a : ℤ) → minus (neg_ℤ a) ≡ plus a
+minus_neg : (a : ℤ) → minus (neg_ℤ a) ≡ plus a
 unfolding plus minus
-minus-neg (pos zero) = refl
-minus-neg (pos (suc n)) = refl
-minus-neg (negsuc n) = refl
+minus_neg (pos zero) = refl
+minus_neg (pos (suc n)) = refl
+minus_neg (negsuc n) = refl
 
-pub product-parts : (a b : ℤ) →
+pub product_parts : (a b : ℤ) →
     (plus (a *ℤ b) ≡ plus a * plus b + minus a * minus b) × (minus (a *ℤ b) ≡ plus a * minus b + minus a * plus b)
 unfolding plus minus
-product-parts (pos a) (pos b) = omega arith
-product-parts (pos a) (negsuc b) = (plus-neg (pos (a * suc b)) ∙ omega arith, minus-neg (pos (a * suc b)) ∙ omega arith)
-product-parts (negsuc a) (pos b) = (plus-neg (pos (suc a * b)) ∙ omega arith, minus-neg (pos (suc a * b)) ∙ omega arith)
-product-parts (negsuc a) (negsuc b) = omega arith
+product_parts (pos a) (pos b) = omega arith
+product_parts (pos a) (negsuc b) = (plus_neg (pos (a * suc b)) ∙ omega arith, minus_neg (pos (a * suc b)) ∙ omega arith)
+product_parts (negsuc a) (pos b) = (plus_neg (pos (suc a * b)) ∙ omega arith, minus_neg (pos (suc a * b)) ∙ omega arith)
+product_parts (negsuc a) (negsuc b) = omega arith
 
 -- ---- the operations at differences
 pub ⊖-+ : (p n q m : ℕ) → (p ⊖ n) +ℤ (q ⊖ m) ≡ (p + q) ⊖ (n + m)
-⊖-+ p n q m = cross _ _ (omega (arith, ⊖-parts p n, ⊖-parts q m, ⊖-parts (p + q) (n + m), plus-minus-+ (p ⊖ n) (q ⊖ m)))
+⊖-+ p n q m = cross _ _ (omega (arith, ⊖-parts p n, ⊖-parts q m, ⊖-parts (p + q) (n + m), plus_minus-+ (p ⊖ n) (q ⊖ m)))
 
 pub ⊖-neg : (p n : ℕ) → neg_ℤ (p ⊖ n) ≡ n ⊖ p
-⊖-neg p n = cross _ _ (omega (arith, ⊖-parts p n, ⊖-parts n p, plus-neg (p ⊖ n), minus-neg (p ⊖ n)))
+⊖-neg p n = cross _ _ (omega (arith, ⊖-parts p n, ⊖-parts n p, plus_neg (p ⊖ n), minus_neg (p ⊖ n)))
 
-multiplied-out : (a b c d p n q m : ℕ) → a + n ≡ p + b → c + m ≡ q + d → a * c + b * d + (p * m + n * q) ≡ p * q + n * m + (a * d + b * c)
-multiplied-out a b c d p n q m h k =
+multiplied_out : (a b c d p n q m : ℕ) → a + n ≡ p + b → c + m ≡ q + d → a * c + b * d + (p * m + n * q) ≡ p * q + n * m + (a * d + b * c)
+multiplied_out a b c d p n q m h k =
     omega (arith, ap (λ t. t * c) h, ap (λ t. t * d) h, ap (λ t. p * t) k, ap (λ t. n * t) k)
 
 pub ⊖-* : (p n q m : ℕ) → (p ⊖ n) *ℤ (q ⊖ m) ≡ (p * q + n * m) ⊖ (p * m + n * q)
 ⊖-* p n q m =
-    let c = multiplied-out _ _ _ _ p n q m (⊖-parts p n) (⊖-parts q m) in
-    let x = product-parts (p ⊖ n) (q ⊖ m) in
+    let c = multiplied_out _ _ _ _ p n q m (⊖-parts p n) (⊖-parts q m) in
+    let x = product_parts (p ⊖ n) (q ⊖ m) in
     cross _ _ (omega (arith, ⊖-parts (p * q + n * m) (p * m + n * q)))
 
 -- a natural number as a whole number: shut, so that `int n +ℤ x` does not compute half way, as `pos n +ℤ x` does

@@ -6,14 +6,14 @@ use lib.IntN.{ℤ}
 use mir.Syntax.{Width, w64}
 use mir.Val.{SFits, hbits, to_z, of_z}
 use Rattle.whole.proofs.Difference.{int}
-use Rattle.whole.proofs.Size.{within-int, within-fits}
+use Rattle.whole.proofs.Size.{within_int, within_fits}
 use Rattle.whole.proofs.Words as Words
 use Rattle.whole.proofs.Words.{Word}
 
 -- a literal, or a number that was cast to a signed word
 pub natural : {w : Width} {n : ℕ} → n < 2 ^ hbits w → Word w n (int n)
 unfolding int
-natural {n = n} l = Words.word (within-fits (within-int n) l)
+natural {n = n} l = Words.word (within_fits (within_int n) l)
 
 -- the bits p and q hold x and y
 pub record Computes (op : ℤ → ℤ → ℤ) (p q : ℕ) (x y : ℤ) : Type 0 where

@@ -70,14 +70,14 @@ module _ {p : ℕ} {x : ℤ} (a : Word w64 p x) (f : SFits w32 x) where
 
 -- a cast of 32 bits that were read to 64
 module _ (x : ℤ) (l : mag x < 2 ^ 31) where
-  half-word : Word w32 (of_z w32 x) x
-  half-word = word (sfits_of l)
+  half_word : Word w32 (of_z w32 x) x
+  half_word = word (sfits_of l)
 
-  pub read-widens : SFits w64 (to_z w32 (of_z w32 x))
-  read-widens = widens tt half-word
+  pub read_widens : SFits w64 (to_z w32 (of_z w32 x))
+  read_widens = widens tt half_word
 
-  pub read-widened : Word w64 (of_z w64 (to_z w32 (of_z w32 x))) x
-  read-widened = widened tt half-word
+  pub read_widened : Word w64 (of_z w64 (to_z w32 (of_z w32 x))) x
+  read_widened = widened tt half_word
 
 -- a test of the sign, as a cast to an unsigned word asks it (`Fits-nat_abs` of the library has the rest)
 pub not_negative : (x : ℤ) → lt_z x (pos 0) ≡ false → T (non_neg x)
@@ -85,9 +85,9 @@ not_negative (pos n) e = tt
 not_negative (negsuc n) e = true≢false e
 
 -- a negative number turned round is its size
-pub negative-turned : (x : ℤ) → lt_z x (pos 0) ≡ true → neg_ℤ x ≡ pos (nat_abs x)
-negative-turned (pos n) h = absurd (omega (arith, ltb-true n 0 h))
-negative-turned (negsuc n) h = refl
+pub negative_turned : (x : ℤ) → lt_z x (pos 0) ≡ true → neg_ℤ x ≡ pos (nat_abs x)
+negative_turned (pos n) h = absurd (omega (arith, ltb-true n 0 h))
+negative_turned (negsuc n) h = refl
 
 -- the complement of the bits of a negative number is one less than its size
 abbrev pub Turned : ℤ → Type 0

@@ -16,8 +16,8 @@ unfoldable pub rest : ℤ → ℤ
 rest v = v -ℤ pos (2 ^ 30) *ℤ round v
 
 -- its size, "without sign"
-abbrev pub restSize : ℤ → ℕ
-restSize v = nat_abs (rest v)
+abbrev pub rest_size : ℤ → ℕ
+rest_size v = nat_abs (rest v)
 
 -- q · m is the multiple of m nearest to v, a tie going to the larger: -m/2 ≤ v - q · m < m/2
 pub record Nearest (v : ℤ) (m : ℕ) (q : ℤ) : Type 0 where
@@ -26,7 +26,7 @@ pub record Nearest (v : ℤ) (m : ℕ) (q : ℤ) : Type 0 where
 
 -- what is proved of `nearest` in proofs/Rounding, for every v and every m from 1: it gives the nearest multiple, and no other number does
 pub record RoundsToNearest (v : ℤ) (m : ℕ) : Type 0 where
-  pub is-nearest : Nearest v m (nearest v m)
+  pub is_nearest : Nearest v m (nearest v m)
   pub only : (q : ℤ) → Nearest v m q → q ≡ nearest v m
 
 -- what is proved of `rest` in proofs/Rounding, for every v: it is from -2^29 to 2^29 - 1, and the rounded number and the rest determine the
@@ -40,5 +40,5 @@ pub record RestOfRounding (v : ℤ) : Type 0 where
 pub record KnownRounds : Type 0 where
   pub tie : round (pos (2 ^ 29)) ≡ pos 1
   pub below : round (pos (2 ^ 29 - 1)) ≡ pos 0
-  pub negativeTie : round (neg_ℤ (pos (2 ^ 29))) ≡ pos 0
-  pub negativeBelow : round (neg_ℤ (pos (2 ^ 29 + 1))) ≡ neg_ℤ (pos 1)
+  pub negative_tie : round (neg_ℤ (pos (2 ^ 29))) ≡ pos 0
+  pub negative_below : round (neg_ℤ (pos (2 ^ 29 + 1))) ≡ neg_ℤ (pos 1)

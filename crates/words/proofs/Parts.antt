@@ -17,8 +17,8 @@ part a xs = take (length xs - a) (drop a xs)
 abbrev pub back : ℕ → List ℤ → List ℤ → List ℤ
 back a xs ys = take a xs ++ (ys ++ drop (length xs - a) (drop a xs))
 
-part-is : (a : ℕ) (xs : List ℤ) → part a xs ≡ drop a xs
-part-is a xs = take_all (length xs - a) (drop a xs) (omega (arith, length-drop a xs))
+part_is : (a : ℕ) (xs : List ℤ) → part a xs ≡ drop a xs
+part_is a xs = take_all (length xs - a) (drop a xs) (omega (arith, length-drop a xs))
 
 back_is : (a : ℕ) (xs ys : List ℤ) → back a xs ys ≡ take a xs ++ ys
 back_is a xs ys =
@@ -26,18 +26,18 @@ back_is a xs ys =
     ∙ ap (λ l. take a xs ++ l) (append-nil ys)
 
 pub part_length : (a : ℕ) (xs : List ℤ) → length (part a xs) ≡ length xs - a
-part_length a xs = ap length (part-is a xs) ∙ length-drop a xs
+part_length a xs = ap length (part_is a xs) ∙ length-drop a xs
 
 pub part_at : (a : ℕ) (xs : List ℤ) (k : ℕ) → word (part a xs) k ≡ word xs (a + k)
-part_at a xs k = ap (λ l. word l k) (part-is a xs) ∙ get_or-drop a xs k (pos 0)
+part_at a xs k = ap (λ l. word l k) (part_is a xs) ∙ get_or-drop a xs k (pos 0)
 
 module _ (a : ℕ) (xs ys : List ℤ) (h : a ≤ length xs) where
-  pub back-length : length ys ≡ length (part a xs) → length (back a xs ys) ≡ length xs
-  back-length e =
+  pub back_length : length ys ≡ length (part a xs) → length (back a xs ys) ≡ length xs
+  back_length e =
       ap length (back_is a xs ys) ∙ length-append (take a xs) ys ∙ omega (arith, length-take-le a xs h, e, part_length a xs)
 
-  pub back-front : (k : ℕ) → k < a → word (back a xs ys) k ≡ word xs k
-  back-front k l =
+  pub back_front : (k : ℕ) → k < a → word (back a xs ys) k ≡ word xs k
+  back_front k l =
       ap (λ m. word m k) (back_is a xs ys)
       ∙ get_or-append (take a xs) ys (pos 0) k (omega (arith, length-take-le a xs h))
       ∙ get_or-take a xs k (pos 0) l
@@ -56,28 +56,28 @@ abbrev pub restored : ℕ → ℕ → List ℤ → List ℤ → List ℤ
 restored a m xs ys = take a xs ++ (ys ++ drop m (drop a xs))
 
 module _ (a m : ℕ) (xs : List ℤ) where
-  pub between-at : (k : ℕ) → k < m → word (between a m xs) k ≡ word xs (a + k)
-  between-at k h = get_or-take m (drop a xs) k (pos 0) h ∙ get_or-drop a xs k (pos 0)
+  pub between_at : (k : ℕ) → k < m → word (between a m xs) k ≡ word xs (a + k)
+  between_at k h = get_or-take m (drop a xs) k (pos 0) h ∙ get_or-drop a xs k (pos 0)
 
   module _ (h : a + m ≤ length xs) where
-    pub between-length : length (between a m xs) ≡ m
-    between-length = length-take-le m (drop a xs) (omega (arith, length-drop a xs))
+    pub between_length : length (between a m xs) ≡ m
+    between_length = length-take-le m (drop a xs) (omega (arith, length-drop a xs))
 
     module _ (ys : List ℤ) (e : length ys ≡ m) where
       front : length (take a xs) ≡ a
       front = length-take-le a xs (omega arith)
 
-      pub restored-length : length (restored a m xs ys) ≡ length xs
-      restored-length = simp (length-append, length-drop) (omega (arith, front))
+      pub restored_length : length (restored a m xs ys) ≡ length xs
+      restored_length = simp (length-append, length-drop) (omega (arith, front))
 
-      pub restored-low : (k : ℕ) → k < a → word (restored a m xs ys) k ≡ word xs k
-      restored-low k l = get_or-append (take a xs) _ (pos 0) k (omega (arith, front)) ∙ get_or-take a xs k (pos 0) l
+      pub restored_low : (k : ℕ) → k < a → word (restored a m xs ys) k ≡ word xs k
+      restored_low k l = get_or-append (take a xs) _ (pos 0) k (omega (arith, front)) ∙ get_or-take a xs k (pos 0) l
 
       behind : (k : ℕ) → word (restored a m xs ys) (a + k) ≡ word (ys ++ drop m (drop a xs)) k
       behind k = ap (λ n. word (restored a m xs ys) (n + k)) (sym front) ∙ get_or-append-add (take a xs) _ k (pos 0)
 
-      pub restored-high : (k : ℕ) → word (restored a m xs ys) (a + (m + k)) ≡ word xs (a + (m + k))
-      restored-high k =
+      pub restored_high : (k : ℕ) → word (restored a m xs ys) (a + (m + k)) ≡ word xs (a + (m + k))
+      restored_high k =
           behind (m + k)
           ∙ ap (λ n. word (ys ++ drop m (drop a xs)) (n + k)) (sym e)
           ∙ get_or-append-add ys _ k (pos 0)
@@ -85,21 +85,21 @@ module _ (a m : ℕ) (xs : List ℤ) where
           ∙ get_or-drop a xs (m + k) (pos 0)
 
       -- the part that was lent is what the callee has left there
-      pub restored-part : between a m (restored a m xs ys) ≡ ys
-      restored-part = ap (take m) (drop_at (take a xs) _ a front) ∙ take_at ys _ m e
+      pub restored_part : between a m (restored a m xs ys) ≡ ys
+      restored_part = ap (take m) (drop_at (take a xs) _ a front) ∙ take_at ys _ m e
 
       -- a part beside it is as it was
       beside : (k : ℕ) → (k < a) ⊎ (a + m ≤ k) → word (restored a m xs ys) k ≡ word xs k
-      beside k = ⊎_elim (restored-low k) high
+      beside k = ⊎_elim (restored_low k) high
         where
           high : a + m ≤ k → word (restored a m xs ys) k ≡ word xs k
-          high l = let place : a + (m + (k - (a + m))) ≡ k = omega arith in rw place at (restored-high (k - (a + m)))
+          high l = let place : a + (m + (k - (a + m))) ≡ k = omega arith in rw place at (restored_high (k - (a + m)))
 
-      pub restored-beside : (b n : ℕ) → b + n ≤ length xs → ((k : ℕ) → k < n → (b + k < a) ⊎ (a + m ≤ b + k))
+      pub restored_beside : (b n : ℕ) → b + n ≤ length xs → ((k : ℕ) → k < n → (b + k < a) ⊎ (a + m ≤ b + k))
           → between b n (restored a m xs ys) ≡ between b n xs
-      restored-beside b n l apart =
+      restored_beside b n l apart =
           let long : length (between b n (restored a m xs ys)) ≡ n =
-          length-take-le n (drop b (restored a m xs ys)) (omega (arith, length-drop b (restored a m xs ys), restored-length)) in
+          length-take-le n (drop b (restored a m xs ys)) (omega (arith, length-drop b (restored a m xs ys), restored_length)) in
           ext_get_or (pos 0) _ _ (long ∙ sym (length-take-le n (drop b xs) (omega (arith, length-drop b xs)))) (λ k i.
           let below : k < n = omega (arith, long) in
           get_or-take n (drop b (restored a m xs ys)) k (pos 0) below

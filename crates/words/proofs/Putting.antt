@@ -9,14 +9,14 @@ use lib.ListN.{length, drop, set, length-append, length-set}
 use lib.Seq.{length-take-le, take-suc-set, drop-set-lt, drop-drop}
 use Rattle.words.specs.Put.{Put, joined}
 
-pub put-none : {page : List ℕ} {at : ℕ} → at ≤ length page → Put page at [] at page
-put-none {page} {at} h =
-    record { next-is = omega arith; front = sym (append-nil _); rest = refl; len = refl; room = h; counts = sym (length-take-le at page h) }
+pub put_none : {page : List ℕ} {at : ℕ} → at ≤ length page → Put page at [] at page
+put_none {page} {at} h =
+    record { next_is = omega arith; front = sym (append-nil _); rest = refl; len = refl; room = h; counts = sym (length-take-le at page h) }
 
 pub put_byte : (page : List ℕ) (at byte : ℕ) → at < length page → Put page at (byte ∷ []) (at + 1) (set page at byte)
 put_byte page at byte h =
     record {
-      next-is = refl;
+      next_is = refl;
       front = rw (add-one, take-suc-set page at byte h);
       rest = drop-set-lt (at + 1) page at byte (omega arith);
       len = length-set page at byte;
@@ -25,16 +25,16 @@ put_byte page at byte h =
     }
 
 -- the rest behind a place is the rest behind a later one
-rest-later : (a b : List ℕ) (r m q : ℕ) → q ≡ r + m → drop r b ≡ drop r a → drop q b ≡ drop q a
-rest-later a b r m q h e = rw (h, ← drop-drop m r b, ← drop-drop m r a, e)
+rest_later : (a b : List ℕ) (r m q : ℕ) → q ≡ r + m → drop r b ≡ drop r a → drop q b ≡ drop q a
+rest_later a b r m q h e = rw (h, ← drop-drop m r b, ← drop-drop m r a, e)
 
 infixl 40 ◌then◌
 pub ◌then◌ : {a b c s t : List ℕ} {at r q : ℕ} → Put a at s r b → Put b r t q c → Put a at (s ++ t) q c
 ◌then◌ {a} {b} {c} {s} {t} {at} {r} {q} p k =
     record {
-      next-is = omega (arith, length-append s t, p.next-is, k.next-is);
+      next_is = omega (arith, length-append s t, p.next_is, k.next_is);
       front = k.front ∙ rw (p.front, append_assoc);
-      rest = k.rest ∙ rest-later a b r (length t) q k.next-is p.rest;
+      rest = k.rest ∙ rest_later a b r (length t) q k.next_is p.rest;
       len = k.len ∙ p.len;
       room = k.room;
       counts = k.counts;
@@ -42,14 +42,14 @@ pub ◌then◌ : {a b c s t : List ℕ} {at r q : ℕ} → Put a at s r b → Pu
 
 -- ---- texts one behind another: none put yet, and one more
 module _ (f : ℕ → List ℕ) {page : List ℕ} {at : ℕ} where
-  pub joined-none : at ≤ length page → Put page at (joined f 0) at page
+  pub joined_none : at ≤ length page → Put page at (joined f 0) at page
   unfolding joined
-  joined-none h = put-none h
+  joined_none h = put_none h
 
-  pub joined-more : (n : ℕ) {r q : ℕ} {page₁ page₂ : List ℕ} → Put page at (joined f n) r page₁ → Put page₁ r (f n) q page₂
+  pub joined_more : (n : ℕ) {r q : ℕ} {page₁ page₂ : List ℕ} → Put page at (joined f n) r page₁ → Put page₁ r (f n) q page₂
       → Put page at (joined f (n + 1)) q page₂
   unfolding joined
-  joined-more n p k = rw add-one (p then k)
+  joined_more n p k = rw add-one (p then k)
 
 -- equal texts are joined to equal texts
 pub joined_same : (f g : ℕ → List ℕ) (n : ℕ) → ((i : ℕ) → i < n → f i ≡ g i) → joined f n ≡ joined g n

@@ -1,7 +1,7 @@
 -- Loops that write the m elements from place b on, from the front and from the back (`Ends`), up to all of them (`WrittenOf` of
 -- specs/Words).
 --     ends-none       before the first store
---     ends-front      one store more at the front; `ends-back` at the back
+--     ends-front      one store more at the front; `ends_back` at the back
 --     ends-turn       one store more at each end
 --     ends-both       one element more at each end, which a call has written
 --     ends_more       one element more at the front, which a call has written
@@ -26,7 +26,7 @@ use lib.IntN.{ℤ, pos}
 use lib.ListN.{length, get_or, set, length-set}
 use lib.Seq.{get_or-set_same, get_or-set_other, ext_get_or}
 use borrow.Author.Count.{below_none, below_more}
-use Rattle.whole.proofs.Cases.{le-or-lt, same_or_not}
+use Rattle.whole.proofs.Cases.{le_or_lt, same_or_not}
 use Rattle.words.specs.Words.{word, WrittenOf, Written, TwoPut}
 
 -- of the m elements from b on, the first a and the last c now hold f; those between and all others are as before, and the length stays
@@ -38,8 +38,8 @@ pub record Ends {A : Type 0} (d : A) (b a c m : ℕ) (f : ℕ → A) (before aft
   pub high : (k : ℕ) → b + m ≤ k → get_or after k d ≡ get_or before k d
   pub len : length after ≡ length before
 
-pub ends-none : {A : Type 0} {d : A} {b m : ℕ} {f : ℕ → A} {words : List A} → Ends d b 0 0 m f words words
-ends-none = record {
+pub ends_none : {A : Type 0} {d : A} {b m : ℕ} {f : ℕ → A} {words : List A} → Ends d b 0 0 m f words words
+ends_none = record {
   front = below_none _;
   back = λ k h l. absurd (omega arith);
   between = λ k h l. refl;
@@ -64,16 +64,16 @@ ends_more {d = d} {b = b} {a = a} {i = i} {after = after} h e p w = record {
 }
 
 module _ {A : Type 0} {d : A} {b a c m : ℕ} {f : ℕ → A} {before after : List A} (p : Ends d b a c m f before after) where
-  pub ends-all : m ≤ a + c → WrittenOf d b m f before after
-  ends-all h = record {
-    new = λ k l. ⊎_elim (λ o. p.back k l (omega arith)) (p.front k) (le-or-lt a k);
+  pub ends_all : m ≤ a + c → WrittenOf d b m f before after
+  ends_all h = record {
+    new = λ k l. ⊎_elim (λ o. p.back k l (omega arith)) (p.front k) (le_or_lt a k);
     low = p.low;
     high = p.high;
     len = p.len;
   }
 
-  pub ends-pass : a + c < m → get_or before (b + a) d ≡ f a → Ends d b (a + 1) c m f before after
-  ends-pass h e = record {
+  pub ends_pass : a + c < m → get_or before (b + a) d ≡ f a → Ends d b (a + 1) c m f before after
+  ends_pass h e = record {
     front = below_more _ _ p.front (p.between a (omega arith) h ∙ e);
     back = p.back;
     between = λ k l o. p.between k (omega arith) o;
@@ -90,9 +90,9 @@ module _ {A : Type 0} {d : A} {b a c m : ℕ} {f : ℕ → A} {before after : Li
     kept k h = get_or-set_other after i k x d h
 
   -- the place of the store is i, where b + a, or b + m less c, is meant
-  pub ends-front : {x : A} {i : ℕ} → (i ≡ b + a) × (a + c < m) × (b + m ≤ length before) → x ≡ f a
+  pub ends_front : {x : A} {i : ℕ} → (i ≡ b + a) × (a + c < m) × (b + m ≤ length before) → x ≡ f a
       → Ends d b (a + 1) c m f before (set after i x)
-  ends-front {x} {i} h e = record {
+  ends_front {x} {i} h e = record {
     front = below_more _ _
         (λ k l. kept i x (b + k) (λ e. omega arith) ∙ p.front k l)
         (ap (λ j. get_or (set after i x) j d) (sym h.0) ∙ stored i x (omega arith) ∙ e);
@@ -103,14 +103,14 @@ module _ {A : Type 0} {d : A} {b a c m : ℕ} {f : ℕ → A} {before after : Li
     len = length-set after i x ∙ p.len;
   }
 
-  pub ends-back : {x : A} {i c' : ℕ} (j : ℕ) → (i ≡ b + j) × (a ≤ j) × (b + m ≤ length before) × (j + c' ≡ m) × (c' ≡ c + 1) → x ≡ f j
+  pub ends_back : {x : A} {i c' : ℕ} (j : ℕ) → (i ≡ b + j) × (a ≤ j) × (b + m ≤ length before) × (j + c' ≡ m) × (c' ≡ c + 1) → x ≡ f j
       → Ends d b a c' m f before (set after i x)
-  ends-back {x} {i} j h e = record {
+  ends_back {x} {i} j h e = record {
     front = λ k l. kept i x (b + k) (λ e. omega arith) ∙ p.front k l;
     back = λ k l o. ⊎_elim
         (λ g. kept i x (b + k) (λ e. omega arith) ∙ p.back k l g)
         (λ g. let here : b + k ≡ i = omega arith in let same : k ≡ j = omega arith in rw (here, same) (stored i x (omega arith) ∙ e))
-        (le-or-lt m (k + c));
+        (le_or_lt m (k + c));
     between = λ k l o. kept i x (b + k) (λ e. omega arith) ∙ p.between k l (omega arith);
     low = λ k l. kept i x k (λ e. omega arith) ∙ p.low k l;
     high = λ k l. kept i x k (λ e. omega arith) ∙ p.high k l;
@@ -118,19 +118,19 @@ module _ {A : Type 0} {d : A} {b a c m : ℕ} {f : ℕ → A} {before after : Li
   }
 
 -- one element more at each end, at the places p and q, which a call has written
-pub ends-both : {A : Type 0} {d : A} {b a c m : ℕ} {f : ℕ → A} {before between after : List A} → Ends d b a c m f before between
+pub ends_both : {A : Type 0} {d : A} {b a c m : ℕ} {f : ℕ → A} {before between after : List A} → Ends d b a c m f before between
     → {p q a' c' : ℕ} (j : ℕ) → (a' ≡ a + 1) × (c' ≡ c + 1) × (p ≡ b + a) × (q ≡ b + j) × (a < j) × (j + c' ≡ m)
     → length after ≡ length between → ((k : ℕ) → (k ≡ p → ⊥) → (k ≡ q → ⊥) → get_or after k d ≡ get_or between k d)
     → get_or after p d ≡ f a → get_or after q d ≡ f j → Ends d b a' c' m f before after
-ends-both {d = d} {b = b} {a = a} {c = c} {m = m} {f = f} {after = after} e {p} {q} {a'} {c'} j h len others first last = record {
+ends_both {d = d} {b = b} {a = a} {c = c} {m = m} {f = f} {after = after} e {p} {q} {a'} {c'} j h len others first last = record {
   front = λ k l. ⊎_elim
       (λ o. let here : b + k ≡ p = omega arith in let same : k ≡ a = omega arith in rw (here, same) first)
       (λ o. others (b + k) (omega arith) (omega arith) ∙ e.front k o)
-      (le-or-lt a k);
+      (le_or_lt a k);
   back = λ k l o. ⊎_elim
       (λ g. others (b + k) (omega arith) (omega arith) ∙ e.back k l g)
       (λ g. let here : b + k ≡ q = omega arith in let same : k ≡ j = omega arith in rw (here, same) last)
-      (le-or-lt m (k + c));
+      (le_or_lt m (k + c));
   between = λ k l o. others (b + k) (omega arith) (omega arith) ∙ e.between k (omega arith) (omega arith);
   low = λ k l. others k (omega arith) (omega arith) ∙ e.low k l;
   high = λ k l. others k (omega arith) (omega arith) ∙ e.high k l;
@@ -138,16 +138,16 @@ ends-both {d = d} {b = b} {a = a} {c = c} {m = m} {f = f} {after = after} e {p} 
 }
 
 -- a turn that stores at both ends
-pub ends-turn : {A : Type 0} {d : A} {b a c m : ℕ} {f : ℕ → A} {before after : List A} → Ends d b a c m f before after →
+pub ends_turn : {A : Type 0} {d : A} {b a c m : ℕ} {f : ℕ → A} {before after : List A} → Ends d b a c m f before after →
     {x y : A} {i i' a' c' : ℕ} (j : ℕ)
     → (a' ≡ a + 1) × (c' ≡ c + 1) × (i ≡ b + a) × (i' ≡ b + j) × (a < j) × (j + c' ≡ m) × (b + m ≤ length before) → x ≡ f a → y ≡ f j
     → Ends d b a' c' m f before (set (set after i x) i' y)
-ends-turn p j h e g = rw h.0 (ends-back (ends-front p (omega arith) e) j (omega arith) g)
+ends_turn p j h e g = rw h.0 (ends_back (ends_front p (omega arith) e) j (omega arith) g)
 
 -- a run of one element
 pub written_one : {A : Type 0} {d : A} {b : ℕ} {f : ℕ → A} {words : List A} {v : A} → b < length words → v ≡ f 0 →
     WrittenOf d b 1 f words (set words b v)
-written_one h e = ends-all (ends-front ends-none (omega arith) e) (omega arith)
+written_one h e = ends_all (ends_front ends_none (omega arith) e) (omega arith)
 
 module _ {A : Type 0} {d : A} {b m : ℕ} {f : ℕ → A} {before after : List A} (w : WrittenOf d b m f before after) where
   pub written_same : {n : ℕ} {g : ℕ → A} → n ≡ m → ((k : ℕ) → k < n → f k ≡ g k) → WrittenOf d b n g before after
@@ -159,8 +159,8 @@ module _ {A : Type 0} {d : A} {b m : ℕ} {f : ℕ → A} {before after : List A
   }
 
   -- one element more behind the run
-  pub written-more : {x : A} {i : ℕ} → (i ≡ b + m) × (i < length before) → x ≡ f m → WrittenOf d b (m + 1) f before (set after i x)
-  written-more {x} {i} h e = record {
+  pub written_more : {x : A} {i : ℕ} → (i ≡ b + m) × (i < length before) → x ≡ f m → WrittenOf d b (m + 1) f before (set after i x)
+  written_more {x} {i} h e = record {
     new = below_more _ _
         (λ k l. other (b + k) (λ e. omega arith) ∙ w.new k l)
         (ap (λ j. get_or (set after i x) j d) (sym h.0) ∙ get_or-set_same after i x d (omega (arith, w.len)) ∙ e);
@@ -173,18 +173,18 @@ module _ {A : Type 0} {d : A} {b m : ℕ} {f : ℕ → A} {before after : List A
       other k ne = get_or-set_other after i k x d ne
 
 -- what is written, from the same words twice
-pub written-alike : {A : Type 0} {d : A} {b m : ℕ} {f : ℕ → A} {before after other : List A} → WrittenOf d b m f before after
+pub written_alike : {A : Type 0} {d : A} {b m : ℕ} {f : ℕ → A} {before after other : List A} → WrittenOf d b m f before after
     → WrittenOf d b m f before other → after ≡ other
-written-alike {d = d} {b = b} {m = m} {before = before} {after = after} {other = other} w v =
-    ext_get_or d after other (w.len ∙ sym v.len) (λ k h. ⊎_elim (not-below k) (λ l. w.low k l ∙ sym (v.low k l)) (le-or-lt b k))
+written_alike {d = d} {b = b} {m = m} {before = before} {after = after} {other = other} w v =
+    ext_get_or d after other (w.len ∙ sym v.len) (λ k h. ⊎_elim (not_below k) (λ l. w.low k l ∙ sym (v.low k l)) (le_or_lt b k))
   where
     at : (k : ℕ) → k < m → get_or after (b + k) d ≡ get_or other (b + k) d
     at k l = w.new k l ∙ sym (v.new k l)
 
-    not-below : (k : ℕ) → b ≤ k → get_or after k d ≡ get_or other k d
-    not-below k l =
+    not_below : (k : ℕ) → b ≤ k → get_or after k d ≡ get_or other k d
+    not_below k l =
         let place : b + (k - b) ≡ k = omega arith in
-        ⊎_elim (λ o. w.high k o ∙ sym (v.high k o)) (λ o. rw place at (at (k - b) (omega arith))) (le-or-lt (b + m) k)
+        ⊎_elim (λ o. w.high k o ∙ sym (v.high k o)) (λ o. rw place at (at (k - b) (omega arith))) (le_or_lt (b + m) k)
 
 module _ {A : Type 0} {d : A} {m : ℕ} {f : ℕ → A} {before after : List A} (w : WrittenOf d 0 m f before after) where
   pub front : (k : ℕ) → k < m → get_or after k d ≡ f k
@@ -199,9 +199,9 @@ past d [] k h = refl
 past d (x ∷ w) (suc k) h = past d w k (omega (arith, h))
 
 -- two stores
-pub two-put : {i j : ℕ} {u v u' v' : ℤ} {out : List ℤ} → (i < length out) × (j < length out) → (i ≡ j → u ≡ v) → u' ≡ u → v' ≡ v
+pub two_put : {i j : ℕ} {u v u' v' : ℤ} {out : List ℤ} → (i < length out) × (j < length out) → (i ≡ j → u ≡ v) → u' ≡ u → v' ≡ v
     → TwoPut i j u v out (set (set out i u') j v')
-two-put {i} {j} {u} {v} {u'} {v'} {out} h same e d = record {
+two_put {i} {j} {u} {v} {u'} {v'} {out} h same e d = record {
   first = ⊎_elim
       (λ one. rw one (get_or-set_same (set out j u') j v' (pos 0) (simp length-set h.1)) ∙ d ∙ sym (same one))
       (λ two. get_or-set_other (set out i u') j i v' (pos 0) two ∙ get_or-set_same out i u' (pos 0) h.0 ∙ e)
@@ -212,10 +212,10 @@ two-put {i} {j} {u} {v} {u'} {v'} {out} h same e d = record {
 }
 
 -- a loop from both ends has come to the middle, and two stores put what it has left, the elements 0 and n / 2
-pub ends-two : {n a : ℕ} {f : ℕ → ℤ} {u v : ℤ} {before between after : List ℤ} → (1 ≤ n) × (a ≡ n - n / 2 - 1)
+pub ends_two : {n a : ℕ} {f : ℕ → ℤ} {u v : ℤ} {before between after : List ℤ} → (1 ≤ n) × (a ≡ n - n / 2 - 1)
     → ((n ≡ 1 → ⊥) → 2 * (n / 2) ≡ n) → Ends (pos 0) 1 a a (n - 1) (λ i. f (1 + i)) before between → TwoPut 0 (n / 2) u v between after
     → u ≡ f 0 → v ≡ f (n / 2) → Written 0 n f before after
-ends-two {n} {a} {f} {u} {v} {before} {between} {after} h whole run e first half = record {
+ends_two {n} {a} {f} {u} {v} {before} {between} {after} h whole run e first half = record {
   new = λ k l. at k l;
   low = λ k l. absurd (omega arith);
   high = λ k l. e.others k (omega arith) (omega arith) ∙ run.high k (omega arith);
@@ -228,7 +228,7 @@ ends-two {n} {a} {f} {u} {v} {before} {between} {after} h whole run e first half
         let place : 1 + (k - 1) ≡ k = omega arith in
         e.others k z m
         ∙ rw place at (⊎_elim {C = word between (1 + (k - 1)) ≡ f (1 + (k - 1))} (λ g. run.back (k - 1) (omega arith) (omega arith))
-        (run.front (k - 1)) (le-or-lt a (k - 1)))
+        (run.front (k - 1)) (le_or_lt a (k - 1)))
 
     at : (k : ℕ) → k < n → word after (0 + k) ≡ f k
     at k l =

@@ -4,7 +4,7 @@ use Rattle.std.specs.Prelude.{List, [], ◌++◌, ◌≡◌, ℕ, zero, suc, ◌
 -- the bytes now stand from `at` on; those before and those behind are as they were, and `next` is the place behind them. (The last two
 -- fields follow from the others where `at` is within the buffer; they are there for who lends what was put.)
 pub record Put (before : List ℕ) (at : ℕ) (bytes : List ℕ) (next : ℕ) (after : List ℕ) : Type 0 where
-  pub next-is : next ≡ at + length bytes
+  pub next_is : next ≡ at + length bytes
   pub front : take next after ≡ take at before ++ bytes
   pub rest : drop next after ≡ drop next before
   pub len : length after ≡ length before

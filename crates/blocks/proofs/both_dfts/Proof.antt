@@ -1,17 +1,17 @@
 -- `blocks::both_dfts` meets its contract: a run of both DFTs on the block loaded in pairs. Assumes nothing.
 use borrow.Author.Rules.{rules}
-use Rattle.blocks.proofs.BlockRuns.{cosine-ready, sine-ready, dfts-made}
+use Rattle.blocks.proofs.BlockRuns.{cosine_ready, sine_ready, dfts_made}
 use Rattle.blocks.proofs.both_dfts.Statement.{statement}
 use Rattle.blocks.proofs.both_dfts.Tie as tie
 
-pub both-dfts-spec : {M : Type 1} → statement M
-both-dfts-spec =
+pub both_dfts_spec : {M : Type 1} → statement M
+both_dfts_spec =
     tie.close
     (tie.spec
     (λ c κs. search rules)  -- load-pairs-requires
-    (λ c κs. search (rules, cosine-ready))  -- cosine-dft-requires
+    (λ c κs. search (rules, cosine_ready))  -- cosine-dft-requires
     (λ c. search rules)  -- add-sine-dft
     (λ c. search rules)  -- add-sine-dft-2
-    (λ c κs. search (rules, sine-ready))  -- sine-dft-requires
+    (λ c κs. search (rules, sine_ready))  -- sine-dft-requires
     (λ c. search rules)  -- same-length
-    (λ c. search (rules, dfts-made)))  -- returns
+    (λ c. search (rules, dfts_made)))  -- returns

@@ -1,7 +1,7 @@
 -- `blocks::cosine_of` meets its contract: the DCT of the block loaded in its order. Assumes nothing.
 use native.Mathlib.Omega.{arith}
 use borrow.Author.Rules.{rules}
-use Rattle.blocks.proofs.BlockRuns.{dct-ready, dct-sized, cosine-made}
+use Rattle.blocks.proofs.BlockRuns.{dct_ready, dct_sized, cosine_made}
 use Rattle.blocks.proofs.cosine_of.Statement.{statement}
 use Rattle.blocks.proofs.cosine_of.Tie as tie
 
@@ -10,17 +10,17 @@ dct-requires c κs =
     let l = c.before.before.before in
     let q = l.before.before in
     let k = q.before.requires.0 in
-    (q.quarter-wave.ensures, dct-ready k.block-ok l.load.ensures (omega (arith, k.room)))
+    (q.quarter-wave.ensures, dct_ready k.block_ok l.load.ensures (omega (arith, k.room)))
 
-pub cosine-of-spec : {M : Type 1} → statement M
-cosine-of-spec =
+pub cosine_of_spec : {M : Type 1} → statement M
+cosine_of_spec =
     tie.close
     (tie.spec
     (λ c κs. search rules)  -- quarter-wave-requires
     (λ c κs. search rules)  -- load-requires
     dct-requires
-    (λ c κs. search (rules, dct-sized))  -- store-requires
+    (λ c κs. search (rules, dct_sized))  -- store-requires
     (λ c κs. search rules)  -- clear-requires
     (λ c. search rules)  -- same-length
     (λ c. search rules)  -- same-length-2
-    (λ c. search (rules, cosine-made)))  -- returns
+    (λ c. search (rules, cosine_made)))  -- returns

@@ -1,8 +1,8 @@
 -- `blocks::pair_of` meets its contract: the DFTs of a, then those of b behind them, joined by the laws of PairRuns. Assumes nothing.
 use native.Mathlib.Omega.{arith}
 use borrow.Author.Rules.{rules}
-use Rattle.blocks.proofs.BlockRuns.{spectrum-ready}
-use Rattle.blocks.proofs.PairRuns.{b-ready, parts-ready, pair_made}
+use Rattle.blocks.proofs.BlockRuns.{spectrum_ready}
+use Rattle.blocks.proofs.PairRuns.{b_ready, parts_ready, pair_made}
 use Rattle.blocks.proofs.pair_of.Statement.{statement}
 use Rattle.blocks.proofs.pair_of.Tie as tie
 
@@ -11,7 +11,7 @@ join-parts-requires c κs =
     let f = c.before.before.before.before in
     let d = f.before.before.before.before in
     let (a, b, real, imaginary) = d.before.before.before.before.requires in
-    parts-ready a.block-ok b.block-ok a.room d.both-dfts.ensures f.both-dfts2.ensures
+    parts_ready a.block_ok b.block_ok a.room d.both-dfts.ensures f.both-dfts2.ensures
     (omega (arith, real, imaginary))
 
 returns : tie.Need-returns
@@ -20,19 +20,19 @@ returns c =
     let f = j.before.before.before.before.before in
     let d = f.before.before.before.before in
     let (a, b, _, _) = d.before.before.before.before.requires in
-    pair_made a.block-ok b.block-ok a.room d.both-dfts.ensures f.both-dfts2.ensures j.join-parts.ensures
+    pair_made a.block_ok b.block_ok a.room d.both-dfts.ensures f.both-dfts2.ensures j.join-parts.ensures
     c.before.clear.ensures
 
-pub pair-of-spec : {M : Type 1} → statement M
-pair-of-spec =
+pub pair_of_spec : {M : Type 1} → statement M
+pair_of_spec =
     tie.close
     (tie.spec
     (λ c κs. search rules)  -- quarter-wave-requires
-    (λ c κs. search (rules, spectrum-ready))  -- both-dfts-requires
+    (λ c κs. search (rules, spectrum_ready))  -- both-dfts-requires
     (λ c. search rules)  -- add-both-dfts
     (λ c. search rules)  -- mul-both-dfts
     (λ c. search rules)  -- add-both-dfts-2
-    (λ c κs. search (rules, b-ready))  -- both-dfts-requires-2
+    (λ c κs. search (rules, b_ready))  -- both-dfts-requires-2
     join-parts-requires
     (λ c κs. search rules)  -- clear-requires
     (λ c. search rules)  -- same-length

@@ -9,7 +9,7 @@ use lib.Dec.{T}
 use lib.IntN.{ℤ, pos, negsuc, nat_abs}
 use lib.ListN.{get_or}
 use lib.Signed.{non_neg}
-use Rattle.circle.proofs.Stored.{entry-not-below}
+use Rattle.circle.proofs.Stored.{entry_not_below}
 use Rattle.circle.proofs.wave_at.Statement.{statement}
 use Rattle.circle.proofs.wave_at.Tie as tie
 
@@ -40,10 +40,10 @@ module _ (c : tie.After-result) where
   fits = search rules
 
   above : T (non_neg (get_or c.before.args.wave.now place (pos 0)))
-  above = subst (λ z. T (non_neg z)) (sym (c.before.requires.0 place inside)) (entry-not-below place inside)
+  above = subst (λ z. T (non_neg z)) (sym (c.before.requires.0 place inside)) (entry_not_below place inside)
 
-pub wave-at-spec : {M : Type 1} → statement M
-wave-at-spec =
+pub wave_at_spec : {M : Type 1} → statement M
+wave_at_spec =
     tie.close
     (tie.spec
     (λ c. search rules)  -- mul-result

@@ -25,8 +25,8 @@ bounds c =
     let small : l ≤ 9 = omega arith in
     (omega (arith, pow_mono some, is), omega (arith, pow_mono small, is))
 
-loop-again : tie.Need-loop-preserved invariant-loop decreases-loop
-loop-again c =
+loop_again : tie.Need-loop-preserved invariant-loop decreases-loop
+loop_again c =
     let (some, most, is, costs) = c.before.before.loop.invariant in
     (omega arith, omega arith, rw add-one (omega (arith, is, pow-succ' 2 c.before.before.loop.l)), c.next_level.ensures)
 
@@ -36,8 +36,8 @@ returns c =
     let end : c.before.loop.l ≡ c.before.before.before.args.top = omega arith in
     rw (is, end) at costs
 
-pub level-counts-spec : {M : Type 1} → statement M
-level-counts-spec =
+pub level_counts_spec : {M : Type 1} → statement M
+level_counts_spec =
     tie.close
     (tie.spec
     invariant-loop
@@ -48,5 +48,5 @@ level-counts-spec =
     (λ c. omega (arith, bounds c.before))  -- mul-n
     (λ c. search rules)  -- add-l
     (λ c. search rules)  -- loop-less
-    loop-again
+    loop_again
     returns)

@@ -3,13 +3,13 @@ use Prim.Native.Nat.{suc}
 use native.Mathlib.Nat.{pow-succ'}
 use native.Mathlib.Omega.{arith}
 use borrow.Author.Rules.{rules}
-use Rattle.counts.proofs.Costs.{FewCounts, few-counts, cosine-next, sine-next, dct-next}
+use Rattle.counts.proofs.Costs.{FewCounts, few_counts, cosine_next, sine_next, dct_next}
 use Rattle.counts.proofs.next_level.Statement.{statement}
 use Rattle.counts.proofs.next_level.Tie as tie
 
 -- no count overflows a word
 few : (c : tie.Start) → FewCounts c.args.level
-few c = few-counts c.requires.0 (omega arith)
+few c = few_counts c.requires.0 (omega arith)
 
 returns : tie.Need-returns
 returns c =
@@ -17,13 +17,13 @@ returns c =
     record {
       below = suc l.below;
       is = omega (arith, l.is, pow-succ' 2 (suc l.below));
-      ofCosine = cosine-next l (omega arith);
-      ofSine = sine-next l (omega arith);
-      ofDct = dct-next l (omega arith);
+      of_cosine = cosine_next l (omega arith);
+      of_sine = sine_next l (omega arith);
+      of_dct = dct_next l (omega arith);
     }
 
-pub next-level-spec : {M : Type 1} → statement M
-next-level-spec =
+pub next_level_spec : {M : Type 1} → statement M
+next_level_spec =
     tie.close
     (tie.spec
     (λ c. search rules)  -- add-t6

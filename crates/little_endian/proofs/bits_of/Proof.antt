@@ -12,13 +12,13 @@ use Rattle.little_endian.specs.Numbers.{bits}
 use Rattle.little_endian.proofs.bits_of.Statement.{statement}
 use Rattle.little_endian.proofs.bits_of.Tie as tie
 
-bits-negative : (x : ℤ) → lt_z x (pos 0) ≡ true → bits x ≡ 2 ^ 32 - nat_abs x
-bits-negative (pos n) h = absurd (omega (arith, ltb-true n 0 h))
-bits-negative (negsuc n) h = omega arith
+bits_negative : (x : ℤ) → lt_z x (pos 0) ≡ true → bits x ≡ 2 ^ 32 - nat_abs x
+bits_negative (pos n) h = absurd (omega (arith, ltb-true n 0 h))
+bits_negative (negsuc n) h = omega arith
 
-bits-natural : (x : ℤ) → lt_z x (pos 0) ≡ false → bits x ≡ nat_abs x
-bits-natural (pos n) h = omega arith
-bits-natural (negsuc n) h = absurd (not_negative (negsuc n) h)
+bits_natural : (x : ℤ) → lt_z x (pos 0) ≡ false → bits x ≡ nat_abs x
+bits_natural (pos n) h = omega arith
+bits_natural (negsuc n) h = absurd (not_negative (negsuc n) h)
 
 below : (c : tie.Then1) → lt_z c.before.args.x (pos 0) ≡ true
 below c = rw (to_z-of_z c.before.ranges.x) at c.if1.true
@@ -29,12 +29,12 @@ above c = rw (to_z-of_z c.before.ranges.x) at c.if1.false
 negative : (c : tie.Then1) → Turned c.before.args.x
 negative c = turned _ c.before.ranges.x (below c)
 
-pub bits-of-spec : {M : Type 1} → statement M
-bits-of-spec =
+pub bits_of_spec : {M : Type 1} → statement M
+bits_of_spec =
     tie.close
     (tie.spec
     (λ c. let (n, b, _, e) = negative c in rw e (tt, record { fits = omega arith }))  -- cast-result
     (λ c. let (n, b, _, e) = negative c in omega (arith, ap nat_abs e))  -- sub-result
     (λ c. let f = c.before.ranges.x in rw (to_z-of_z f) (not_negative c.before.args.x (above c), Fits-nat_abs tt f))  -- cast-result-2
-    (λ c. let (n, b, a, e) = negative c in omega (arith, ap nat_abs e, bits-negative c.before.args.x (below c)))  -- returns
-    (λ c. let s = c.before in omega (arith, bits-natural s.args.x (above c), ap nat_abs (to_z-of_z s.ranges.x))))  -- returns-2
+    (λ c. let (n, b, a, e) = negative c in omega (arith, ap nat_abs e, bits_negative c.before.args.x (below c)))  -- returns
+    (λ c. let s = c.before in omega (arith, bits_natural s.args.x (above c), ap nat_abs (to_z-of_z s.ranges.x))))  -- returns-2

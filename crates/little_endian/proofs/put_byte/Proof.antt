@@ -5,8 +5,8 @@ use Rattle.words.proofs.Putting.{put_byte}
 use Rattle.little_endian.proofs.put_byte.Statement.{statement}
 use Rattle.little_endian.proofs.put_byte.Tie as tie
 
-pub put-byte-spec : {M : Type 1} → statement M
-put-byte-spec =
+pub put_byte_spec : {M : Type 1} → statement M
+put_byte_spec =
     tie.close
     (tie.spec
     (λ c. search rules)  -- cast-file

@@ -10,8 +10,8 @@ use Rattle.little_endian.proofs.put_signed.Tie as tie
 bits_put : (c : tie.After-bits-of) → c.bits_of.result ≡ bits c.before.before.args.x
 bits_put c = c.bits_of.ensures ∙ ap bits (to_z-of_z c.before.before.ranges.x)
 
-pub put-signed-spec : {M : Type 1} → statement M
-put-signed-spec =
+pub put_signed_spec : {M : Type 1} → statement M
+put_signed_spec =
     tie.close
     (tie.spec
     (λ c κs. search rules)  -- bits-of-requires

@@ -1,11 +1,11 @@
 -- `little_endian::put_unsigned` meets its contract: one byte behind another. Assumes nothing.
 use borrow.Author.Rules.{rules}
-use Rattle.little_endian.proofs.Bytes.{four-put}
+use Rattle.little_endian.proofs.Bytes.{four_put}
 use Rattle.little_endian.proofs.put_unsigned.Statement.{statement}
 use Rattle.little_endian.proofs.put_unsigned.Tie as tie
 
-pub put-unsigned-spec : {M : Type 1} → statement M
-put-unsigned-spec =
+pub put_unsigned_spec : {M : Type 1} → statement M
+put_unsigned_spec =
     tie.close
     (tie.spec
     (λ c κs. search rules)  -- put-byte-requires
@@ -13,4 +13,4 @@ put-unsigned-spec =
     (λ c κs. search rules)  -- put-byte-requires-3
     (λ c κs. search rules)  -- put-byte-requires-4
     (λ c. search rules)  -- same-length
-    (λ c. search (rules, four-put)))  -- returns
+    (λ c. search (rules, four_put)))  -- returns

@@ -6,8 +6,8 @@ use Rattle.little_endian.specs.Numbers.{signed}
 use Rattle.little_endian.proofs.signed_at.Statement.{statement}
 use Rattle.little_endian.proofs.signed_at.Tie as tie
 
-pub signed-at-spec : {M : Type 1} → statement M
-signed-at-spec =
+pub signed_at_spec : {M : Type 1} → statement M
+signed_at_spec =
     tie.close
     (tie.spec
     (λ c κs. search rules)  -- unsigned-at-requires

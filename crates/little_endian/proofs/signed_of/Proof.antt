@@ -4,7 +4,7 @@ use mathlib.Core.Path.{◌≡◌}
 use Prim.Native.Nat.{◌-◌}
 use native.Mathlib.Omega.{arith}
 use borrow.Author.Rules.{rules}
-use Rattle.little_endian.proofs.Signs.{word-reads}
+use Rattle.little_endian.proofs.Signs.{word_reads}
 use Rattle.little_endian.proofs.signed_of.Statement.{statement}
 use Rattle.little_endian.proofs.signed_of.Tie as tie
 
@@ -12,14 +12,14 @@ returns-2 : tie.Need-returns-2
 returns-2 c =
     let n = c.before.args.n in
     let twice : 4294967295 - (4294967295 - n) ≡ n = omega arith in
-    rw twice (word-reads n (omega arith))
+    rw twice (word_reads n (omega arith))
 
-pub signed-of-spec : {M : Type 1} → statement M
-signed-of-spec =
+pub signed_of_spec : {M : Type 1} → statement M
+signed_of_spec =
     tie.close
     (tie.spec
     (λ c. search rules)  -- cast-result
     (λ c. search rules)  -- sub-result
     (λ c. search rules)  -- cast-result-2
-    (λ c. word-reads c.before.args.n (omega arith))  -- returns
+    (λ c. word_reads c.before.args.n (omega arith))  -- returns
     returns-2)

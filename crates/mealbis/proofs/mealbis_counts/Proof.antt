@@ -5,8 +5,8 @@ use Rattle.mealbis.proofs.Telling.{told}
 use Rattle.mealbis.proofs.mealbis_counts.Statement.{statement}
 use Rattle.mealbis.proofs.mealbis_counts.Tie as tie
 
-pub mealbis-counts-spec : {M : Type 1} → statement M
-mealbis-counts-spec =
+pub mealbis_counts_spec : {M : Type 1} → statement M
+mealbis_counts_spec =
     tie.close
     (tie.spec
     (λ c κs. search rules)  -- count-query-requires

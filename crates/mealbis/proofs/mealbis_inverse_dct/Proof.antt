@@ -5,8 +5,8 @@ use Rattle.mealbis.proofs.Telling.{told}
 use Rattle.mealbis.proofs.mealbis_inverse_dct.Statement.{statement}
 use Rattle.mealbis.proofs.mealbis_inverse_dct.Tie as tie
 
-pub mealbis-inverse-dct-spec : {M : Type 1} → statement M
-mealbis-inverse-dct-spec =
+pub mealbis_inverse_dct_spec : {M : Type 1} → statement M
+mealbis_inverse_dct_spec =
     tie.close
     (tie.spec
     (λ c κs. search rules)  -- inverse-dct-requires

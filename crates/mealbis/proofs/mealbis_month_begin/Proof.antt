@@ -5,8 +5,8 @@ use Rattle.mealbis.proofs.Telling.{told}
 use Rattle.mealbis.proofs.mealbis_month_begin.Statement.{statement}
 use Rattle.mealbis.proofs.mealbis_month_begin.Tie as tie
 
-pub mealbis-month-begin-spec : {M : Type 1} → statement M
-mealbis-month-begin-spec =
+pub mealbis_month_begin_spec : {M : Type 1} → statement M
+mealbis_month_begin_spec =
     tie.close
     (tie.spec
     (λ c κs. search rules)  -- begin-in-requires

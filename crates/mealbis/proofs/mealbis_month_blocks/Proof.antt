@@ -6,8 +6,8 @@ use Rattle.mealbis.proofs.Telling.{told}
 use Rattle.mealbis.proofs.mealbis_month_blocks.Statement.{statement}
 use Rattle.mealbis.proofs.mealbis_month_blocks.Tie as tie
 
-pub mealbis-month-blocks-spec : {M : Type 1} → statement M
-mealbis-month-blocks-spec =
+pub mealbis_month_blocks_spec : {M : Type 1} → statement M
+mealbis_month_blocks_spec =
     tie.close
     (tie.spec
     (λ c κs. search rules)  -- block-number-requires

@@ -6,8 +6,8 @@ use Rattle.mealbis.proofs.Telling.{told}
 use Rattle.mealbis.proofs.mealbis_month_sums.Statement.{statement}
 use Rattle.mealbis.proofs.mealbis_month_sums.Tie as tie
 
-pub mealbis-month-sums-spec : {M : Type 1} → statement M
-mealbis-month-sums-spec =
+pub mealbis_month_sums_spec : {M : Type 1} → statement M
+mealbis_month_sums_spec =
     tie.close
     (tie.spec
     (λ c κs. search rules)  -- sums-at-requires

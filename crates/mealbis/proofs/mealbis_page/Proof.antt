@@ -5,8 +5,8 @@ use Rattle.mealbis.proofs.Telling.{told}
 use Rattle.mealbis.proofs.mealbis_page.Statement.{statement}
 use Rattle.mealbis.proofs.mealbis_page.Tie as tie
 
-pub mealbis-page-spec : {M : Type 1} → statement M
-mealbis-page-spec =
+pub mealbis_page_spec : {M : Type 1} → statement M
+mealbis_page_spec =
     tie.close
     (tie.spec
     (λ c κs. search rules)  -- fill-page-requires

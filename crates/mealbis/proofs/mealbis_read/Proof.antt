@@ -5,8 +5,8 @@ use Rattle.mealbis.proofs.Telling.{told}
 use Rattle.mealbis.proofs.mealbis_read.Statement.{statement}
 use Rattle.mealbis.proofs.mealbis_read.Tie as tie
 
-pub mealbis-read-spec : {M : Type 1} → statement M
-mealbis-read-spec =
+pub mealbis_read_spec : {M : Type 1} → statement M
+mealbis_read_spec =
     tie.close
     (tie.spec
     (λ c κs. search rules)  -- read-requires

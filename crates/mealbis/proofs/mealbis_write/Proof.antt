@@ -5,8 +5,8 @@ use Rattle.mealbis.proofs.Telling.{told}
 use Rattle.mealbis.proofs.mealbis_write.Statement.{statement}
 use Rattle.mealbis.proofs.mealbis_write.Tie as tie
 
-pub mealbis-write-spec : {M : Type 1} → statement M
-mealbis-write-spec =
+pub mealbis_write_spec : {M : Type 1} → statement M
+mealbis_write_spec =
     tie.close
     (tie.spec
     (λ c κs. search rules)  -- write-requires

@@ -4,8 +4,8 @@ use borrow.Author.Rules.{rules}
 use Rattle.mealbis.proofs.tell.Statement.{statement}
 use Rattle.mealbis.proofs.tell.Tie as tie
 
-pub tell-spec : {M : Type 1} → statement M
-tell-spec =
+pub tell_spec : {M : Type 1} → statement M
+tell_spec =
     tie.close
     (tie.spec
     (λ c. search rules)  -- enum-known-answer

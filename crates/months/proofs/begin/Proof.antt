@@ -4,8 +4,8 @@ use borrow.Author.Rules.{rules}
 use Rattle.months.proofs.begin.Statement.{statement}
 use Rattle.months.proofs.begin.Tie as tie
 
-pub begin-spec : {M : Type 1} → statement M
-begin-spec =
+pub begin_spec : {M : Type 1} → statement M
+begin_spec =
     tie.close
     (tie.spec
     (λ c κs. search rules)  -- begin-in-requires

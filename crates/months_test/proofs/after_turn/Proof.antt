@@ -3,8 +3,8 @@ use borrow.Author.Rules.{rules}
 use Rattle.months_test.proofs.after_turn.Statement.{statement}
 use Rattle.months_test.proofs.after_turn.Tie as tie
 
-pub after-turn-spec : {M : Type 1} → statement M
-after-turn-spec =
+pub after_turn_spec : {M : Type 1} → statement M
+after_turn_spec =
     tie.close
     (tie.spec
     (λ c κs. search rules)  -- caller-requires

@@ -11,8 +11,8 @@ invariant-loop turns count recording length next₀ turn₀ next turn = Held nex
 abbrev decreases-loop : tie.decreases-loop
 decreases-loop turns count recording length next₀ turn₀ next turn = count - turn
 
-pub filled-spec : {M : Type 1} → statement M
-filled-spec =
+pub filled_spec : {M : Type 1} → statement M
+filled_spec =
     tie.close
     (tie.spec
     invariant-loop

@@ -12,8 +12,8 @@ invariant-loop samples₀ i₀ samples i = length samples ≡ 2100
 abbrev decreases-loop : tie.decreases-loop
 decreases-loop samples₀ i₀ samples i = 2100 - i
 
-pub recording-spec : {M : Type 1} → statement M
-recording-spec =
+pub recording_spec : {M : Type 1} → statement M
+recording_spec =
     tie.close
     (tie.spec
     invariant-loop

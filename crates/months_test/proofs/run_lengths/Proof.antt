@@ -10,8 +10,8 @@ invariant-loop recording level₀ level = Unit {0}
 abbrev decreases-loop : tie.decreases-loop
 decreases-loop recording level₀ level = 11 - level
 
-pub run-lengths-spec : {M : Type 1} → statement M
-run-lengths-spec =
+pub run_lengths_spec : {M : Type 1} → statement M
+run_lengths_spec =
     tie.close
     (tie.spec
     invariant-loop

@@ -10,8 +10,8 @@ invariant-loop month party length k₀ k-end k = Unit {0}
 abbrev decreases-loop : tie.decreases-loop
 decreases-loop month party length k₀ k-end k = k-end - k
 
-pub write-account-spec : {M : Type 1} → statement M
-write-account-spec =
+pub write_account_spec : {M : Type 1} → statement M
+write_account_spec =
     tie.close
     (tie.spec
     invariant-loop

@@ -3,17 +3,17 @@ use mathlib.Core.Path.{subst}
 use mir.Facts.{to_z-of_z}
 use borrow.Author.Rules.{rules, sfits_of}
 use Rattle.months.specs.Promises.{SumsPromise}
-use Rattle.months.proofs.Held.{Small, sums-small}
+use Rattle.months.proofs.Held.{Small, sums_small}
 use Rattle.months_test.proofs.write_k.Statement.{statement}
 use Rattle.months_test.proofs.write_k.Tie as tie
 
 small : (c : tie.After-sums) → Small c.sums.given.0.0
 small c =
     let told = c.before.before in
-    sums-small told.before.before.requires (subst (SumsPromise _ _ _) c.sums.given.1 told.sums_at.ensures)
+    sums_small told.before.before.requires (subst (SumsPromise _ _ _) c.sums.given.1 told.sums_at.ensures)
 
-pub write-k-spec : {M : Type 1} → statement M
-write-k-spec =
+pub write_k_spec : {M : Type 1} → statement M
+write_k_spec =
     tie.close
     (tie.spec
     (λ c κs. search rules)  -- write-count-requires

@@ -5,20 +5,20 @@ use native.Mathlib.Omega.{arith}
 use lib.IntN.{nat_abs}
 use mir.Facts.{to_z-of_z}
 use borrow.Author.Rules.{rules, sfits_of}
-use Rattle.months.specs.Accounts.{mostBlocks}
+use Rattle.months.specs.Accounts.{most_blocks}
 use Rattle.months.specs.Promises.{NumberPromise}
 use Rattle.months.proofs.Held.{number_small}
 use Rattle.months_test.proofs.write_party.Statement.{statement}
 use Rattle.months_test.proofs.write_party.Tie as tie
 
-small : (c : tie.After-blocks2) → nat_abs c.blocks2.given.0.0 ≤ mostBlocks
+small : (c : tie.After-blocks2) → nat_abs c.blocks2.given.0.0 ≤ most_blocks
 small c =
     let told = c.before.before in
     let start = told.before.before.before.before in
     number_small start.requires (subst (NumberPromise _ _) c.blocks2.given.1 told.block-number.ensures)
 
-pub write-party-spec : {M : Type 1} → statement M
-write-party-spec =
+pub write_party_spec : {M : Type 1} → statement M
+write_party_spec =
     tie.close
     (tie.spec
     (λ c. search rules)  -- slice-aggregate-write-all

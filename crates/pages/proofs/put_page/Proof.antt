@@ -3,7 +3,7 @@ use Prim.Native.Nat.{◌-◌, ◌≤◌}
 use native.Mathlib.Omega.{arith}
 use borrow.Author.Rules.{rules}
 use Rattle.words.specs.Words.{word}
-use Rattle.pages.proofs.Lines.{LinesPut, no_lines, line-ready, line-more, page-put, page-bytes}
+use Rattle.pages.proofs.Lines.{LinesPut, no_lines, line_ready, line_more, page_put, page_bytes}
 use Rattle.pages.proofs.put_page.Statement.{statement}
 use Rattle.pages.proofs.put_page.Tie as tie
 
@@ -13,14 +13,14 @@ invariant-loop cosine sine yields page₀ next₀ k₀ page next k = (k ≤ yiel
 abbrev decreases-loop : tie.decreases-loop
 decreases-loop cosine sine yields page₀ next₀ k₀ page next k = yields - k
 
-loop-again : tie.Need-loop-preserved invariant-loop decreases-loop
-loop-again c =
+loop_again : tie.Need-loop-preserved invariant-loop decreases-loop
+loop_again c =
     let l = c.before.before in
     let head = l.before.before.before.before.before in
-    (search rules, line-more _ _ _ head.loop.invariant.1 l.put-line.ensures (omega arith) (search rules) (search rules))
+    (search rules, line_more _ _ _ head.loop.invariant.1 l.put-line.ensures (omega arith) (search rules) (search rules))
 
-pub put-page-spec : {M : Type 1} → statement M
-put-page-spec =
+pub put_page_spec : {M : Type 1} → statement M
+put_page_spec =
     tie.close
     (tie.spec
     invariant-loop
@@ -32,9 +32,9 @@ put-page-spec =
     (λ c. search rules)  -- shared-slice-copy-out-c
     (λ c. search rules)  -- mul-s
     (λ c. search rules)  -- shared-slice-copy-out-s
-    (λ c κs. search (rules, line-ready))  -- put-line-requires
+    (λ c κs. search (rules, line_ready))  -- put-line-requires
     (λ c. search rules)  -- add-k
     (λ c. search rules)  -- loop-less
-    loop-again
+    loop_again
     (λ c. search rules)  -- same-length
-    (λ c. (search (rules, page-put), search (rules, page-bytes))))  -- returns
+    (λ c. (search (rules, page_put), search (rules, page_bytes))))  -- returns

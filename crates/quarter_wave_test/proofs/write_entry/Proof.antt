@@ -5,18 +5,18 @@ use Rattle.whole.proofs.Words.{not_negative}
 use Rattle.quarter_wave_test.proofs.write_entry.Statement.{statement}
 use Rattle.quarter_wave_test.proofs.write_entry.Tie as tie
 
-cast-print-decimal : tie.Need-overflow-cast-print-decimal
-cast-print-decimal c =
+cast_print_decimal : tie.Need-overflow-cast-print-decimal
+cast_print_decimal c =
     let f = c.before.ranges.value in
     rw (to_z-of_z f) (not_negative c.before.args.value (rw (to_z-of_z f) at c.if1.false), Fits-nat_abs tt f)
 
-pub write-entry-spec : {M : Type 1} → statement M
-write-entry-spec =
+pub write_entry_spec : {M : Type 1} → statement M
+write_entry_spec =
     tie.close
     (tie.spec
     (λ c. search rules)  -- slice-aggregate-write-all
     (λ c κs. search rules)  -- write-all-requires
-    cast-print-decimal
+    cast_print_decimal
     (λ c κs. search rules)  -- print-decimal-requires
     (λ c. search rules)  -- slice-aggregate-write-all-2
     (λ c κs. search rules)  -- write-all-requires-2

@@ -2,9 +2,9 @@
 use native.Mathlib.Omega.{arith}
 use borrow.Author.Rules.{rules}
 use Rattle.words.proofs.Writing.{front}
-use Rattle.lengths.proofs.ElevenLengths.{length-le}
+use Rattle.lengths.proofs.ElevenLengths.{length_le}
 use Rattle.report.proofs.LineRuns.{lines_same}
-use Rattle.report.proofs.Printing.{pair-done, few-blocks}
+use Rattle.report.proofs.Printing.{pair_done, few_blocks}
 use Rattle.report.proofs.put_block.Statement.{statement}
 use Rattle.report.proofs.put_block.Tie as tie
 
@@ -20,11 +20,11 @@ put-lines-requires c κs =
     let p = c.before.before.before.before.before.before in
     let s = start p in
     let k = s.pre.0 in
-    let done = pair-done s.args.block p.pair.result k (allowed p).pair-products.ensures p.pair.ensures in (
-      omega (arith, few-blocks s.args.block s.args.n _ k.length-ok k.most),
-      length-le s.args.n k.length-ok,
-      omega (arith, done.realWords.len, k.realWords),
-      omega (arith, done.imaginaryWords.len, k.imaginaryWords),
+    let done = pair_done s.args.block p.pair.result k (allowed p).pair-products.ensures p.pair.ensures in (
+      omega (arith, few_blocks s.args.block s.args.n _ k.length_ok k.most),
+      length_le s.args.n k.length_ok,
+      omega (arith, done.real_words.len, k.real_words),
+      omega (arith, done.imaginary_words.len, k.imaginary_words),
       s.pre.1,
     )
 
@@ -33,16 +33,16 @@ returns c =
     let l = c.before.before in
     let p = l.before.before.before.before.before.before.before in
     let s = start p in
-    let done = pair-done s.args.block p.pair.result s.pre.0 (allowed p).pair-products.ensures p.pair.ensures in
+    let done = pair_done s.args.block p.pair.result s.pre.0 (allowed p).pair-products.ensures p.pair.ensures in
     let r = l.put-lines.ensures in
     record {
-      put = rw (lines_same s.args.block _ _ _ _ s.args.n (front done.realWords) (front done.imaginaryWords)) at r.0;
+      put = rw (lines_same s.args.block _ _ _ _ s.args.n (front done.real_words) (front done.imaginary_words)) at r.0;
       fits = r.1;
-      kept = record { real = done.realWords.len; imaginary = done.imaginaryWords.len; scratch = done.spends.scratchCleared.len };
+      kept = record { real = done.real_words.len; imaginary = done.imaginary_words.len; scratch = done.spends.scratch_cleared.len };
     }
 
-pub put-block-spec : {M : Type 1} → statement M
-put-block-spec =
+pub put_block_spec : {M : Type 1} → statement M
+put_block_spec =
     tie.close
     (tie.spec
     (λ c κs. search rules)  -- pair-products-requires

@@ -1,14 +1,14 @@
 -- `report::put_output` meets its contract: a refusal's line, or the lines of the file that was read. Assumes nothing.
 use borrow.Author.Rules.{rules}
-use Rattle.report.proofs.Outputs.{refusal-put, spectra-room, spectra-ready, spectra-put}
+use Rattle.report.proofs.Outputs.{refusal_put, spectra_room, spectra_ready, spectra_put}
 use Rattle.report.proofs.put_output.Statement.{statement}
 use Rattle.report.proofs.put_output.Tie as tie
 
 abbrev start : tie.After-read → tie.Start
 start r = r.before.before.before.before.before
 
-pub put-output-spec : {M : Type 1} → statement M
-put-output-spec =
+pub put_output_spec : {M : Type 1} → statement M
+put_output_spec =
     tie.close
     (tie.spec
     (λ c κs. search rules)  -- read-requires
@@ -16,7 +16,7 @@ put-output-spec =
     (λ c κs. search rules)  -- number-of-requires
     (λ c κs. search rules)  -- put-refusal-requires
     (λ c. search rules)  -- enum-known-answer-2
-    (λ c κs. (search (rules, spectra-ready), search (rules, spectra-room)))  -- put-spectra-requires
+    (λ c κs. (search (rules, spectra_ready), search (rules, spectra_room)))  -- put-spectra-requires
     (λ c. search rules)  -- same-length
     (λ c. search rules)  -- same-length-2
     (λ c. search rules)  -- same-length-3
@@ -25,7 +25,7 @@ put-output-spec =
     let w = n.before.before in
     let r = w.before.before.before.before in
     let pre = (start r).requires in
-    refusal-put _ _ _ _ _ _ r.read.ensures pre.0 pre.1 w.answer.given.1 n.number_of_lem.ensures
+    refusal_put _ _ _ _ _ _ r.read.ensures pre.0 pre.1 w.answer.given.1 n.number_of_lem.ensures
     p.put-refusal.ensures)  -- returns
     (λ c. search rules)  -- same-length-4
     (λ c. search rules)  -- same-length-5
@@ -37,4 +37,4 @@ put-output-spec =
     let w = p.before.before.before.before.before.before.before.before in
     let r = w.before.before.before.before in
     let pre = (start r).requires in
-    spectra-put _ _ _ _ _ _ r.read.ensures pre.0 pre.1 _ w.answer2.given.1 p.put-spectra.ensures))  -- returns-2
+    spectra_put _ _ _ _ _ _ r.read.ensures pre.0 pre.1 _ w.answer2.given.1 p.put-spectra.ensures))  -- returns-2

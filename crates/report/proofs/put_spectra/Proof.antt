@@ -3,10 +3,10 @@
 use Prim.Native.Nat.{◌-◌, ◌*◌, ◌≤◌}
 use borrow.Author.Rules.{rules}
 use Rattle.words.specs.Words.{word}
-use Rattle.spectra.specs.Promises.{pairBuffers}
+use Rattle.spectra.specs.Promises.{pair_buffers}
 use Rattle.report.specs.Output.{block_lines}
 use Rattle.report.specs.Puts.{PutFrom}
-use Rattle.report.proofs.Printing.{some-samples, no_blocks, one_more, next_fits, block-ready, block_room, spectra-put}
+use Rattle.report.proofs.Printing.{some_samples, no_blocks, one_more, next_fits, block_ready, block_room, spectra_put}
 use Rattle.report.proofs.put_spectra.Statement.{statement}
 use Rattle.report.proofs.put_spectra.Tie as tie
 
@@ -14,21 +14,21 @@ abbrev invariant-loop : tie.invariant-loop
 invariant-loop a b m n real₀ imaginary₀ scratch₀ page₀ count at₀ block₀ real imaginary scratch page at block =
     (block ≤ count)
     × PutFrom page₀ at₀ (block_lines n (word a) (word b) block) (34 * (block * n)) at page
-    (pairBuffers real₀ imaginary₀ scratch₀) (pairBuffers real imaginary scratch)
+    (pair_buffers real₀ imaginary₀ scratch₀) (pair_buffers real imaginary scratch)
 
 abbrev decreases-loop : tie.decreases-loop
 decreases-loop a b m n real₀ imaginary₀ scratch₀ page₀ count at₀ block₀ real imaginary scratch page at block = count - block
 
-pub put-spectra-spec : {M : Type 1} → statement M
-put-spectra-spec =
+pub put_spectra_spec : {M : Type 1} → statement M
+put_spectra_spec =
     tie.close
     (tie.spec
     invariant-loop
     decreases-loop
-    (λ c. search (rules, some-samples))  -- div-count
+    (λ c. search (rules, some_samples))  -- div-count
     (λ c κs. search rules)  -- put-heading-requires
     (λ c. search (rules, no_blocks))  -- loop-holds
-    (λ c κs. (search (rules, block-ready), search (rules, block_room)))  -- put-block-requires
+    (λ c κs. (search (rules, block_ready), search (rules, block_room)))  -- put-block-requires
     (λ c. search (rules, next_fits))  -- add-block
     (λ c. search rules)  -- loop-less
     (λ c. search (rules, one_more))  -- loop-again
@@ -36,4 +36,4 @@ put-spectra-spec =
     (λ c. search rules)  -- same-length-2
     (λ c. search rules)  -- same-length-3
     (λ c. search rules)  -- same-length-4
-    (λ c. search (rules, spectra-put)))  -- returns
+    (λ c. search (rules, spectra_put)))  -- returns

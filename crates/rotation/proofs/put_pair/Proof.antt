@@ -6,12 +6,12 @@ use borrow.Author.Rules.{rules}
 use lib.ListN.{length-set}
 use mir.Syntax.{w64}
 use mir.Val.{to_z, of_z}
-use Rattle.whole.proofs.Size.{within-size}
+use Rattle.whole.proofs.Size.{within_size}
 use Rattle.whole.proofs.Words.{held}
-use Rattle.words.proofs.Writing.{two-put}
+use Rattle.words.proofs.Writing.{two_put}
 use Rattle.circle.specs.Circle.{T}
-use Rattle.ffct.proofs.Sizes.{entry-within}
-use Rattle.rotation.specs.Rotation.{cosineAt, sineAt}
+use Rattle.ffct.proofs.Sizes.{entry_within}
+use Rattle.rotation.specs.Rotation.{cosine_at, sine_at}
 use Rattle.rotation.proofs.put_pair.Statement.{statement}
 use Rattle.rotation.proofs.put_pair.Tie as tie
 
@@ -20,10 +20,10 @@ module _ (c : tie.After-y) where
   abbrev start : tie.Start
   start = c.before.before.before.before
 
-  cosine : let a = start.args in to_z w64 (of_z w64 (cosineAt a.n a.w.now a.k)) ≡ cosineAt a.n a.w.now a.k
+  cosine : let a = start.args in to_z w64 (of_z w64 (cosine_at a.n a.w.now a.k)) ≡ cosine_at a.n a.w.now a.k
   cosine = (held c.before.x.given refl).is
 
-  sine : let a = start.args in to_z w64 (of_z w64 (sineAt a.n a.w.now a.k)) ≡ sineAt a.n a.w.now a.k
+  sine : let a = start.args in to_z w64 (of_z w64 (sine_at a.n a.w.now a.k)) ≡ sine_at a.n a.w.now a.k
   sine = (held c.y.given refl).is
 
   entry : to_z w64 (of_z w64 c.before.before.before.wave-at.result) ≡ T start.args.j
@@ -36,8 +36,8 @@ rotate-pair-requires : tie.Need-rotate-pair-requires
 rotate-pair-requires c κs =
     let p = (start c).requires in
     rw (cosine c, sine c, entry c, mirror c) (
-      (p.2.cosine-small, p.2.sine-small),
-      (within-size (entry-within _ (omega arith)), within-size (entry-within _ (omega arith))),
+      (p.2.cosine_small, p.2.sine_small),
+      (within_size (entry_within _ (omega arith)), within_size (entry_within _ (omega arith))),
     )
 
 returns : tie.Need-returns
@@ -47,14 +47,14 @@ returns c =
     let r = rw (cosine y, sine y, entry y, mirror y) at q.rotate-pair.ensures in
     let p = (start y).requires.2 in
     record {
-      both = two-put (omega (arith, p.some, p.below, p.fits)) (λ e. absurd (omega (arith, p.below)))
+      both = two_put (omega (arith, p.some, p.below, p.fits)) (λ e. absurd (omega (arith, p.below)))
           (held c.before.before.before.before.before.before.struct_told.given.0.1 r.low).is
           (held c.before.before.before.before.before.struct-told2.given.1.0.1 r.high).is;
       tallied = omega (arith, r, c.larger.ensures);
     }
 
-pub put-pair-spec : {M : Type 1} → statement M
-put-pair-spec =
+pub put_pair_spec : {M : Type 1} → statement M
+put_pair_spec =
     tie.close
     (tie.spec
     (λ c κs. search rules)  -- wave-at-requires

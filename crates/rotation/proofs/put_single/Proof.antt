@@ -5,9 +5,9 @@ use native.Mathlib.Omega.{arith}
 use borrow.Author.Rules.{rules}
 use lib.IntN.{◌*ℤ◌}
 use lib.ListN.{length-set}
-use Rattle.whole.specs.Round.{round, restSize}
+use Rattle.whole.specs.Round.{round, rest_size}
 use Rattle.whole.proofs.Words.{held}
-use Rattle.words.proofs.Writing.{two-put}
+use Rattle.words.proofs.Writing.{two_put}
 use Rattle.circle.specs.Circle.{T}
 use Rattle.rotation.proofs.put_single.Statement.{statement}
 use Rattle.rotation.proofs.put_single.Tie as tie
@@ -16,17 +16,17 @@ returns : tie.Need-returns
 returns c =
     let m = c.before.before.before.before in
     let p = m.before.before.before.requires.1 in
-    let cosine-is = ap (λ z. T 512 *ℤ z) (held m.before.cosine.given refl).is in
+    let cosine_is = ap (λ z. T 512 *ℤ z) (held m.before.cosine.given refl).is in
     record {
-      both = two-put (omega (arith, p.fits)) (λ e. absurd (omega (arith, p.some)))
+      both = two_put (omega (arith, p.fits)) (λ e. absurd (omega (arith, p.some)))
           (rw add-zero (held m.before.before.first.given refl).is)
           ((held c.before.before.before.struct_told.given.0.1 m.rotate-middle.ensures.middle).is
-          ∙ ap round cosine-is);
-      tallied = omega (arith, m.rotate-middle.ensures, ap restSize cosine-is, c.larger.ensures);
+          ∙ ap round cosine_is);
+      tallied = omega (arith, m.rotate-middle.ensures, ap rest_size cosine_is, c.larger.ensures);
     }
 
-pub put-single-spec : {M : Type 1} → statement M
-put-single-spec =
+pub put_single_spec : {M : Type 1} → statement M
+put_single_spec =
     tie.close
     (tie.spec
     (λ c. search rules)  -- mul-first

@@ -3,7 +3,7 @@ use mathlib.Core.Path.{refl}
 use Prim.Native.Nat.{◌-◌, ◌≤◌}
 use native.Mathlib.Omega.{arith}
 use borrow.Author.Rules.{rules}
-use Rattle.rotation.proofs.Rotating.{Run, none_made, place, pair-ready, pair-more, single-ready, all_made}
+use Rattle.rotation.proofs.Rotating.{Run, none_made, place, pair_ready, pair_more, single_ready, all_made}
 use Rattle.rotation.proofs.rotate.Statement.{statement}
 use Rattle.rotation.proofs.rotate.Tie as tie
 
@@ -17,26 +17,26 @@ put-pair-requires : tie.Need-put-pair-requires invariant-loop decreases-loop
 put-pair-requires c κs =
     let l = c.before.before in
     let s = l.before.requires in
-    (s.0, place s.1 _ (omega arith), pair-ready s.1 l.loop.invariant.1 (omega arith))
+    (s.0, place s.1 _ (omega arith), pair_ready s.1 l.loop.invariant.1 (omega arith))
 
-loop-again : tie.Need-loop-preserved invariant-loop decreases-loop
-loop-again c =
+loop_again : tie.Need-loop-preserved invariant-loop decreases-loop
+loop_again c =
     let l = c.before.before.before.before in
-    (omega arith, pair-more l.before.requires.1 l.loop.invariant.1 (omega arith) refl c.before.put-pair.ensures)
+    (omega arith, pair_more l.before.requires.1 l.loop.invariant.1 (omega arith) refl c.before.put-pair.ensures)
 
 put-single-requires : tie.Need-put-single-requires invariant-loop decreases-loop
 put-single-requires c κs =
     let l = c.before.before in
     let s = l.before.requires in
-    (s.0, single-ready s.1 l.loop.invariant.1 (omega arith))
+    (s.0, single_ready s.1 l.loop.invariant.1 (omega arith))
 
 returns : tie.Need-returns invariant-loop decreases-loop
 returns c =
     let l = c.before.before.before.before in
     all_made l.before.requires.1 l.loop.invariant.1 (omega arith) c.before.put-single.ensures
 
-pub rotate-spec : {M : Type 1} → statement M
-rotate-spec =
+pub rotate_spec : {M : Type 1} → statement M
+rotate_spec =
     tie.close
     (tie.spec
     invariant-loop
@@ -47,7 +47,7 @@ rotate-spec =
     put-pair-requires
     (λ c. search rules)  -- add-k
     (λ c. search rules)  -- loop-less
-    loop-again
+    loop_again
     put-single-requires
     (λ c. search rules)  -- same-length
     returns)

@@ -3,7 +3,7 @@ use mathlib.Core.Path.{◌≡◌, refl}
 use Prim.Native.Nat.{ℕ, ◌+◌, ◌-◌, ◌*◌, ◌/◌, ◌%◌, ◌≤◌, ◌<◌}
 use native.Mathlib.Omega.{arith}
 use borrow.Author.Rules.{rules}
-use Rattle.rotation.proofs.Rotating.{Run, none_made, place, pair-ready, pair-more, single-ready, all_made}
+use Rattle.rotation.proofs.Rotating.{Run, none_made, place, pair_ready, pair_more, single_ready, all_made}
 use Rattle.rotation.proofs.rotate_by_twos.Statement.{statement}
 use Rattle.rotation.proofs.rotate_by_twos.Tie as tie
 
@@ -34,14 +34,14 @@ module _ (c : tie.After-put-pair invariant-loop decreases-loop) where
   start = head.before
 
   one : let a = start.args in Run a.n a.w.now a.spent head.loop.k c.put-pair.new.1.0 c.put-pair.result
-  one = pair-more start.pre.1 head.loop.inv.1 (omega arith) head.loop.inv.0.2 c.put-pair.ensures
+  one = pair_more start.pre.1 head.loop.inv.1 (omega arith) head.loop.inv.0.2 c.put-pair.ensures
 
-  place-two : head.loop.j + 1024 / start.args.n ≡ 1024 / start.args.n * (head.loop.k + 1)
-  place-two = (next _ _ head.loop.inv.0.2).0
+  place_two : head.loop.j + 1024 / start.args.n ≡ 1024 / start.args.n * (head.loop.k + 1)
+  place_two = (next _ _ head.loop.inv.0.2).0
 
 -- the table's place where the next turn begins
-turn-place : (c : tie.After-put-pair invariant-loop decreases-loop) → (head c).loop.j + 2 * (1024 / (start c).args.n) ≤ 1024
-turn-place c =
+turn_place : (c : tie.After-put-pair invariant-loop decreases-loop) → (head c).loop.j + 2 * (1024 / (start c).args.n) ≤ 1024
+turn_place c =
     let l = (head c).loop in
     let s = (start c).requires in
     let more = follows _ _ s.2 l.inv.0.0 (omega arith) in
@@ -53,7 +53,7 @@ put-pair-requires c κs =
     let s = l.before.requires in (
       s.0,
       omega (arith, place s.1 l.loop.k (omega arith)),
-      pair-ready s.1 l.loop.invariant.1 (omega arith),
+      pair_ready s.1 l.loop.invariant.1 (omega arith),
     )
 
 put-pair-requires-2 : tie.Need-put-pair-requires-2 invariant-loop decreases-loop
@@ -61,17 +61,17 @@ put-pair-requires-2 c κs =
     let d = c.before.before in
     let s = (start d).requires in (
       s.0,
-      omega (arith, place-two d, place s.1 ((head d).loop.k + 1) (omega arith)),
-      pair-ready s.1 (one d) (omega arith),
+      omega (arith, place_two d, place s.1 ((head d).loop.k + 1) (omega arith)),
+      pair_ready s.1 (one d) (omega arith),
     )
 
-loop-again : tie.Need-loop-preserved invariant-loop decreases-loop
-loop-again c =
+loop_again : tie.Need-loop-preserved invariant-loop decreases-loop
+loop_again c =
     let d = c.before.before.before.before in
     let s = (start d).requires in
     let l = (head d).loop.invariant.0 in (
       omega (arith, follows _ _ s.2 l.0 (omega arith), next _ _ l.2),
-      pair-more s.1 (one d) (omega arith) (place-two d) c.before.put-pair2.ensures,
+      pair_more s.1 (one d) (omega arith) (place_two d) c.before.put-pair2.ensures,
     )
 
 -- the last pair
@@ -81,7 +81,7 @@ put-pair-requires-3 c κs =
     let s = l.before.requires in (
       s.0,
       omega (arith, place s.1 l.loop.k (omega arith)),
-      pair-ready s.1 l.loop.invariant.1 (omega arith),
+      pair_ready s.1 l.loop.invariant.1 (omega arith),
     )
 
 last : (c : tie.After-put-pair3 invariant-loop decreases-loop) →
@@ -90,13 +90,13 @@ last : (c : tie.After-put-pair3 invariant-loop decreases-loop) →
     Run a.n a.w.now a.spent l.loop.k c.put-pair3.new.1.0 c.put-pair3.result
 last c =
     let l = c.before.before.before in
-    pair-more l.before.requires.1 l.loop.invariant.1 (omega arith) l.loop.invariant.0.2 c.put-pair3.ensures
+    pair_more l.before.requires.1 l.loop.invariant.1 (omega arith) l.loop.invariant.0.2 c.put-pair3.ensures
 
 put-single-requires : tie.Need-put-single-requires invariant-loop decreases-loop
 put-single-requires c κs =
     let d = c.before.before in
     let s = d.before.before.before.before.requires in
-    (s.0, single-ready s.1 (last d) (omega arith))
+    (s.0, single_ready s.1 (last d) (omega arith))
 
 returns : tie.Need-returns invariant-loop decreases-loop
 returns c =
@@ -104,8 +104,8 @@ returns c =
     let s = d.before.before.before.before.requires.1 in
     all_made s (last d) (omega arith) c.before.put-single.ensures
 
-pub rotate-by-twos-spec : {M : Type 1} → statement M
-rotate-by-twos-spec =
+pub rotate_by_twos_spec : {M : Type 1} → statement M
+rotate_by_twos_spec =
     tie.close
     (tie.spec
     invariant-loop
@@ -114,14 +114,14 @@ rotate-by-twos-spec =
     (λ c. (omega (arith, c.requires.1.some, c.requires.2), none_made refl))  -- loop-holds
     (λ c. search rules)  -- add-loop
     put-pair-requires
-    (λ c. omega (arith, turn-place c.before.before))  -- add-put-pair
+    (λ c. omega (arith, turn_place c.before.before))  -- add-put-pair
     (λ c. search rules)  -- add-put-pair-2
     put-pair-requires-2
-    (λ c. omega (arith, turn-place c.before.before.before.before))  -- mul-j
-    (λ c. omega (arith, turn-place c.before.before.before.before))  -- add-j
+    (λ c. omega (arith, turn_place c.before.before.before.before))  -- mul-j
+    (λ c. omega (arith, turn_place c.before.before.before.before))  -- add-j
     (λ c. search rules)  -- add-k
     (λ c. search rules)  -- loop-less
-    loop-again
+    loop_again
     put-pair-requires-3
     put-single-requires
     (λ c. search rules)  -- same-length

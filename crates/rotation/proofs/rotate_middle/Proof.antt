@@ -8,22 +8,22 @@ use mir.Syntax.{w64}
 use mir.Val.{of_z}
 use borrow.Author.Rules.{rules}
 use Rattle.whole.specs.Round.{round, rest}
-use Rattle.whole.proofs.Rounding.{rest-size}
-use Rattle.whole.proofs.Size.{◌within◌, size-within, within-size, within-le, within-mul, within-fits}
+use Rattle.whole.proofs.Rounding.{rest_size_lem}
+use Rattle.whole.proofs.Size.{◌within◌, size_within, within_size, within_le, within_mul, within_fits}
 use Rattle.whole.proofs.Words.{Word, word, held}
 use Rattle.circle.specs.Circle.{T}
-use Rattle.ffct.proofs.Sizes.{entry-within}
+use Rattle.ffct.proofs.Sizes.{entry_within}
 use Rattle.whole.proofs.Operations.{Computes, computes}
 use Rattle.rotation.proofs.rotate_middle.Statement.{statement}
 use Rattle.rotation.proofs.rotate_middle.Tie as tie
 
 size : (c : tie.After-wave-at) → T 512 *ℤ c.before.args.cosine within 2 ^ 62
-size c = within-le (within-mul (entry-within 512 (lit≤ tt)) (size-within _ c.before.requires.1)) (lit≤ tt)
+size c = within_le (within_mul (entry_within 512 (lit≤ tt)) (size_within _ c.before.requires.1)) (lit≤ tt)
 
 product : (c : tie.After-wave-at) →
     let C = c.before.args.cosine in
     Computes ◌*ℤ◌ (of_z w64 c.wave-at.result) (of_z w64 C) (T 512) C
-product c = computes ◌*ℤ◌ (held c.wave-at.type-inv c.wave-at.ensures) (word c.before.ranges.cosine) (within-fits (size c) (lit< tt))
+product c = computes ◌*ℤ◌ (held c.wave-at.type-inv c.wave-at.ensures) (word c.before.ranges.cosine) (within_fits (size c) (lit< tt))
 
 -- the rest that is read
 middle_rest : (c : tie.After-struct-told) →
@@ -36,16 +36,16 @@ returns c =
     record {
       middle = (held c.struct-told2.given.0.1 one.before.round.ensures.0).is ∙ ap round (product one.before.before).made;
       one_product = search rules;
-      rest-size = c.before.type_size.ensures ∙ ap nat_abs (middle_rest one).is;
+      rest_size_lem = c.before.type_size.ensures ∙ ap nat_abs (middle_rest one).is;
     }
 
-pub rotate-middle-spec : {M : Type 1} → statement M
-rotate-middle-spec =
+pub rotate_middle_spec : {M : Type 1} → statement M
+rotate_middle_spec =
     tie.close
     (tie.spec
     (λ c κs. search rules)  -- wave-at-requires
     (λ c. (product c).asked)  -- mul-product
     (λ c. search rules)  -- add-products
-    (λ c κs. rw (product c).made (within-size (size c)))  -- round-requires
-    (λ c κs. rw (middle_rest c).is (le_trans (rest-size _) (lit≤ tt)))  -- size-of-requires
+    (λ c κs. rw (product c).made (within_size (size c)))  -- round-requires
+    (λ c κs. rw (middle_rest c).is (le_trans (rest_size_lem _) (lit≤ tt)))  -- size-of-requires
     returns)

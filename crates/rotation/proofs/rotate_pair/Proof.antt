@@ -9,11 +9,11 @@ use mir.Syntax.{w64}
 use mir.Val.{to_z, of_z}
 use borrow.Author.Rules.{rules}
 use Rattle.whole.specs.Round.{round, rest}
-use Rattle.whole.proofs.Rounding.{rest-size}
-use Rattle.whole.proofs.Size.{size-within, within-size, within-add, within-sub, within-fits}
+use Rattle.whole.proofs.Rounding.{rest_size_lem}
+use Rattle.whole.proofs.Size.{size_within, within_size, within_add, within_sub, within_fits}
 use Rattle.whole.proofs.Words.{Word, word, made, held, done}
 use Rattle.whole.proofs.Operations.{Computes, computes}
-use Rattle.ffct.proofs.Sizes.{RotationFits, rotation-fits, first-form, second-form}
+use Rattle.ffct.proofs.Sizes.{RotationFits, rotation_fits, first_form, second_form}
 use Rattle.rotation.proofs.rotate_pair.Statement.{statement}
 use Rattle.rotation.proofs.rotate_pair.Tie as tie
 
@@ -21,7 +21,7 @@ module _ (a : tie.Start) where
   fits : let v = a.args in RotationFits v.cosine v.sine v.c v.s
   fits =
       let p = a.requires in
-      rotation-fits (size-within _ p.0.0) (size-within _ p.0.1) (size-within _ p.1.0) (size-within _ p.1.1)
+      rotation_fits (size_within _ p.0.0) (size_within _ p.0.1) (size_within _ p.1.0) (size_within _ p.1.1)
 
   -- the bits of the three products, and the products
   abbrev bits1 : ℕ
@@ -35,40 +35,40 @@ module _ (a : tie.Start) where
 
   m1 : let v = a.args in Word w64 bits1 ((v.cosine +ℤ v.sine) *ℤ v.c)
   m1 = made ◌*ℤ◌ (made ◌+ℤ◌ (word a.fits.cosine) (word a.fits.sine) fits.sum) (word a.fits.c)
-      (within-fits fits.m1 (lit< tt))
+      (within_fits fits.m1 (lit< tt))
 
   m2 : let v = a.args in Word w64 bits2 (v.sine *ℤ (v.c +ℤ v.s))
   m2 = made ◌*ℤ◌ (word a.fits.sine) (made ◌+ℤ◌ (word a.fits.c) (word a.fits.s) fits.entries)
-      (within-fits fits.m2 (lit< tt))
+      (within_fits fits.m2 (lit< tt))
 
   m3 : let v = a.args in Word w64 bits3 (v.cosine *ℤ (v.s -ℤ v.c))
   m3 = made ◌*ℤ◌ (word a.fits.cosine) (made ◌-ℤ◌ (word a.fits.s) (word a.fits.c) fits.difference)
-      (within-fits fits.m3 (lit< tt))
+      (within_fits fits.m3 (lit< tt))
 
   -- what is rounded
   first : let v = a.args in Computes ◌-ℤ◌ bits1 bits2 ((v.cosine +ℤ v.sine) *ℤ v.c) (v.sine *ℤ (v.c +ℤ v.s))
-  first = computes ◌-ℤ◌ m1 m2 (within-fits (within-sub fits.m1 fits.m2) (lit< tt))
+  first = computes ◌-ℤ◌ m1 m2 (within_fits (within_sub fits.m1 fits.m2) (lit< tt))
 
   second : let v = a.args in Computes ◌+ℤ◌ bits1 bits3 ((v.cosine +ℤ v.sine) *ℤ v.c) (v.cosine *ℤ (v.s -ℤ v.c))
-  second = computes ◌+ℤ◌ m1 m3 (within-fits (within-add fits.m1 fits.m3) (lit< tt))
+  second = computes ◌+ℤ◌ m1 m3 (within_fits (within_add fits.m1 fits.m3) (lit< tt))
 
   -- which are the expressions of (19)
-  first-is : let v = a.args in to_z w64 (done ◌-ℤ◌ bits1 bits2) ≡ v.c *ℤ v.cosine -ℤ v.s *ℤ v.sine
-  first-is = let v = a.args in first.made ∙ first-form v.cosine v.sine v.c v.s
+  first_is : let v = a.args in to_z w64 (done ◌-ℤ◌ bits1 bits2) ≡ v.c *ℤ v.cosine -ℤ v.s *ℤ v.sine
+  first_is = let v = a.args in first.made ∙ first_form v.cosine v.sine v.c v.s
 
   second_is : let v = a.args in to_z w64 (done ◌+ℤ◌ bits1 bits3) ≡ v.s *ℤ v.cosine +ℤ v.c *ℤ v.sine
-  second_is = let v = a.args in second.made ∙ second-form v.cosine v.sine v.c v.s
+  second_is = let v = a.args in second.made ∙ second_form v.cosine v.sine v.c v.s
 
 -- their rests
-low-rest : (c : tie.After-struct-told) →
+low_rest : (c : tie.After-struct-told) →
     let v = c.before.before.before.args in
     Word w64 (of_z w64 c.before.before.round.result.rest) (rest (v.c *ℤ v.cosine -ℤ v.s *ℤ v.sine))
-low-rest c = held c.struct_told.given.1.0.1 (c.before.before.round.ensures.1 ∙ ap rest (first-is c.before.before.before))
+low_rest c = held c.struct_told.given.1.0.1 (c.before.before.round.ensures.1 ∙ ap rest (first_is c.before.before.before))
 
-high-rest : (c : tie.After-struct-told2) →
+high_rest : (c : tie.After-struct-told2) →
     let v = c.before.before.before.before.before.args in
     Word w64 (of_z w64 c.before.before.before.round2.result.rest) (rest (v.s *ℤ v.cosine +ℤ v.c *ℤ v.sine))
-high-rest c =
+high_rest c =
     let two = c.before.before.before in
     held c.struct-told2.given.1.0.1 (two.round2.ensures.1 ∙ ap rest (second_is two.before.before))
 
@@ -79,17 +79,17 @@ returns c =
     let one = two.before.before in
     let a = one.before.before.before in
     record {
-      low = (held c.before.struct-told3.given.0.1 one.before.before.round.ensures.0).is ∙ ap round (first-is a);
+      low = (held c.before.struct-told3.given.0.1 one.before.before.round.ensures.0).is ∙ ap round (first_is a);
       high = (held c.struct-told4.given.0.1 one.before.round2.ensures.0).is ∙ ap round (second_is a);
-      three-products = refl;
-      three-sums = refl;
-      larger-rest = l.larger.ensures ∙ ap₂ max
-          (two.before.type_size.ensures ∙ ap nat_abs (low-rest one).is)
-          (l.before.size-of2.ensures ∙ ap nat_abs (high-rest two).is);
+      three_products = refl;
+      three_sums = refl;
+      larger_rest = l.larger.ensures ∙ ap₂ max
+          (two.before.type_size.ensures ∙ ap nat_abs (low_rest one).is)
+          (l.before.size-of2.ensures ∙ ap nat_abs (high_rest two).is);
     }
 
-pub rotate-pair-spec : {M : Type 1} → statement M
-rotate-pair-spec =
+pub rotate_pair_spec : {M : Type 1} → statement M
+rotate_pair_spec =
     tie.close
     (tie.spec
     (λ c. search (rules, fits c))  -- add-s1
@@ -103,12 +103,12 @@ rotate-pair-spec =
     (λ c. search (rules, fits c, m3 c))  -- mul-m3
     (λ c. search rules)  -- add-products-3
     (λ c. (first c).asked)  -- sub-round
-    (λ c κs. rw (first c).made (within-size (within-sub (fits c).m1 (fits c).m2)))  -- round-requires
+    (λ c κs. rw (first c).made (within_size (within_sub (fits c).m1 (fits c).m2)))  -- round-requires
     (λ c. search rules)  -- add-sums-2
     (λ c. (second c.before).asked)  -- add-round
-    (λ c κs. rw (second c.before).made (within-size (within-add (fits c.before).m1 (fits c.before).m3)))  -- round-requires-2
+    (λ c κs. rw (second c.before).made (within_size (within_add (fits c.before).m1 (fits c.before).m3)))  -- round-requires-2
     (λ c. search rules)  -- add-sums-3
-    (λ c κs. rw (low-rest c).is (le_trans (rest-size _) (lit≤ tt)))  -- size-of-requires
-    (λ c κs. rw (high-rest c).is (le_trans (rest-size _) (lit≤ tt)))  -- size-of-requires-2
+    (λ c κs. rw (low_rest c).is (le_trans (rest_size_lem _) (lit≤ tt)))  -- size-of-requires
+    (λ c κs. rw (high_rest c).is (le_trans (rest_size_lem _) (lit≤ tt)))  -- size-of-requires-2
     (λ c κs. search rules)  -- larger-requires
     returns)

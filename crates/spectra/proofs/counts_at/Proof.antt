@@ -2,13 +2,13 @@
 use mathlib.Core.Path.{refl, sym, ◌∙◌}
 use mathlib.Core.Bool.{false≢true}
 use borrow.Author.Rules.{rules}
-use Rattle.lengths.specs.Block.{isLength}
+use Rattle.lengths.specs.Block.{is_length}
 use Rattle.spectra.proofs.counts_at.Statement.{statement}
 use Rattle.spectra.proofs.counts_at.Tie as tie
 
-pub counts-at-spec : {M : Type 1} → statement M
-unfolding isLength
-counts-at-spec =
+pub counts_at_spec : {M : Type 1} → statement M
+unfolding is_length
+counts_at_spec =
     tie.close
     (tie.spec
     (λ c κs. search rules)  -- is-length-requires

@@ -2,12 +2,12 @@
 use mathlib.Core.Path.{refl}
 use native.Mathlib.Omega.{arith}
 use borrow.Author.Rules.{rules}
-use Rattle.lengths.proofs.ElevenLengths.{length-le}
+use Rattle.lengths.proofs.ElevenLengths.{length_le}
 use Rattle.refusals.specs.Refusals.{accepted}
 use Rattle.refusals.specs.Calls.{Call}
-use Rattle.refusals.proofs.Calls.{Passes, passes, refused-by, passed-by}
-use Rattle.spectra.specs.Promises.{Buffers, buffers, spectrumCall}
-use Rattle.spectra.proofs.Accepted.{taken, spectrum-ready, spectrum-done}
+use Rattle.refusals.proofs.Calls.{Passes, passes, refused_by, passed_by}
+use Rattle.spectra.specs.Promises.{Buffers, buffers, spectrum_call}
+use Rattle.spectra.proofs.Accepted.{taken, spectrum_ready, spectrum_done}
 use Rattle.spectra.proofs.spectrum.Statement.{statement}
 use Rattle.spectra.proofs.spectrum.Tie as tie
 
@@ -17,13 +17,13 @@ lent c = let a = c.before.before.before.before.args in buffers a.cosine.now a.si
 abbrev call : tie.After-test-spectrum → Call
 call c =
     let a = c.before.before.before.before.args in
-    spectrumCall a.recording.now a.start a.length a.allowance (lent c)
+    spectrum_call a.recording.now a.start a.length a.allowance (lent c)
 
 passed : (c : tie.After-enum-told) → Passes (call c.before.before)
-passed c = passes _ (passed-by c.before.before.test-spectrum.ensures accepted c.enum_told.given.1)
+passed c = passes _ (passed_by c.before.before.test-spectrum.ensures accepted c.enum_told.given.1)
 
-pub spectrum-spec : {M : Type 1} → statement M
-spectrum-spec =
+pub spectrum_spec : {M : Type 1} → statement M
+spectrum_spec =
     tie.close
     (tie.spec
     (λ c κs. search rules)  -- test-spectrum-requires
@@ -32,10 +32,10 @@ spectrum-spec =
     (λ c. search rules)  -- same-length-2
     (λ c. search rules)  -- same-length-3
     (λ c. let t = c.before.before.before in
-    refused-by t.test-spectrum.ensures accepted refl c.before.tested.given.1)  -- returns
+    refused_by t.test-spectrum.ensures accepted refl c.before.tested.given.1)  -- returns
     (λ c. search rules)  -- enum_told
     (λ c. record { fits = omega (arith, (passed c).recordings.0) })  -- add-end
-    (λ c κs. length-le _ (passed c).length-ok)  -- scratch-words-requires
+    (λ c κs. length_le _ (passed c).length_ok)  -- scratch-words-requires
     (λ c. record { fits = omega (arith, (passed c.before).recordings.0) })  -- mul-spectrum-of
     (λ c. search rules)  -- sub-spectrum-of
     (λ c. search rules)  -- part-spectrum-of-start
@@ -43,8 +43,8 @@ spectrum-spec =
     (λ c. omega (arith, (passed c.before.before.before.before).scratch))  -- slice-relend-prefix-spectrum-of
     (λ c. taken _ _ (omega (arith, (passed c.before.before.before.before.before).scratch)))  -- slice-aggregate-spectrum-of
     (λ c κs. let m = c.before.before.before.before in
-    spectrum-ready m.scratch-words.ensures _ (lent m.before.before.before) (passed m.before))  -- spectrum-of-requires
+    spectrum_ready m.scratch-words.ensures _ (lent m.before.before.before) (passed m.before))  -- spectrum-of-requires
     (λ c. search rules)  -- same-length-4
     (λ c. search rules)  -- same-length-5
     (λ c. search rules)  -- same-length-6
-    (λ c. search (rules, spectrum-done, passed)))  -- returns-2
+    (λ c. search (rules, spectrum_done, passed)))  -- returns-2

@@ -5,43 +5,43 @@ use native.Mathlib.Omega.{arith}
 use lib.ListN.{length}
 use borrow.Author.Rules.{rules}
 use Rattle.words.specs.Words.{word}
-use Rattle.refusals.specs.Refusals.{Verdict, accepted, firstOutOr}
+use Rattle.refusals.specs.Refusals.{Verdict, accepted, first_out_or}
 use Rattle.refusals.specs.declared.refusal.Outcome.{Outcome}
 use Rattle.refusals.specs.Calls.{Call, tests}
 use Rattle.refusals.specs.Answers.{behind}
-use Rattle.refusals.proofs.Conditions.{two-below, found_none, found_at}
-use Rattle.refusals.proofs.Calls.{passes, by_first, passed-by}
-use Rattle.spectra.specs.Promises.{pairBuffers, pairCall}
+use Rattle.refusals.proofs.Conditions.{two_below, found_none, found_at}
+use Rattle.refusals.proofs.Calls.{passes, by_first, passed_by}
+use Rattle.spectra.specs.Promises.{pair_buffers, pair_call}
 use Rattle.spectra.proofs.test_pair.Statement.{statement}
 use Rattle.spectra.proofs.test_pair.Tie as tie
 
 abbrev call : tie.After-test → Call
 call c =
     let a = c.before.before.before.before.args in
-    pairCall a.a.now a.b.now a.start a.length a.allowance
-    (pairBuffers a.real.now a.imaginary.now a.scratch.now)
+    pair_call a.a.now a.b.now a.start a.length a.allowance
+    (pair_buffers a.real.now a.imaginary.now a.scratch.now)
 
 told : (c : tie.After-test) {tested : Outcome} → c.test.result ≡ tested → (rest : Verdict)
     → let a = c.before.before.before.before.args in
-    tests (call c) rest ≡ behind tested (firstOutOr (word a.b.now) a.start a.length rest)
+    tests (call c) rest ≡ behind tested (first_out_or (word a.b.now) a.start a.length rest)
 told c e rest =
     let a = c.before.before.before.before.args in
-    let shortest = two-below _ _ c.before.before.shorter.ensures in
-    let room = two-below _ _ c.before.shorter2.ensures in
-    by_first (call c) refl _ _ _ shortest room (λ ok. ((c.before.before.before.counts-at.ensures ok).ofPair _ _).0)
+    let shortest = two_below _ _ c.before.before.shorter.ensures in
+    let room = two_below _ _ c.before.shorter2.ensures in
+    by_first (call c) refl _ _ _ shortest room (λ ok. ((c.before.before.before.counts-at.ensures ok).of_pair _ _).0)
     c.test.ensures rest
-    ∙ ap (λ t. behind t (firstOutOr (word a.b.now) a.start a.length rest)) e
+    ∙ ap (λ t. behind t (first_out_or (word a.b.now) a.start a.length rest)) e
 
 -- where a passes them, b's block lies in its recording
 inside : (c : tie.After-enum-told) → let a = c.before.before.before.before.before.before.args in
     a.start + a.length ≤ length a.b.now
 inside c =
     let t = c.before.before in
-    let passed = passes _ (passed-by t.test.ensures accepted c.enum_told.given.1) in
+    let passed = passes _ (passed_by t.test.ensures accepted c.enum_told.given.1) in
     omega (arith, passed.recordings.0, t.before.before.shorter.ensures)
 
-pub test-pair-spec : {M : Type 1} → statement M
-test-pair-spec =
+pub test_pair_spec : {M : Type 1} → statement M
+test_pair_spec =
     tie.close
     (tie.spec
     (λ c κs. search rules)  -- counts-at-requires

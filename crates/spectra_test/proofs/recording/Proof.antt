@@ -12,8 +12,8 @@ invariant-loop kind seed samples₀ state₀ i₀ samples state i = length sampl
 abbrev decreases-loop : tie.decreases-loop
 decreases-loop kind seed samples₀ state₀ i₀ samples state i = 1040 - i
 
-pub recording-spec : {M : Type 1} → statement M
-recording-spec =
+pub recording_spec : {M : Type 1} → statement M
+recording_spec =
     tie.close
     (tie.spec
     invariant-loop

@@ -10,8 +10,8 @@ invariant-loop part turns n₀ n = Unit {0}
 abbrev decreases-loop : tie.decreases-loop
 decreases-loop part turns n₀ n = turns - n
 
-pub run-part-spec : {M : Type 1} → statement M
-run-part-spec =
+pub run_part_spec : {M : Type 1} → statement M
+run_part_spec =
     tie.close
     (tie.spec
     invariant-loop

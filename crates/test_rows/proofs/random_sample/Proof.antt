@@ -6,8 +6,8 @@ use borrow.Author.Tests.{lt-ltb, le-ltb}
 use Rattle.test_rows.proofs.random_sample.Statement.{statement}
 use Rattle.test_rows.proofs.random_sample.Tie as tie
 
-pub random-sample-spec : {M : Type 1} → statement M
-random-sample-spec =
+pub random_sample_spec : {M : Type 1} → statement M
+random_sample_spec =
     tie.close
     (tie.spec
     (λ c. search rules)  -- sub-result

@@ -10,8 +10,8 @@ invariant-loop words digest₀ i₀ i-end digest i = Unit {0}
 abbrev decreases-loop : tie.decreases-loop
 decreases-loop words digest₀ i₀ i-end digest i = i-end - i
 
-pub write-words-spec : {M : Type 1} → statement M
-write-words-spec =
+pub write_words_spec : {M : Type 1} → statement M
+write_words_spec =
     tie.close
     (tie.spec
     invariant-loop

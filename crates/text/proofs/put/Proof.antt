@@ -8,14 +8,14 @@ use lib.ListN.{length, take, set, get_or}
 use lib.Seq.{take-suc, take_all}
 use borrow.Author.Rules.{rules}
 use Rattle.words.specs.Put.{Put}
-use Rattle.words.proofs.Putting.{put-none, put_byte, ◌then◌}
+use Rattle.words.proofs.Putting.{put_none, put_byte, ◌then◌}
 use Rattle.text.proofs.put.Statement.{statement}
 use Rattle.text.proofs.put.Tie as tie
 
-put-more :
+put_more :
     (text : List ℕ) {page₀ page : List ℕ} (at i : ℕ) → i < length text → at + i < length page → Put page₀ at (take i text) (at + i) page
     → Put page₀ at (take (i + 1) text) (at + (i + 1)) (set page (at + i) (get_or text i 0))
-put-more text {page = page} at i h room p = rw (← add_assoc at i 1, add-one i, take-suc text i 0) (p then put_byte page (at + i) _ room)
+put_more text {page = page} at i h room p = rw (← add_assoc at i 1, add-one i, take-suc text i 0) (p then put_byte page (at + i) _ room)
 
 abbrev invariant-loop : tie.invariant-loop
 invariant-loop text page₀ at i₀ page i = (i ≤ length text) × Put page₀ at (take i text) (at + i) page
@@ -29,13 +29,13 @@ put_spec =
     (tie.spec
     invariant-loop
     decreases-loop
-    (λ c. (search rules, simp add-zero (put-none (omega arith))))  -- loop-holds
+    (λ c. (search rules, simp add-zero (put_none (omega arith))))  -- loop-holds
     (λ c. search rules)  -- shared-slice-read-page
     (λ c. search rules)  -- add-page
     (λ c. search rules)  -- slice-write-page
     (λ c. search rules)  -- add-i
     (λ c. search rules)  -- loop-less
-    (λ c. (search rules, put-more _ _ _ (omega arith) (omega arith) c.before.before.loop.invariant.1))  -- loop-again
+    (λ c. (search rules, put_more _ _ _ (omega arith) (omega arith) c.before.before.loop.invariant.1))  -- loop-again
     (λ c. search rules)  -- add-result
     (λ c. search rules)  -- same-length
     (λ c. rw (take_all c.before.loop.i c.before.before.args.text.now (omega arith)) at c.before.loop.invariant.1))  -- returns

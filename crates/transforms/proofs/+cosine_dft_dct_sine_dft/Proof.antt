@@ -3,9 +3,9 @@
 use Prim.Native.Nat.{ℕ, ◌+◌, ◌*◌, ◌≤◌, ◌<◌}
 use native.Mathlib.Omega.{arith}
 use borrow.Author.Rules.{rules}
-use Rattle.transforms.proofs.DftRuns.{cosine-kind, sine-kind, even-ready, stride-below, fold-ready, eighths}
-use Rattle.transforms.proofs.DftRuns.{tail-starts, odd-ready, lent-join-ready, lent-sine-ready, lent-ends}
-use Rattle.transforms.proofs.DctRuns.{cosine-ready, sine-ready, rotation-ready, fourths, dct-ends}
+use Rattle.transforms.proofs.DftRuns.{cosine_kind, sine_kind, even_ready, stride_below, fold_ready, eighths}
+use Rattle.transforms.proofs.DftRuns.{tail_starts, odd_ready, lent_join_ready, lent_sine_ready, lent_ends}
+use Rattle.transforms.proofs.DctRuns.{cosine_ready, sine_ready, rotation_ready, fourths, dct_ends}
 use borrow.Fn.Kinds.{In}
 use borrow.Fn.PlainCycle.{Measures, is, falls, and}
 use Rattle.transforms.proofs.cosine_dft.Reads as cosine-dft
@@ -37,62 +37,62 @@ abbrev μ-dct : Measures 2 dct-kinds.ps ℕ
 abbrev μ-sine-dft : Measures 2 sine-dft-kinds.ps ℕ
 μ-sine-dft κs a = 2 * a.1.1.0
 
-abbrev cosine-dft-at : ℕ → In 2 cosine-dft-kinds.ps
-cosine-dft-at t =
+abbrev cosine_dft_at : ℕ → In 2 cosine-dft-kinds.ps
+cosine_dft_at t =
     and 2 cosine-dft-kinds.ps (is 2 cosine-dft-kinds.ps μ-cosine-dft t) cosine-dft.Pre
 
-abbrev cosine-dft-below : ℕ → In 2 cosine-dft-kinds.ps
-cosine-dft-below t =
+abbrev cosine_dft_below : ℕ → In 2 cosine-dft-kinds.ps
+cosine_dft_below t =
     and 2 cosine-dft-kinds.ps (falls 2 cosine-dft-kinds.ps ◌<◌ μ-cosine-dft t) cosine-dft.Pre
 
-abbrev dct-at : ℕ → In 2 dct-kinds.ps
-dct-at t = and 2 dct-kinds.ps (is 2 dct-kinds.ps μ-dct t) dct.Pre
+abbrev dct_at : ℕ → In 2 dct-kinds.ps
+dct_at t = and 2 dct-kinds.ps (is 2 dct-kinds.ps μ-dct t) dct.Pre
 
-abbrev dct-below : ℕ → In 2 dct-kinds.ps
-dct-below t = and 2 dct-kinds.ps (falls 2 dct-kinds.ps ◌<◌ μ-dct t) dct.Pre
+abbrev dct_below : ℕ → In 2 dct-kinds.ps
+dct_below t = and 2 dct-kinds.ps (falls 2 dct-kinds.ps ◌<◌ μ-dct t) dct.Pre
 
-abbrev sine-dft-at : ℕ → In 2 sine-dft-kinds.ps
-sine-dft-at t = and 2 sine-dft-kinds.ps (is 2 sine-dft-kinds.ps μ-sine-dft t) sine-dft.Pre
+abbrev sine_dft_at : ℕ → In 2 sine-dft-kinds.ps
+sine_dft_at t = and 2 sine-dft-kinds.ps (is 2 sine-dft-kinds.ps μ-sine-dft t) sine-dft.Pre
 
-abbrev sine-dft-below : ℕ → In 2 sine-dft-kinds.ps
-sine-dft-below t =
+abbrev sine_dft_below : ℕ → In 2 sine-dft-kinds.ps
+sine_dft_below t =
     and 2 sine-dft-kinds.ps (falls 2 sine-dft-kinds.ps ◌<◌ μ-sine-dft t) sine-dft.Pre
 
-abbrev cosine-dft-calls : ℕ → cosine-dft-lts.Claims
-cosine-dft-calls t = (
+abbrev cosine_dft_calls : ℕ → cosine-dft-lts.Claims
+cosine_dft_calls t = (
   cosine-short-reads.Asked,
   cosine-short-reads.Learnt,
-  cosine-dft-below t,
+  cosine_dft_below t,
   cosine-dft.Post,
   put-folded-sums-reads.Asked,
   put-folded-sums-reads.Learnt,
-  dct-below t,
+  dct_below t,
   dct.Post,
   join-cosine-reads.Asked,
   join-cosine-reads.Learnt,
 )
 
-abbrev sine-dft-calls : ℕ → sine-dft-lts.Claims
-sine-dft-calls t = (
+abbrev sine_dft_calls : ℕ → sine-dft-lts.Claims
+sine_dft_calls t = (
   sine-short-reads.Asked,
   sine-short-reads.Learnt,
-  sine-dft-below t,
+  sine_dft_below t,
   sine-dft.Post,
   put-folded-differences-reads.Asked,
   put-folded-differences-reads.Learnt,
-  dct-below t,
+  dct_below t,
   dct.Post,
   join-sine-reads.Asked,
   join-sine-reads.Learnt,
 )
 
-abbrev dct-calls : ℕ → dct-lts.Claims
-dct-calls t = (
+abbrev dct_calls : ℕ → dct-lts.Claims
+dct_calls t = (
   dct-short-reads.Asked,
   dct-short-reads.Learnt,
-  cosine-dft-below t,
+  cosine_dft_below t,
   cosine-dft.Post,
-  sine-dft-below t,
+  sine_dft_below t,
   sine-dft.Post,
   rotate-by-twos-reads.Asked,
   rotate-by-twos-reads.Learnt,
@@ -105,87 +105,87 @@ four h = omega arith
 two : {n : ℕ} → 16 < n → 2 ≤ n
 two h = omega arith
 
-cosine-join : (t : ℕ) → cosine-dft-lts.Need-join-cosine-requires (cosine-dft-calls t) (cosine-dft-at t) cosine-dft.Post
-cosine-join t c κs =
+cosine_join : (t : ℕ) → cosine-dft-lts.Need-join-cosine-requires (cosine_dft_calls t) (cosine_dft_at t) cosine-dft.Post
+cosine_join t c κs =
     let d = c.before.before in
     let f = d.before.before.before in
     let e = f.before.before.before in
-    lent-join-ready cosine-kind e.before.before.before.requires.1.1 (omega arith) e.cosine-dft.ensures f.put-folded-sums.ensures
+    lent_join_ready cosine_kind e.before.before.before.requires.1.1 (omega arith) e.cosine-dft.ensures f.put-folded-sums.ensures
     d.dct.ensures
 
-cosine-ends : (t : ℕ) → cosine-dft-lts.Need-returns-2 (cosine-dft-calls t) (cosine-dft-at t) cosine-dft.Post
-cosine-ends t c =
+cosine_ends : (t : ℕ) → cosine-dft-lts.Need-returns-2 (cosine_dft_calls t) (cosine_dft_at t) cosine-dft.Post
+cosine_ends t c =
     let d = c.before.before.before.before in
     let f = d.before.before.before in
     let e = f.before.before.before in
-    lent-ends cosine-kind e.before.before.before.requires.1.1 (omega arith) e.cosine-dft.ensures f.put-folded-sums.ensures
+    lent_ends cosine_kind e.before.before.before.requires.1.1 (omega arith) e.cosine-dft.ensures f.put-folded-sums.ensures
     d.dct.ensures c.before.join-cosine.ensures
 
-sine-join : (t : ℕ) → sine-dft-lts.Need-join-sine-requires (sine-dft-calls t) (sine-dft-at t) sine-dft.Post
-sine-join t c κs =
+sine_join : (t : ℕ) → sine-dft-lts.Need-join-sine-requires (sine_dft_calls t) (sine_dft_at t) sine-dft.Post
+sine_join t c κs =
     let d = c.before.before in
     let f = d.before.before.before in
     let e = f.before.before.before in
-    lent-sine-ready e.before.before.before.requires.1.1 (omega arith) e.sine-dft.ensures f.put-folded-differences.ensures
+    lent_sine_ready e.before.before.before.requires.1.1 (omega arith) e.sine-dft.ensures f.put-folded-differences.ensures
     d.dct.ensures
 
-sine-ends : (t : ℕ) → sine-dft-lts.Need-returns-2 (sine-dft-calls t) (sine-dft-at t) sine-dft.Post
-sine-ends t c =
+sine_ends : (t : ℕ) → sine-dft-lts.Need-returns-2 (sine_dft_calls t) (sine_dft_at t) sine-dft.Post
+sine_ends t c =
     let d = c.before.before.before.before in
     let f = d.before.before.before in
     let e = f.before.before.before in
-    lent-ends sine-kind e.before.before.before.requires.1.1 (omega arith) e.sine-dft.ensures f.put-folded-differences.ensures
+    lent_ends sine_kind e.before.before.before.requires.1.1 (omega arith) e.sine-dft.ensures f.put-folded-differences.ensures
     d.dct.ensures c.before.join-sine.ensures
 
 pub +cosine-dft-dct-sine-dft-spec : {M : Type 1} → statement M
-+cosine-dft-dct-sine-dft-spec = close μ-cosine-dft μ-dct μ-sine-dft (λ t. cosine-dft-lts.spec (cosine-dft-calls t)
-    (cosine-dft-at t)
++cosine-dft-dct-sine-dft-spec = close μ-cosine-dft μ-dct μ-sine-dft (λ t. cosine-dft-lts.spec (cosine_dft_calls t)
+    (cosine_dft_at t)
     cosine-dft.Post
     (λ c κs. search rules)  -- cosine-dft-cosine-short-requires
     (λ c. search rules)  -- cosine-dft-same-length
     (λ c. search rules)  -- cosine-dft-returns
-    (λ c. let s = c.before.before in omega (arith, stride-below cosine-kind s.requires.1.1 (omega arith)))  -- cosine-dft-mul-cosine-dft
-    (λ c κs. search (rules, four, even-ready cosine-kind))  -- cosine-dft-cosine-dft-requires
+    (λ c. let s = c.before.before in omega (arith, stride_below cosine_kind s.requires.1.1 (omega arith)))  -- cosine-dft-mul-cosine-dft
+    (λ c κs. search (rules, four, even_ready cosine_kind))  -- cosine-dft-cosine-dft-requires
     (λ c. search rules)  -- cosine-dft-add-b
     (λ c. search rules)  -- cosine-dft-add-b-2
-    (λ c κs. search (rules, four, fold-ready cosine-kind))  -- cosine-dft-put-folded-sums-requires
+    (λ c κs. search (rules, four, fold_ready cosine_kind))  -- cosine-dft-put-folded-sums-requires
     (λ c. search rules)  -- cosine-dft-mul-dct
-    (λ c. search (rules, four, tail-starts cosine-kind))  -- cosine-dft-sub-dct
-    (λ c. search (rules, four, tail-starts cosine-kind))  -- cosine-dft-part-dct-start
+    (λ c. search (rules, four, tail_starts cosine_kind))  -- cosine-dft-sub-dct
+    (λ c. search (rules, four, tail_starts cosine_kind))  -- cosine-dft-part-dct-start
     (λ c. search rules)  -- cosine-dft-part-dct-end
-    (λ c κs. search (rules, four, odd-ready cosine-kind))  -- cosine-dft-dct-requires
-    (cosine-join t)  -- cosine-dft-join-cosine-requires
+    (λ c κs. search (rules, four, odd_ready cosine_kind))  -- cosine-dft-dct-requires
+    (cosine_join t)  -- cosine-dft-join-cosine-requires
     (λ c. search rules)  -- cosine-dft-same-length-2
-    (cosine-ends t))  -- cosine-dft-returns-2
-    (λ t. dct-lts.spec (dct-calls t)
-    (dct-at t)
+    (cosine_ends t))  -- cosine-dft-returns-2
+    (λ t. dct-lts.spec (dct_calls t)
+    (dct_at t)
     dct.Post
     (λ c κs. search rules)  -- dct-dct-short-requires
     (λ c. search rules)  -- dct-same-length
     (λ c. search rules)  -- dct-returns
-    (λ c κs. search (rules, two, cosine-ready))  -- dct-cosine-dft-requires
+    (λ c κs. search (rules, two, cosine_ready))  -- dct-cosine-dft-requires
     (λ c. search rules)  -- dct-add-sine-dft
     (λ c. search rules)  -- dct-add-sine-dft-2
-    (λ c κs. search (rules, two, sine-ready))  -- dct-sine-dft-requires
-    (λ c κs. search (rules, two, rotation-ready, fourths))  -- dct-rotate-by-twos-requires
+    (λ c κs. search (rules, two, sine_ready))  -- dct-sine-dft-requires
+    (λ c κs. search (rules, two, rotation_ready, fourths))  -- dct-rotate-by-twos-requires
     (λ c. search rules)  -- dct-same-length-2
-    (λ c. search (rules, two, dct-ends)))  -- dct-returns-2
-    λ t. sine-dft-lts.spec (sine-dft-calls t)
-    (sine-dft-at t)
+    (λ c. search (rules, two, dct_ends)))  -- dct-returns-2
+    λ t. sine-dft-lts.spec (sine_dft_calls t)
+    (sine_dft_at t)
     sine-dft.Post
     (λ c κs. search rules)  -- sine-dft-sine-short-requires
     (λ c. search rules)  -- sine-dft-same-length
     (λ c. search rules)  -- sine-dft-returns
-    (λ c. let s = c.before.before in omega (arith, stride-below sine-kind s.requires.1.1 (omega arith)))  -- sine-dft-mul-sine-dft
-    (λ c κs. search (rules, four, even-ready sine-kind))  -- sine-dft-sine-dft-requires
+    (λ c. let s = c.before.before in omega (arith, stride_below sine_kind s.requires.1.1 (omega arith)))  -- sine-dft-mul-sine-dft
+    (λ c κs. search (rules, four, even_ready sine_kind))  -- sine-dft-sine-dft-requires
     (λ c. search rules)  -- sine-dft-add-b
     (λ c. search rules)  -- sine-dft-add-b-2
-    (λ c κs. search (rules, four, fold-ready sine-kind, eighths))  -- sine-dft-put-folded-differences-requires
+    (λ c κs. search (rules, four, fold_ready sine_kind, eighths))  -- sine-dft-put-folded-differences-requires
     (λ c. search rules)  -- sine-dft-mul-dct
-    (λ c. search (rules, four, tail-starts sine-kind))  -- sine-dft-sub-dct
-    (λ c. search (rules, four, tail-starts sine-kind))  -- sine-dft-part-dct-start
+    (λ c. search (rules, four, tail_starts sine_kind))  -- sine-dft-sub-dct
+    (λ c. search (rules, four, tail_starts sine_kind))  -- sine-dft-part-dct-start
     (λ c. search rules)  -- sine-dft-part-dct-end
-    (λ c κs. search (rules, four, odd-ready sine-kind))  -- sine-dft-dct-requires
-    (sine-join t)  -- sine-dft-join-sine-requires
+    (λ c κs. search (rules, four, odd_ready sine_kind))  -- sine-dft-dct-requires
+    (sine_join t)  -- sine-dft-join-sine-requires
     (λ c. search rules)  -- sine-dft-same-length-2
-    (sine-ends t)  -- sine-dft-returns-2
+    (sine_ends t)  -- sine-dft-returns-2

@@ -1,4 +1,4 @@
--- `whole::round` meets its contract: v and the half fit a word together, and the shift is the floor division (`by-half`); 2^30 times the
+-- `whole::round` meets its contract: v and the half fit a word together, and the shift is the floor division (`by_half`); 2^30 times the
 -- rounded number fits with v, from which it is not far. Assumes nothing.
 use mathlib.Core.Path.{subst}
 use Prim.Native.Nat.{ℕ, ◌^◌}
@@ -10,8 +10,8 @@ use mir.Val.{SFits, to_z, of_z}
 use lib.Signed.{shr_z}
 use Rattle.whole.specs.Round.{round, rest}
 use Rattle.whole.proofs.Difference.{int}
-use Rattle.whole.proofs.Size.{size-within, within-add, within-sub, within-eq, within-int, within-fits}
-use Rattle.whole.proofs.Rounding.{by-half, rounded-multiple, rest-within}
+use Rattle.whole.proofs.Size.{size_within, within_add, within_sub, within_eq, within_int, within_fits}
+use Rattle.whole.proofs.Rounding.{by_half, rounded_multiple, rest_within}
 use Rattle.whole.proofs.Words.{Word, word, done, asked, made, shifted}
 use Rattle.whole.proofs.Operations.{natural}
 use Rattle.whole.proofs.round.Statement.{statement}
@@ -26,42 +26,42 @@ half = natural (lit< tt)
 
 module _ (c : tie.Start) where
   sum_fits : SFits w64 (c.args.v +ℤ int added)
-  sum_fits = within-fits (within-add (size-within c.args.v c.requires) (within-int added)) (lit< tt)
+  sum_fits = within_fits (within_add (size_within c.args.v c.requires) (within_int added)) (lit< tt)
 
   -- the bits of the rounded number, and of 2^30 times it
-  abbrev valueBits : ℕ
-  valueBits = of_z w64 (shr_z (to_z w64 (done ◌+ℤ◌ (of_z w64 c.args.v) added)) (2 ^ 30))
+  abbrev value_bits : ℕ
+  value_bits = of_z w64 (shr_z (to_z w64 (done ◌+ℤ◌ (of_z w64 c.args.v) added)) (2 ^ 30))
 
-  value : Word w64 valueBits (round c.args.v)
+  value : Word w64 value_bits (round c.args.v)
   unfolding round
   value =
-      subst (Word w64 valueBits) (by-half c.args.v added (2 ^ 30) (omega arith) (omega arith))
+      subst (Word w64 value_bits) (by_half c.args.v added (2 ^ 30) (omega arith) (omega arith))
       (shifted (2 ^ 30) (made ◌+ℤ◌ (word c.ranges.v) half sum_fits))
 
-  multiple-fits : SFits w64 (int (2 ^ 30) *ℤ round c.args.v)
-  multiple-fits =
+  multiple_fits : SFits w64 (int (2 ^ 30) *ℤ round c.args.v)
+  multiple_fits =
       let v = c.args.v in
-      within-fits (within-eq (rounded-multiple v) (within-sub (size-within v c.requires) (rest-within v))) (lit< tt)
+      within_fits (within_eq (rounded_multiple v) (within_sub (size_within v c.requires) (rest_within v))) (lit< tt)
 
   power : Word w64 1073741824 (int (2 ^ 30))
   power = natural (lit< tt)
 
-  multiple : Word w64 (done ◌*ℤ◌ 1073741824 valueBits) (int (2 ^ 30) *ℤ round c.args.v)
-  multiple = made ◌*ℤ◌ power value multiple-fits
+  multiple : Word w64 (done ◌*ℤ◌ 1073741824 value_bits) (int (2 ^ 30) *ℤ round c.args.v)
+  multiple = made ◌*ℤ◌ power value multiple_fits
 
-  rest-fits : SFits w64 (c.args.v -ℤ int (2 ^ 30) *ℤ round c.args.v)
+  rest_fits : SFits w64 (c.args.v -ℤ int (2 ^ 30) *ℤ round c.args.v)
   unfolding int rest
-  rest-fits = within-fits (rest-within c.args.v) (lit< tt)
+  rest_fits = within_fits (rest_within c.args.v) (lit< tt)
 
 returns : tie.Need-returns
 unfolding int rest
-returns c = ((value c).is, (made ◌-ℤ◌ (word c.ranges.v) (multiple c) (rest-fits c)).is)
+returns c = ((value c).is, (made ◌-ℤ◌ (word c.ranges.v) (multiple c) (rest_fits c)).is)
 
-pub round-spec : {M : Type 1} → statement M
-round-spec =
+pub round_spec : {M : Type 1} → statement M
+round_spec =
     tie.close
     (tie.spec
     (λ c. asked ◌+ℤ◌ (word c.ranges.v) half (sum_fits c))  -- add-value
-    (λ c. asked ◌*ℤ◌ (power c) (value c) (multiple-fits c))  -- mul-t3
-    (λ c. asked ◌-ℤ◌ (word c.ranges.v) (multiple c) (rest-fits c))  -- sub-t4
+    (λ c. asked ◌*ℤ◌ (power c) (value c) (multiple_fits c))  -- mul-t3
+    (λ c. asked ◌-ℤ◌ (word c.ranges.v) (multiple c) (rest_fits c))  -- sub-t4
     returns)

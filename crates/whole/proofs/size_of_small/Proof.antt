@@ -6,8 +6,8 @@ use Rattle.whole.proofs.Words.{word, widens, widened}
 use Rattle.whole.proofs.size_of_small.Statement.{statement}
 use Rattle.whole.proofs.size_of_small.Tie as tie
 
-pub size-of-small-spec : {M : Type 1} → statement M
-size-of-small-spec =
+pub size_of_small_spec : {M : Type 1} → statement M
+size_of_small_spec =
     tie.close
     (tie.spec
     (λ c. widens tt (word c.ranges.x))  -- cast-size-of

@@ -5,7 +5,7 @@ use native.Mathlib.Omega.{arith}
 use lib.IntN.{pos}
 use lib.ListN.{length}
 use borrow.Author.Rules.{rules}
-use Rattle.words.proofs.Writing.{Ends, ends-none, ends-front, ends-all}
+use Rattle.words.proofs.Writing.{Ends, ends_none, ends_front, ends_all}
 use Rattle.blocks.proofs.buffers.clear.Statement.{statement}
 use Rattle.blocks.proofs.buffers.clear.Tie as tie
 
@@ -21,11 +21,11 @@ clear_spec =
     (tie.spec
     invariant-loop
     decreases-loop
-    (λ c. search (rules, ends-none))  -- loop-holds
+    (λ c. search (rules, ends_none))  -- loop-holds
     (λ c. search rules)  -- mul-w
     (λ c. search rules)  -- slice-set-of-w
     (λ c. search rules)  -- add-i
     (λ c. search rules)  -- loop-less
-    (λ c. (search rules, ends-front c.before.loop.invariant.1 (omega arith) refl))  -- loop-again
+    (λ c. (search rules, ends_front c.before.loop.invariant.1 (omega arith) refl))  -- loop-again
     (λ c. search rules)  -- same-length
-    (λ c. ends-all c.before.loop.invariant.1 (omega arith)))  -- returns
+    (λ c. ends_all c.before.loop.invariant.1 (omega arith)))  -- returns

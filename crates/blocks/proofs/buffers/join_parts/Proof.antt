@@ -5,11 +5,11 @@ use Prim.Native.Nat.{◌+◌, ◌-◌, ◌*◌, ◌/◌, ◌≤◌, ◌<◌}
 use native.Mathlib.Omega.{arith}
 use lib.IntN.{pos, ◌+ℤ◌, ◌-ℤ◌}
 use borrow.Author.Rules.{rules}
-use Rattle.words.proofs.Writing.{Ends, ends-none}
-use Rattle.ffct.specs.Transforms.{cosineBeyond, sineBeyond}
+use Rattle.words.proofs.Writing.{Ends, ends_none}
+use Rattle.ffct.specs.Transforms.{cosine_beyond, sine_beyond}
 use Rattle.counts.specs.Tally.{Summed}
-use Rattle.blocks.specs.Buffers.{cosineOfA, sineOfA, cosineOfB, sineOfB}
-use Rattle.blocks.proofs.Parts.{adding, subtracting, part-turn, part-ends, put-turned, parts-sums}
+use Rattle.blocks.specs.Buffers.{cosine_of_a, sine_of_a, cosine_of_b, sine_of_b}
+use Rattle.blocks.proofs.Parts.{adding, subtracting, part_turn, part_ends, put_turned, parts_sums}
 use Rattle.blocks.proofs.buffers.join_parts.Statement.{statement}
 use Rattle.blocks.proofs.buffers.join_parts.Tie as tie
 
@@ -17,9 +17,9 @@ abbrev invariant-loop : tie.invariant-loop
 invariant-loop w at real₀ imaginary₀ n sine_a cosine_b sine_b tally₀ k₀ real imaginary tally k =
     ((1 ≤ k) × (k ≤ n - n / 2) × Summed (4 * (k - 1)) tally₀ tally)
     × Ends (pos 0) 1 (k - 1) (k - 1) (n - 1)
-    (λ i. cosineBeyond n (cosineOfA n at w) (1 + i) +ℤ sineBeyond n (sineOfB n at w) (1 + i)) real₀ real
+    (λ i. cosine_beyond n (cosine_of_a n at w) (1 + i) +ℤ sine_beyond n (sine_of_b n at w) (1 + i)) real₀ real
     × Ends (pos 0) 1 (k - 1) (k - 1) (n - 1)
-    (λ i. cosineBeyond n (cosineOfB n at w) (1 + i) -ℤ sineBeyond n (sineOfA n at w) (1 + i)) imaginary₀ imaginary
+    (λ i. cosine_beyond n (cosine_of_b n at w) (1 + i) -ℤ sine_beyond n (sine_of_a n at w) (1 + i)) imaginary₀ imaginary
 
 abbrev decreases-loop : tie.decreases-loop
 decreases-loop w at real₀ imaginary₀ n sine_a cosine_b sine_b tally₀ k₀ real imaginary tally k = n - n / 2 - k
@@ -37,9 +37,9 @@ put-sum-and-difference-requires c κs =
     let s = l.before.requires in
     let e = even i in
     record {
-      fits = omega (arith, s.fits, s.real-fits, l.loop.invariant.1.len);
-      c-small = s.ofReal.cosine-small l.loop.k (omega arith);
-      s-small = s.ofReal.sine-small l.loop.k (omega arith);
+      fits = omega (arith, s.fits, s.real_fits, l.loop.invariant.1.len);
+      c_small = s.of_real.cosine_small l.loop.k (omega arith);
+      s_small = s.of_real.sine_small l.loop.k (omega arith);
       apart = omega arith;
       room = omega (arith, s.room);
     }
@@ -52,15 +52,15 @@ put-sum-and-difference-requires-2 c κs =
     let s = l.before.requires in
     let e = even i in
     record {
-      fits = omega (arith, s.fits, s.imaginary-fits, l.loop.invariant.2.len);
-      c-small = s.ofImaginary.cosine-small l.loop.k (omega arith);
-      s-small = s.ofImaginary.sine-small l.loop.k (omega arith);
+      fits = omega (arith, s.fits, s.imaginary_fits, l.loop.invariant.2.len);
+      c_small = s.of_imaginary.cosine_small l.loop.k (omega arith);
+      s_small = s.of_imaginary.sine_small l.loop.k (omega arith);
       apart = omega arith;
       room = omega (arith, s.room, p.put-sum-and-difference.ensures.tallied);
     }
 
-loop-again : tie.Need-loop-preserved invariant-loop decreases-loop
-loop-again c =
+loop_again : tie.Need-loop-preserved invariant-loop decreases-loop
+loop_again c =
     let q = c.before in
     let p = q.before.before.before in
     let i = p.before.before in
@@ -70,21 +70,21 @@ loop-again c =
     let real = p.put-sum-and-difference.ensures in
     let imaginary = q.put-sum-and-difference2.ensures in (
       omega (arith, l.loop.invariant.0.2, real.tallied, imaginary.tallied),
-      part-turn adding s.ofReal e l.loop.invariant.1 real.both,
-      part-turn subtracting s.ofImaginary e l.loop.invariant.2 (put-turned imaginary.both),
+      part_turn adding s.of_real e l.loop.invariant.1 real.both,
+      part_turn subtracting s.of_imaginary e l.loop.invariant.2 (put_turned imaginary.both),
     )
 
 store-ends-requires : tie.Need-store-ends-requires invariant-loop decreases-loop
 store-ends-requires c κs =
     let l = c.before.before in
     let s = l.before.requires in
-    (omega (arith, s.fits, s.real-fits, s.some, l.loop.invariant.1.len), λ k h. omega (arith, s.ofReal.cosine-small k h))
+    (omega (arith, s.fits, s.real_fits, s.some, l.loop.invariant.1.len), λ k h. omega (arith, s.of_real.cosine_small k h))
 
 store-ends-requires-2 : tie.Need-store-ends-requires-2 invariant-loop decreases-loop
 store-ends-requires-2 c κs =
     let l = c.before.before.before.before.before in
     let s = l.before.requires in
-    (omega (arith, s.fits, s.imaginary-fits, s.some, l.loop.invariant.2.len), λ k h. omega (arith, s.ofImaginary.cosine-small k h))
+    (omega (arith, s.fits, s.imaginary_fits, s.some, l.loop.invariant.2.len), λ k h. omega (arith, s.of_imaginary.cosine_small k h))
 
 returns : tie.Need-returns invariant-loop decreases-loop
 returns c =
@@ -94,14 +94,14 @@ returns c =
     let n = l.before.args.n in
     let done : l.loop.k - 1 ≡ n - n / 2 - 1 = omega arith in
     record {
-      realWords = part-ends adding s.ofReal (s.some, done) s.whole l.loop.invariant.1 f.store-ends.ensures;
-      imaginaryWords = part-ends subtracting s.ofImaginary (s.some, done) s.whole l.loop.invariant.2
+      real_words = part_ends adding s.of_real (s.some, done) s.whole l.loop.invariant.1 f.store-ends.ensures;
+      imaginary_words = part_ends subtracting s.of_imaginary (s.some, done) s.whole l.loop.invariant.2
           c.before.store-ends2.ensures;
-      tallied = rw (parts-sums n l.loop.k s.whole (omega arith)) at l.loop.invariant.0.2;
+      tallied = rw (parts_sums n l.loop.k s.whole (omega arith)) at l.loop.invariant.0.2;
     }
 
-pub join-parts-spec : {M : Type 1} → statement M
-join-parts-spec =
+pub join_parts_spec : {M : Type 1} → statement M
+join_parts_spec =
     tie.close
     (tie.spec
     invariant-loop
@@ -113,7 +113,7 @@ join-parts-spec =
     (λ c. search rules)  -- add-cosine-b-2
     (λ c. search rules)  -- add-sine-b
     (λ c. search rules)  -- add-sine-b-2
-    (λ c. search (rules, ends-none))  -- loop-holds
+    (λ c. search (rules, ends_none))  -- loop-holds
     (λ c. search rules)  -- sub-loop
     (λ c. search rules)  -- add-put-sum-and-difference
     (λ c. search rules)  -- add-put-sum-and-difference-2
@@ -125,7 +125,7 @@ join-parts-spec =
     put-sum-and-difference-requires-2
     (λ c. search rules)  -- add-k
     (λ c. search rules)  -- loop-less
-    loop-again
+    loop_again
     store-ends-requires
     store-ends-requires-2
     (λ c. search rules)  -- same-length

@@ -5,8 +5,8 @@ use lib.IntN.{pos}
 use lib.ListN.{length}
 use borrow.Author.Rules.{rules}
 use Rattle.words.specs.Words.{word}
-use Rattle.words.proofs.Writing.{Ends, ends-none, ends-front, ends-all}
-use Rattle.whole.proofs.Words.{read-widens, read-widened}
+use Rattle.words.proofs.Writing.{Ends, ends_none, ends_front, ends_all}
+use Rattle.whole.proofs.Words.{read_widens, read_widened}
 use Rattle.blocks.proofs.buffers.load.Statement.{statement}
 use Rattle.blocks.proofs.buffers.load.Tie as tie
 
@@ -22,14 +22,14 @@ load_spec =
     (tie.spec
     invariant-loop
     decreases-loop
-    (λ c. search (rules, ends-none))  -- loop-holds
+    (λ c. search (rules, ends_none))  -- loop-holds
     (λ c. search rules)  -- mul-x
     (λ c. search rules)  -- shared-slice-copy-out-x
-    (λ c. search (rules, read-widens))  -- cast-x
+    (λ c. search (rules, read_widens))  -- cast-x
     (λ c. search rules)  -- mul-x-2
     (λ c. search rules)  -- slice-set-from-x
     (λ c. search rules)  -- add-i
     (λ c. search rules)  -- loop-less
-    (λ c. (search rules, ends-front c.before.before.loop.invariant.1 (omega arith) (read-widened _ c.x.given).is))  -- loop-again
+    (λ c. (search rules, ends_front c.before.before.loop.invariant.1 (omega arith) (read_widened _ c.x.given).is))  -- loop-again
     (λ c. search rules)  -- same-length
-    (λ c. ends-all c.before.loop.invariant.1 (omega arith)))  -- returns
+    (λ c. ends_all c.before.loop.invariant.1 (omega arith)))  -- returns

@@ -6,16 +6,16 @@ use lib.IntN.{pos}
 use lib.ListN.{length-set}
 use borrow.Author.Rules.{rules}
 use Rattle.words.specs.Words.{word}
-use Rattle.words.proofs.Writing.{Ends, ends-none, ends-front, ends-all, written_one}
-use Rattle.lengths.proofs.ElevenLengths.{length-pos, half}
-use Rattle.blocks.specs.Buffers.{inPairs}
-use Rattle.whole.proofs.Words.{read-widens, read-widened}
-use Rattle.blocks.proofs.Pairing.{pairs-even, pairs-odd}
+use Rattle.words.proofs.Writing.{Ends, ends_none, ends_front, ends_all, written_one}
+use Rattle.lengths.proofs.ElevenLengths.{length_pos, half}
+use Rattle.blocks.specs.Buffers.{in_pairs}
+use Rattle.whole.proofs.Words.{read_widens, read_widened}
+use Rattle.blocks.proofs.Pairing.{pairs_even, pairs_odd}
 use Rattle.blocks.proofs.buffers.load_pairs.Statement.{statement}
 use Rattle.blocks.proofs.buffers.load_pairs.Tie as tie
 
 abbrev invariant-loop : tie.invariant-loop
-invariant-loop block n w₀ i₀ w i = (i ≤ n / 2) × Ends (pos 0) 0 (2 * i) 0 n (inPairs n (word block)) w₀ w
+invariant-loop block n w₀ i₀ w i = (i ≤ n / 2) × Ends (pos 0) 0 (2 * i) 0 n (in_pairs n (word block)) w₀ w
 
 abbrev decreases-loop : tie.decreases-loop
 decreases-loop block n w₀ i₀ w i = n / 2 - i
@@ -23,43 +23,43 @@ decreases-loop block n w₀ i₀ w i = n / 2 - i
 returns : tie.Need-returns invariant-loop decreases-loop
 returns c =
     let x = word c.before.before.args.block.now in
-    rw c.before.if1.true (written_one (omega arith) ((read-widened _ c.x.given).is ∙ sym (pairs-even 1 x 0)))
+    rw c.before.if1.true (written_one (omega arith) ((read_widened _ c.x.given).is ∙ sym (pairs_even 1 x 0)))
 
-loop-again : tie.Need-loop-preserved invariant-loop decreases-loop
-loop-again c =
+loop_again : tie.Need-loop-preserved invariant-loop decreases-loop
+loop_again c =
     let l = c.before.before.before in
     let n = l.before.before.args.n in
     let x = word l.before.before.args.block.now in
     let i = l.loop.i in
     let two : 2 * i + 1 + 1 ≡ 2 * (i + 1) = omega arith in (
       omega arith,
-      rw (sym two) (ends-front
-          (ends-front l.loop.invariant.1 (omega arith) ((read-widened _ c.before.x2.given).is ∙ sym (pairs-even n x i)))
-          (omega arith) ((read-widened _ c.y.given).is ∙ sym (pairs-odd n x i))),
+      rw (sym two) (ends_front
+          (ends_front l.loop.invariant.1 (omega arith) ((read_widened _ c.before.x2.given).is ∙ sym (pairs_even n x i)))
+          (omega arith) ((read_widened _ c.y.given).is ∙ sym (pairs_odd n x i))),
     )
 
 returns-2 : tie.Need-returns-2 invariant-loop decreases-loop
 returns-2 c =
     let s = c.before.before.before in
     let n = s.args.n in
-    let e = half n s.requires.0 (omega (arith, length-pos n s.requires.0)) in
-    ends-all c.before.loop.invariant.1 (omega (arith, e.twice))
+    let e = half n s.requires.0 (omega (arith, length_pos n s.requires.0)) in
+    ends_all c.before.loop.invariant.1 (omega (arith, e.twice))
 
-pub load-pairs-spec : {M : Type 1} → statement M
-load-pairs-spec =
+pub load_pairs_spec : {M : Type 1} → statement M
+load_pairs_spec =
     tie.close
     (tie.spec
     invariant-loop
     decreases-loop
     (λ c. search rules)  -- shared-slice-copy-out-x
-    (λ c. search (rules, read-widens))  -- cast-x
+    (λ c. search (rules, read_widens))  -- cast-x
     (λ c. search rules)  -- slice-set-from-x
     (λ c. search rules)  -- same-length
     returns
-    (λ c. search (rules, ends-none))  -- loop-holds
+    (λ c. search (rules, ends_none))  -- loop-holds
     (λ c. search rules)  -- mul-x
     (λ c. search rules)  -- shared-slice-copy-out-x-2
-    (λ c. search (rules, read-widens))  -- cast-x-2
+    (λ c. search (rules, read_widens))  -- cast-x-2
     (λ c. search rules)  -- mul-x-2
     (λ c. search rules)  -- mul-x-3
     (λ c. search rules)  -- slice-set-from-x-2
@@ -67,13 +67,13 @@ load-pairs-spec =
     (λ c. search rules)  -- sub-y-2
     (λ c. search rules)  -- mul-y
     (λ c. search rules)  -- shared-slice-copy-out-y
-    (λ c. search (rules, read-widens))  -- cast-y
+    (λ c. search (rules, read_widens))  -- cast-y
     (λ c. search rules)  -- mul-y-2
     (λ c. search rules)  -- add-y
     (λ c. search rules)  -- mul-y-3
     (λ c. simp length-set (omega arith))  -- slice-set-from-y
     (λ c. search rules)  -- add-i
     (λ c. search rules)  -- loop-less
-    loop-again
+    loop_again
     (λ c. search rules)  -- same-length-2
     returns-2)

@@ -4,27 +4,27 @@ use lib.IntN.{◌+ℤ◌, ◌-ℤ◌}
 use lib.ListN.{length-set}
 use borrow.Author.Rules.{rules}
 use Rattle.words.specs.Words.{word}
-use Rattle.words.proofs.Writing.{two-put}
-use Rattle.blocks.proofs.Casting.{Narrowed, sum-narrowed, difference-narrowed}
+use Rattle.words.proofs.Writing.{two_put}
+use Rattle.blocks.proofs.Casting.{Narrowed, sum_narrowed, difference_narrowed}
 use Rattle.blocks.proofs.buffers.put_sum_and_difference.Statement.{statement}
 use Rattle.blocks.proofs.buffers.put_sum_and_difference.Tie as tie
 
 sum : (c : tie.Start) → Narrowed ◌+ℤ◌ (word c.args.w.now c.args.c) (word c.args.w.now c.args.s)
-sum c = sum-narrowed c.requires.c-small c.requires.s-small
+sum c = sum_narrowed c.requires.c_small c.requires.s_small
 
 difference : (c : tie.Start) → Narrowed ◌-ℤ◌ (word c.args.w.now c.args.c) (word c.args.w.now c.args.s)
-difference c = difference-narrowed c.requires.c-small c.requires.s-small
+difference c = difference_narrowed c.requires.c_small c.requires.s_small
 
 returns : tie.Need-returns
 returns c =
     let s = c.before.before in
     record {
-      both = two-put (omega arith) (λ same. absurd (s.requires.apart same)) (sum s).is (difference s).is;
+      both = two_put (omega arith) (λ same. absurd (s.requires.apart same)) (sum s).is (difference s).is;
       tallied = omega arith;
     }
 
-pub put-sum-and-difference-spec : {M : Type 1} → statement M
-put-sum-and-difference-spec =
+pub put_sum_and_difference_spec : {M : Type 1} → statement M
+put_sum_and_difference_spec =
     tie.close
     (tie.spec
     (λ c. search rules)  -- mul-x

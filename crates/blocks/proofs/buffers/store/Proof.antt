@@ -3,22 +3,22 @@ use Prim.Native.Nat.{◌-◌, ◌≤◌}
 use native.Mathlib.Omega.{arith}
 use lib.IntN.{pos}
 use borrow.Author.Rules.{rules}
-use Rattle.words.proofs.Writing.{Ends, ends-none, ends-front, ends-all}
-use Rattle.blocks.specs.Buffers.{wordsFrom}
-use Rattle.blocks.proofs.Casting.{coefficient-narrows, coefficient-narrowed}
+use Rattle.words.proofs.Writing.{Ends, ends_none, ends_front, ends_all}
+use Rattle.blocks.specs.Buffers.{words_from}
+use Rattle.blocks.proofs.Casting.{coefficient_narrows, coefficient_narrowed}
 use Rattle.blocks.proofs.buffers.store.Statement.{statement}
 use Rattle.blocks.proofs.buffers.store.Tie as tie
 
 abbrev invariant-loop : tie.invariant-loop
-invariant-loop w at out₀ m k₀ out k = (k ≤ m) × Ends (pos 0) 0 k 0 m (wordsFrom w at) out₀ out
+invariant-loop w at out₀ m k₀ out k = (k ≤ m) × Ends (pos 0) 0 k 0 m (words_from w at) out₀ out
 
 abbrev decreases-loop : tie.decreases-loop
 decreases-loop w at out₀ m k₀ out k = m - k
 
-loop-again : tie.Need-loop-preserved invariant-loop decreases-loop
-loop-again c =
+loop_again : tie.Need-loop-preserved invariant-loop decreases-loop
+loop_again c =
     let l = c.before.before in
-    (search rules, ends-front l.loop.invariant.1 (omega arith) (coefficient-narrowed _ (l.before.requires.1 l.loop.k (omega arith))))
+    (search rules, ends_front l.loop.invariant.1 (omega arith) (coefficient_narrowed _ (l.before.requires.1 l.loop.k (omega arith))))
 
 pub store_spec : {M : Type 1} → statement M
 store_spec =
@@ -26,15 +26,15 @@ store_spec =
     (tie.spec
     invariant-loop
     decreases-loop
-    (λ c. search (rules, ends-none))  -- loop-holds
+    (λ c. search (rules, ends_none))  -- loop-holds
     (λ c. search rules)  -- add-y
     (λ c. search rules)  -- mul-y
     (λ c. search rules)  -- shared-slice-copy-out-y
-    (λ c. search (rules, coefficient-narrows, c.before.before.before.requires.1))  -- cast-y
+    (λ c. search (rules, coefficient_narrows, c.before.before.before.requires.1))  -- cast-y
     (λ c. search rules)  -- mul-y-2
     (λ c. search rules)  -- slice-set-from-y
     (λ c. search rules)  -- add-k
     (λ c. search rules)  -- loop-less
-    loop-again
+    loop_again
     (λ c. search rules)  -- same-length
-    (λ c. ends-all c.before.loop.invariant.1 (omega arith)))  -- returns
+    (λ c. ends_all c.before.loop.invariant.1 (omega arith)))  -- returns

@@ -7,37 +7,37 @@ use lib.IntN.{nat_abs}
 use lib.ListN.{length-set}
 use borrow.Author.Rules.{rules}
 use Rattle.words.specs.Words.{word}
-use Rattle.words.proofs.Writing.{two-put}
-use Rattle.lengths.specs.Block.{largestSum}
-use Rattle.blocks.specs.Buffers.{wordsFrom}
-use Rattle.blocks.proofs.Casting.{coefficient-narrows, coefficient-narrowed}
+use Rattle.words.proofs.Writing.{two_put}
+use Rattle.lengths.specs.Block.{largest_sum}
+use Rattle.blocks.specs.Buffers.{words_from}
+use Rattle.blocks.proofs.Casting.{coefficient_narrows, coefficient_narrowed}
 use Rattle.blocks.proofs.buffers.store_ends.Statement.{statement}
 use Rattle.blocks.proofs.buffers.store_ends.Tie as tie
 
 -- both coefficients are small
-first : (c : tie.Start) → nat_abs (word c.args.w.now c.args.at) ≤ largestSum + 257
+first : (c : tie.Start) → nat_abs (word c.args.w.now c.args.at) ≤ largest_sum + 257
 first c = rw add-zero at (c.requires.1 0 (omega arith))
 
-half : (c : tie.Start) → nat_abs (word c.args.w.now (c.args.at + c.args.n / 2)) ≤ largestSum + 257
+half : (c : tie.Start) → nat_abs (word c.args.w.now (c.args.at + c.args.n / 2)) ≤ largest_sum + 257
 half c = c.requires.1 (c.args.n / 2) (omega arith)
 
 returns : tie.Need-returns
 returns c =
     let s = c.before.before in
-    let C = wordsFrom s.args.w.now s.args.at in
-    two-put (omega arith) (ap C) (rw add-zero (coefficient-narrowed _ (first s))) (coefficient-narrowed _ (half s))
+    let C = words_from s.args.w.now s.args.at in
+    two_put (omega arith) (ap C) (rw add-zero (coefficient_narrowed _ (first s))) (coefficient_narrowed _ (half s))
 
-pub store-ends-spec : {M : Type 1} → statement M
-store-ends-spec =
+pub store_ends_spec : {M : Type 1} → statement M
+store_ends_spec =
     tie.close
     (tie.spec
     (λ c. search rules)  -- mul-x
     (λ c. search rules)  -- shared-slice-copy-out-x
-    (λ c. search (rules, coefficient-narrows, first))  -- cast-x
+    (λ c. search (rules, coefficient_narrows, first))  -- cast-x
     (λ c. search rules)  -- add-y
     (λ c. search rules)  -- mul-y
     (λ c. search rules)  -- shared-slice-copy-out-y
-    (λ c. search (rules, coefficient-narrows, half))  -- cast-y
+    (λ c. search (rules, coefficient_narrows, half))  -- cast-y
     (λ c. search rules)  -- slice-set-from-x
     (λ c. search rules)  -- mul-y-2
     (λ c. simp length-set (omega arith))  -- slice-set-from-y

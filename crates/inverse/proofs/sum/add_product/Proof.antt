@@ -6,10 +6,10 @@ use lib.Signed.{shr_z}
 use mir.Syntax.{w64}
 use mir.Val.{SFits, of_z, to_z}
 use Rattle.whole.proofs.Difference.{int}
-use Rattle.whole.proofs.Size.{◌within◌, size-within, within-int, within-mul, within-add, within-fits}
+use Rattle.whole.proofs.Size.{◌within◌, size_within, within_int, within_mul, within_add, within_fits}
 use Rattle.whole.proofs.Words.{Word, word, asked, made, shifted, done}
 use Rattle.whole.proofs.Operations.{natural}
-use Rattle.inverse.proofs.Adding.{high_word, low_word, product_small, floor-small, rest-small, adds}
+use Rattle.inverse.proofs.Adding.{high_word, low_word, product_small, floor_small, rest_small, adds}
 use Rattle.inverse.proofs.sum.add_product.Statement.{statement}
 use Rattle.inverse.proofs.sum.add_product.Tie as tie
 
@@ -17,8 +17,8 @@ use Rattle.inverse.proofs.sum.add_product.Tie as tie
 abbrev unit : ℕ
 unit = 1073741824
 
-unit-word : Word w64 unit (int unit)
-unit-word = natural (lit< tt)
+unit_word : Word w64 unit (int unit)
+unit_word = natural (lit< tt)
 
 module _ (a : tie.Start) where
   abbrev p : ℤ
@@ -32,52 +32,52 @@ module _ (a : tie.Start) where
   small = product_small a.pre
 
   high_fits : SFits w64 (a.args.sum.high +ℤ q)
-  high_fits = within-fits (within-add (size-within a.args.sum.high a.pre.sum-ok.high-ok) (floor-small p small)) (lit< tt)
+  high_fits = within_fits (within_add (size_within a.args.sum.high a.pre.sum_ok.high_ok) (floor_small p small)) (lit< tt)
 
   scaled_fits : SFits w64 (q *ℤ int unit)
-  scaled_fits = within-fits (within-mul (floor-small p small) (within-int unit)) (lit< tt)
+  scaled_fits = within_fits (within_mul (floor_small p small) (within_int unit)) (lit< tt)
 
-  rest-fits : SFits w64 (p -ℤ q *ℤ int unit)
-  rest-fits = within-fits (rest-small p small) (lit< tt)
+  rest_fits : SFits w64 (p -ℤ q *ℤ int unit)
+  rest_fits = within_fits (rest_small p small) (lit< tt)
 
   low_fits : SFits w64 (a.args.sum.low +ℤ (p -ℤ q *ℤ int unit))
-  low_fits = within-fits (within-add (size-within a.args.sum.low a.pre.sum-ok.low_ok) (rest-small p small)) (lit< tt)
+  low_fits = within_fits (within_add (size_within a.args.sum.low a.pre.sum_ok.low_ok) (rest_small p small)) (lit< tt)
 
   -- the words
-  abbrev product-bits : ℕ
-  product-bits = done ◌*ℤ◌ (of_z w64 a.args.x) (of_z w64 a.args.y)
+  abbrev product_bits : ℕ
+  product_bits = done ◌*ℤ◌ (of_z w64 a.args.x) (of_z w64 a.args.y)
 
-  abbrev floor-bits : ℕ
-  floor-bits = of_z w64 (shr_z (to_z w64 product-bits) unit)
+  abbrev floor_bits : ℕ
+  floor_bits = of_z w64 (shr_z (to_z w64 product_bits) unit)
 
-  product : Word w64 product-bits p
-  product = made ◌*ℤ◌ (word a.fits.x) (word a.fits.y) (within-fits small (lit< tt))
+  product : Word w64 product_bits p
+  product = made ◌*ℤ◌ (word a.fits.x) (word a.fits.y) (within_fits small (lit< tt))
 
-  floor : Word w64 floor-bits q
+  floor : Word w64 floor_bits q
   floor = shifted unit product
 
-  scaled : Word w64 (done ◌*ℤ◌ floor-bits unit) (q *ℤ int unit)
-  scaled = made ◌*ℤ◌ floor unit-word scaled_fits
+  scaled : Word w64 (done ◌*ℤ◌ floor_bits unit) (q *ℤ int unit)
+  scaled = made ◌*ℤ◌ floor unit_word scaled_fits
 
-  rest : Word w64 (done ◌-ℤ◌ product-bits (done ◌*ℤ◌ floor-bits unit)) (p -ℤ q *ℤ int unit)
-  rest = made ◌-ℤ◌ product scaled rest-fits
+  rest : Word w64 (done ◌-ℤ◌ product_bits (done ◌*ℤ◌ floor_bits unit)) (p -ℤ q *ℤ int unit)
+  rest = made ◌-ℤ◌ product scaled rest_fits
 
 returns : tie.Need-returns
 returns c =
     let a = c.before.before.before.before in
     rw (
-      (made ◌+ℤ◌ (high_word a.requires.sum-ok (lit< tt)) (floor a) (high_fits a)).is,
-      (made ◌+ℤ◌ (low_word a.requires.sum-ok (lit< tt)) (rest a) (low_fits a)).is,
+      (made ◌+ℤ◌ (high_word a.requires.sum_ok (lit< tt)) (floor a) (high_fits a)).is,
+      (made ◌+ℤ◌ (low_word a.requires.sum_ok (lit< tt)) (rest a) (low_fits a)).is,
     )
     (adds a.requires)
 
-pub add-product-spec : {M : Type 1} → statement M
-add-product-spec =
+pub add_product_spec : {M : Type 1} → statement M
+add_product_spec =
     tie.close
     (tie.spec
-    (λ c. asked ◌*ℤ◌ (word c.ranges.x) (word c.ranges.y) (within-fits (small c) (lit< tt)))  -- mul-product
-    (λ c. let a = c.before.before in asked ◌+ℤ◌ (high_word a.requires.sum-ok (lit< tt)) (floor a) (high_fits a))  -- add-t6
-    (λ c. let a = c.before.before in asked ◌*ℤ◌ (floor a) unit-word (scaled_fits a))  -- mul-t7
-    (λ c. let a = c.before.before in asked ◌-ℤ◌ (product a) (scaled a) (rest-fits a))  -- sub-t8
-    (λ c. let a = c.before.before.before.before in asked ◌+ℤ◌ (low_word a.requires.sum-ok (lit< tt)) (rest a) (low_fits a))  -- add-t9
+    (λ c. asked ◌*ℤ◌ (word c.ranges.x) (word c.ranges.y) (within_fits (small c) (lit< tt)))  -- mul-product
+    (λ c. let a = c.before.before in asked ◌+ℤ◌ (high_word a.requires.sum_ok (lit< tt)) (floor a) (high_fits a))  -- add-t6
+    (λ c. let a = c.before.before in asked ◌*ℤ◌ (floor a) unit_word (scaled_fits a))  -- mul-t7
+    (λ c. let a = c.before.before in asked ◌-ℤ◌ (product a) (scaled a) (rest_fits a))  -- sub-t8
+    (λ c. let a = c.before.before.before.before in asked ◌+ℤ◌ (low_word a.requires.sum_ok (lit< tt)) (rest a) (low_fits a))  -- add-t9
     returns)

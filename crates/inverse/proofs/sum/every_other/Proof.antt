@@ -7,9 +7,9 @@ use mir.Syntax.{w32, w64}
 use mir.Val.{to_z, of_z}
 use Rattle.words.specs.Words.{word}
 use Rattle.inverse.specs.Inverse.{T°}
-use Rattle.whole.proofs.Words.{Word, held, read-widens, read-widened}
+use Rattle.whole.proofs.Words.{Word, held, read_widens, read_widened}
 use Rattle.inverse.specs.Steps.{SumMade}
-use Rattle.inverse.proofs.Adding.{sum-none, sum-ready, sum_more, sum-all, place-start, place-on, place-wave}
+use Rattle.inverse.proofs.Adding.{sum_none, sum_ready, sum_more, sum_all, place_start, place_on, place_wave}
 use Rattle.inverse.proofs.sum.every_other.Statement.{statement}
 use Rattle.inverse.proofs.sum.every_other.Tie as tie
 
@@ -26,41 +26,41 @@ factor : (c : tie.After-c invariant-loop decreases-loop) →
     let k = l.before.args.first + 2 * l.loop.i in
     let x = word l.before.args.coefficients.now k in
     Word w64 (of_z w64 (to_z w32 (of_z w32 x))) x
-factor c = read-widened _ c.c.given
+factor c = read_widened _ c.c.given
 
 wave : (c : tie.After-wave-on-circle invariant-loop decreases-loop) →
     let l = c.before.before.before in
     let k = l.before.args.first + 2 * l.loop.i in
     Word w64 (of_z w64 c.wave-on-circle.result) (T° (l.before.args.turn * k))
-wave c = held c.wave-on-circle.type-inv (place-wave _ _ c.wave-on-circle.ensures c.before.before.before.loop.invariant.1)
+wave c = held c.wave-on-circle.type-inv (place_wave _ _ c.wave-on-circle.ensures c.before.before.before.loop.invariant.1)
 
-loop-again : tie.Need-loop-preserved invariant-loop decreases-loop
-loop-again c =
+loop_again : tie.Need-loop-preserved invariant-loop decreases-loop
+loop_again c =
     let l = c.before.before.before.before in (
       search rules,
-      place-on _ _ _ _ l.loop.invariant.1,
+      place_on _ _ _ _ l.loop.invariant.1,
       sum_more l.loop.invariant.2 (factor c.before.before).is (wave c.before).is c.add-product.ensures,
     )
 
-pub every-other-spec : {M : Type 1} → statement M
-every-other-spec =
+pub every_other_spec : {M : Type 1} → statement M
+every_other_spec =
     tie.close
     (tie.spec
     invariant-loop
     decreases-loop
-    (λ c. record { fits = omega (arith, place-start _ _ c.requires.1.even-or-odd c.requires.1.half-turn) })  -- mul-place
-    (λ c. (search rules, place-start _ _ c.requires.1.even-or-odd c.requires.1.half-turn, sum-none))  -- loop-holds
+    (λ c. record { fits = omega (arith, place_start _ _ c.requires.1.even_or_odd c.requires.1.half_turn) })  -- mul-place
+    (λ c. (search rules, place_start _ _ c.requires.1.even_or_odd c.requires.1.half_turn, sum_none))  -- loop-holds
     (λ c. search rules)  -- mul-c
     (λ c. search rules)  -- add-c
     (λ c. search rules)  -- mul-c-2
     (λ c. search rules)  -- shared-slice-copy-out-c
-    (λ c. search (rules, read-widens))  -- cast-c
+    (λ c. search (rules, read_widens))  -- cast-c
     (λ c κs. search rules)  -- wave-on-circle-requires
     (λ c κs. let l = c.before.before.before in
-    sum-ready l.loop.invariant.2 (factor c.before).is (wave c).is l.before.requires.1 (omega arith))  -- add-product-requires
+    sum_ready l.loop.invariant.2 (factor c.before).is (wave c).is l.before.requires.1 (omega arith))  -- add-product-requires
     (λ c. search rules)  -- mul-place-2
     (λ c. search rules)  -- add-place
     (λ c. search rules)  -- add-i
     (λ c. search rules)  -- loop-less
-    loop-again
-    (λ c. sum-all c.before.loop.invariant.2 (omega arith)))  -- returns
+    loop_again
+    (λ c. sum_all c.before.loop.invariant.2 (omega arith)))  -- returns

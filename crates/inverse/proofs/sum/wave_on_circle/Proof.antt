@@ -5,21 +5,21 @@ use native.Mathlib.Omega.{arith}
 use borrow.Author.Rules.{rules}
 use borrow.Author.Tests.{le-leb, lt-leb}
 use Rattle.whole.proofs.Words.{held}
-use Rattle.circle.specs.Circle.{T, onHalf, onCircle}
+use Rattle.circle.specs.Circle.{T, on_half, on_circle}
 use Rattle.inverse.specs.Inverse.{T°}
 use Rattle.inverse.proofs.sum.wave_on_circle.Statement.{statement}
 use Rattle.inverse.proofs.sum.wave_on_circle.Tie as tie
 
-low : (p : ℕ) → p ≤ 2048 → T° p ≡ onHalf T p
-unfolding T° onCircle
-low p h = rw (le-leb (p % 4096) 2048 (omega arith)) (ap (onHalf T) {x = p % 4096} {y = p} (omega arith))
+low : (p : ℕ) → p ≤ 2048 → T° p ≡ on_half T p
+unfolding T° on_circle
+low p h = rw (le-leb (p % 4096) 2048 (omega arith)) (ap (on_half T) {x = p % 4096} {y = p} (omega arith))
 
-high : (p : ℕ) → 2048 < p → p < 4096 → T° p ≡ onHalf T (4096 - p)
-unfolding T° onCircle
-high p h l = rw (lt-leb (p % 4096) 2048 (omega arith)) (ap (onHalf T) {x = 4096 - p % 4096} {y = 4096 - p} (omega arith))
+high : (p : ℕ) → 2048 < p → p < 4096 → T° p ≡ on_half T (4096 - p)
+unfolding T° on_circle
+high p h l = rw (lt-leb (p % 4096) 2048 (omega arith)) (ap (on_half T) {x = 4096 - p % 4096} {y = 4096 - p} (omega arith))
 
-pub wave-on-circle-spec : {M : Type 1} → statement M
-wave-on-circle-spec =
+pub wave_on_circle_spec : {M : Type 1} → statement M
+wave_on_circle_spec =
     tie.close
     (tie.spec
     (λ c κs. search rules)  -- wave-on-half-requires

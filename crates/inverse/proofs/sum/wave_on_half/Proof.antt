@@ -7,11 +7,11 @@ use lib.IntN.{neg_ℤ}
 use mir.Syntax.{w64}
 use mir.Val.{SFits, of_z}
 use borrow.Author.Rules.{rules}
-use Rattle.whole.proofs.Size.{within-neg, within-fits}
+use Rattle.whole.proofs.Size.{within_neg, within_fits}
 use Rattle.whole.proofs.Words.{Word, held, negates, negated}
 use Rattle.circle.specs.Circle.{T}
-use Rattle.circle.proofs.Places.{half-low, half_high}
-use Rattle.ffct.proofs.Sizes.{entry-within}
+use Rattle.circle.proofs.Places.{half_low, half_high}
+use Rattle.ffct.proofs.Sizes.{entry_within}
 use Rattle.inverse.proofs.sum.wave_on_half.Statement.{statement}
 use Rattle.inverse.proofs.sum.wave_on_half.Tie as tie
 
@@ -20,14 +20,14 @@ entry : (c : tie.After-wave-at2) → Word w64 (of_z w64 c.wave-at2.result) (T (2
 entry c = held c.wave-at2.type-inv c.wave-at2.ensures
 
 fits : (c : tie.After-wave-at2) → SFits w64 (neg_ℤ (T (2048 - c.before.before.args.j)))
-fits c = within-fits (within-neg (entry-within _ (omega arith))) (lit< tt)
+fits c = within_fits (within_neg (entry_within _ (omega arith))) (lit< tt)
 
-pub wave-on-half-spec : {M : Type 1} → statement M
-wave-on-half-spec =
+pub wave_on_half_spec : {M : Type 1} → statement M
+wave_on_half_spec =
     tie.close
     (tie.spec
     (λ c κs. search rules)  -- wave-at-requires
-    (λ c. (held c.wave-at.type-inv c.wave-at.ensures).is ∙ sym (half-low T _ (omega arith)))  -- returns
+    (λ c. (held c.wave-at.type-inv c.wave-at.ensures).is ∙ sym (half_low T _ (omega arith)))  -- returns
     (λ c. search rules)  -- sub-wave-at
     (λ c κs. search rules)  -- wave-at-requires-2
     (λ c. negates (entry c) (fits c))  -- sub-result

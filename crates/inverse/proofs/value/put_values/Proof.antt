@@ -9,15 +9,15 @@ use mir.Val.{to_z, of_z}
 use mir.Facts.{to_z-of_z}
 use borrow.Author.Rules.{rules, sfits_of}
 use Rattle.words.specs.Words.{word}
-use Rattle.words.proofs.Writing.{Ends, ends-none, ends-turn, ends-all, written_one}
-use Rattle.lengths.proofs.ElevenLengths.{from-two, twice_half}
-use Rattle.inverse.specs.Inverse.{inverseDct}
-use Rattle.inverse.proofs.Values.{value-one}
+use Rattle.words.proofs.Writing.{Ends, ends_none, ends_turn, ends_all, written_one}
+use Rattle.lengths.proofs.ElevenLengths.{from_two, twice_half}
+use Rattle.inverse.specs.Inverse.{inverse_dct}
+use Rattle.inverse.proofs.Values.{value_one}
 use Rattle.inverse.proofs.value.put_values.Statement.{statement}
 use Rattle.inverse.proofs.value.put_values.Tie as tie
 
 abbrev invariant-loop : tie.invariant-loop
-invariant-loop coefficients n values₀ wave i₀ values i = (i ≤ n / 2) × Ends (pos 0) 0 i i n (inverseDct n (word coefficients)) values₀ values
+invariant-loop coefficients n values₀ wave i₀ values i = (i ≤ n / 2) × Ends (pos 0) 0 i i n (inverse_dct n (word coefficients)) values₀ values
 
 abbrev decreases-loop : tie.decreases-loop
 decreases-loop coefficients n values₀ wave i₀ values i = n / 2 - i
@@ -31,18 +31,18 @@ far : (c : tie.After-struct-told2 invariant-loop decreases-loop) → let t = c.b
     to_z w32 (of_z w32 t.two-values.result.far) ≡ t.two-values.result.far
 far c = to_z-of_z (sfits_of c.struct-told2.given.1.0.1)
 
-loop-again : tie.Need-loop-preserved invariant-loop decreases-loop
-loop-again c =
+loop_again : tie.Need-loop-preserved invariant-loop decreases-loop
+loop_again c =
     let t = c.before.before in
     let l = t.before.before.before in
     let a = l.before.before.before.args in (
       search rules,
-      ends-turn l.loop.invariant.1 (a.n - 1 - l.loop.i) (omega arith)
-          (near c ∙ t.two-values.ensures.near-is) (far c ∙ t.two-values.ensures.far-is),
+      ends_turn l.loop.invariant.1 (a.n - 1 - l.loop.i) (omega arith)
+          (near c ∙ t.two-values.ensures.near_is) (far c ∙ t.two-values.ensures.far_is),
     )
 
-pub put-values-spec : {M : Type 1} → statement M
-put-values-spec =
+pub put_values_spec : {M : Type 1} → statement M
+put_values_spec =
     tie.close
     (tie.spec
     invariant-loop
@@ -50,9 +50,9 @@ put-values-spec =
     (λ c. search rules)  -- shared-slice-copy-out-values
     (λ c. search rules)  -- slice-set-from-values
     (λ c. search rules)  -- same-length
-    (λ c. rw c.before.if1.true (written_one (omega arith) (to_z-of_z (sfits_of c.c.given) ∙ sym (value-one _))))  -- returns
+    (λ c. rw c.before.if1.true (written_one (omega arith) (to_z-of_z (sfits_of c.c.given) ∙ sym (value_one _))))  -- returns
     (λ c κs. search rules)  -- quarter-wave-requires
-    (λ c. search (rules, ends-none))  -- loop-holds
+    (λ c. search (rules, ends_none))  -- loop-holds
     (λ c κs. (
       c.before.before.before.quarter-wave.ensures,
       record { stored = c.before.before.before.before.before.requires.0; front = omega arith },
@@ -65,8 +65,8 @@ put-values-spec =
     (λ c. let l = c.before.before.before.before.before in simp length-set (omega (arith, l.loop.invariant.1.len)))  -- slice-set-from-far
     (λ c. search rules)  -- add-i
     (λ c. search rules)  -- loop-less
-    loop-again
+    loop_again
     (λ c. search rules)  -- same-length-2
     (λ c. let a = c.before.before.before.before in
-    let two = from-two _ a.requires.0.length-ok c.before.before.before.if1.false in
-    ends-all c.before.loop.invariant.1 (omega (arith, twice_half _ two.0 two.1))))  -- returns-2
+    let two = from_two _ a.requires.0.length_ok c.before.before.before.if1.false in
+    ends_all c.before.loop.invariant.1 (omega (arith, twice_half _ two.0 two.1))))  -- returns-2

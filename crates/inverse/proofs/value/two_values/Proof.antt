@@ -7,11 +7,11 @@ use mir.Syntax.{w32, w64}
 use mir.Val.{to_z, of_z}
 use mir.Facts.{to_z-of_z}
 use borrow.Author.Rules.{rules, sfits_of}
-use Rattle.whole.proofs.Words.{Word, read-widens, read-widened}
+use Rattle.whole.proofs.Words.{Word, read_widens, read_widened}
 use Rattle.words.specs.Words.{word}
-use Rattle.inverse.specs.Inverse.{inverseDct}
+use Rattle.inverse.specs.Inverse.{inverse_dct}
 use Rattle.inverse.specs.Steps.{held, Small, value_of}
-use Rattle.inverse.proofs.ValueRuns.{turn_small, sums-ready, evens-small, odds-small, near-value, far-value, value-ready}
+use Rattle.inverse.proofs.ValueRuns.{turn_small, sums_ready, evens_small, odds_small, near_value, far_value, value_ready}
 use Rattle.inverse.proofs.value.two_values.Statement.{statement}
 use Rattle.inverse.proofs.value.two_values.Tie as tie
 
@@ -22,56 +22,56 @@ module _ (c : tie.After-c) where
   abbrev first : ℤ
   first = word start.args.coefficients.now 0
 
-  first-is : Word w64 (of_z w64 (to_z w32 (of_z w32 first))) first
-  first-is = read-widened _ c.c.given
+  first_is : Word w64 (of_z w64 (to_z w32 (of_z w32 first))) first
+  first_is = read_widened _ c.c.given
 
   small : Small 512 c.before.before.every-other.result × Small 512 c.before.every-other2.result
   small =
       let r = start.pre.1 in
       let e = c.before.before.every-other.ensures in
       let o = c.before.every-other2.ensures in
-      (evens-small r e o, odds-small r e o)
+      (evens_small r e o, odds_small r e o)
 
 near : (c : tie.After-add) → let a = (start c.before).args in
-    value_of (held c.add.result) (first c.before) a.n ≡ inverseDct a.n (word a.coefficients.now) a.i
+    value_of (held c.add.result) (first c.before) a.n ≡ inverse_dct a.n (word a.coefficients.now) a.i
 near c =
     let b = c.before in
-    near-value (start b).requires.1 b.before.before.every-other.ensures b.before.every-other2.ensures c.add.ensures
+    near_value (start b).requires.1 b.before.before.every-other.ensures b.before.every-other2.ensures c.add.ensures
 
 far : (c : tie.After-subtract) → let b = c.before.before.before in let a = (start b).args in
-    value_of (held c.subtract.result) (first b) a.n ≡ inverseDct a.n (word a.coefficients.now) (a.n - 1 - a.i)
+    value_of (held c.subtract.result) (first b) a.n ≡ inverse_dct a.n (word a.coefficients.now) (a.n - 1 - a.i)
 far c =
     let b = c.before.before.before in
-    far-value (start b).requires.1 b.before.before.every-other.ensures b.before.every-other2.ensures c.subtract.ensures
+    far_value (start b).requires.1 b.before.before.every-other.ensures b.before.every-other2.ensures c.subtract.ensures
 
 returns : tie.Need-returns
 returns c =
     let s = c.before in
     let v = s.before in
     let n = (start v.before.before).args.n in
-    let f = (first-is v.before.before).is in
+    let f = (first_is v.before.before).is in
     record {
-      near-is = to_z-of_z (sfits_of v.value.type-inv) ∙ v.value.ensures
+      near_is = to_z-of_z (sfits_of v.value.type-inv) ∙ v.value.ensures
           ∙ ap (λ z. value_of (held v.before.add.result) z n) f ∙ near v.before;
-      far-is = to_z-of_z (sfits_of c.value2.type-inv) ∙ c.value2.ensures ∙ ap (λ z. value_of (held s.subtract.result) z n) f ∙ far s;
+      far_is = to_z-of_z (sfits_of c.value2.type-inv) ∙ c.value2.ensures ∙ ap (λ z. value_of (held s.subtract.result) z n) f ∙ far s;
     }
 
-pub two-values-spec : {M : Type 1} → statement M
-two-values-spec =
+pub two_values_spec : {M : Type 1} → statement M
+two_values_spec =
     tie.close
     (tie.spec
     (λ c. search rules)  -- mul-turn
     (λ c. search rules)  -- add-turn
     (λ c. search rules)  -- div-turn
     (λ c. record { fits = omega (arith, turn_small c.requires.1) })  -- mul-turn-2
-    (λ c κs. (c.requires.0, sums-ready c.requires.1 (omega arith)))  -- every-other-requires
-    (λ c κs. (c.before.requires.0, sums-ready c.before.requires.1 (omega arith)))  -- every-other-requires-2
+    (λ c κs. (c.requires.0, sums_ready c.requires.1 (omega arith)))  -- every-other-requires
+    (λ c κs. (c.before.requires.0, sums_ready c.before.requires.1 (omega arith)))  -- every-other-requires-2
     (λ c. search rules)  -- shared-slice-copy-out-c
-    (λ c. search (rules, read-widens))  -- cast-c
+    (λ c. search (rules, read_widens))  -- cast-c
     (λ c κs. small c)  -- add-requires
-    (λ c κs. let b = c.before in rw (first-is b).is
-    (value-ready (start b).requires.1 c.add.ensures.size (omega (arith, (start b).requires.1.front)) (near c)))  -- value-requires
+    (λ c κs. let b = c.before in rw (first_is b).is
+    (value_ready (start b).requires.1 c.add.ensures.size (omega (arith, (start b).requires.1.front)) (near c)))  -- value-requires
     (λ c κs. small c.before.before)  -- subtract-requires
-    (λ c κs. let b = c.before.before.before in rw (first-is b).is
-    (value-ready (start b).requires.1 c.subtract.ensures.size (omega (arith, (start b).requires.1.front)) (far c)))  -- value-requires-2
+    (λ c κs. let b = c.before.before.before in rw (first_is b).is
+    (value_ready (start b).requires.1 c.subtract.ensures.size (omega (arith, (start b).requires.1.front)) (far c)))  -- value-requires-2
     returns)

@@ -10,13 +10,13 @@ use mir.Syntax.{w64}
 use mir.Val.{SFits, of_z, to_z}
 use borrow.Author.Rules.{rules}
 use Rattle.whole.proofs.Difference.{int}
-use Rattle.whole.proofs.Size.{within-fits}
+use Rattle.whole.proofs.Size.{within_fits}
 use Rattle.whole.proofs.Words.{Word, word, asked, made, shifted, narrows, narrowed, done}
 use Rattle.whole.proofs.Operations.{natural}
-use Rattle.lengths.proofs.ElevenLengths.{is-power, level-le, trailing, length-le, twice_half}
+use Rattle.lengths.proofs.ElevenLengths.{is_power, level_le, trailing, length_le, twice_half}
 use Rattle.inverse.specs.Steps.{held, value_of}
 use Rattle.inverse.proofs.Adding.{high_word, low_word}
-use Rattle.inverse.proofs.Values.{quotient, twice-small, less-small, quotient-small, sum-small, value-is}
+use Rattle.inverse.proofs.Values.{quotient, twice_small, less_small, quotient_small, sum_small, value_is}
 use Rattle.inverse.proofs.value.value.Statement.{statement}
 use Rattle.inverse.proofs.value.value.Tie as tie
 
@@ -30,55 +30,55 @@ module _ (a : tie.Start) where
   zeros = count_trailing_zeros 64 a.args.n
 
   few : zeros ≤ 10
-  few = omega (arith, trailing _ a.pre.length-ok, level-le _ a.pre.length-ok)
+  few = omega (arith, trailing _ a.pre.length_ok, level_le _ a.pre.length_ok)
 
-  few-fits : SFits w64 (pos zeros)
+  few_fits : SFits w64 (pos zeros)
   unfolding int
-  few-fits = (natural {w = w64} {n = zeros} (omega (arith, few))).fits
+  few_fits = (natural {w = w64} {n = zeros} (omega (arith, few))).fits
 
   power : 2 ^ zeros ≡ a.args.n
-  power = ap (λ t. 2 ^ t) (trailing _ a.pre.length-ok) ∙ sym (is-power _ a.pre.length-ok)
+  power = ap (λ t. 2 ^ t) (trailing _ a.pre.length_ok) ∙ sym (is_power _ a.pre.length_ok)
 
-  abbrev twice-bits : ℕ
-  twice-bits = done ◌*ℤ◌ 2 (of_z w64 a.args.sum.high)
+  abbrev twice_bits : ℕ
+  twice_bits = done ◌*ℤ◌ 2 (of_z w64 a.args.sum.high)
 
-  abbrev less-bits : ℕ
-  less-bits = done ◌-ℤ◌ twice-bits (of_z w64 a.args.c)
+  abbrev less_bits : ℕ
+  less_bits = done ◌-ℤ◌ twice_bits (of_z w64 a.args.c)
 
   abbrev low_bits : ℕ
   low_bits = of_z w64 (shr_z (to_z w64 (of_z w64 a.args.sum.low)) (2 ^ 29))
 
-  abbrev sum-bits : ℕ
-  sum-bits = done ◌+ℤ◌ (done ◌+ℤ◌ less-bits low_bits) (a.args.n / halves)
+  abbrev sum_bits : ℕ
+  sum_bits = done ◌+ℤ◌ (done ◌+ℤ◌ less_bits low_bits) (a.args.n / halves)
 
   even : 2 * (a.args.n / halves) ≡ a.args.n
-  even = omega (arith, twice_half _ a.pre.length-ok a.pre.two)
+  even = omega (arith, twice_half _ a.pre.length_ok a.pre.two)
 
   two : Word w64 2 (int 2)
   two = natural (lit< tt)
 
   half : Word w64 (a.args.n / halves) (int (a.args.n / halves))
-  half = natural (omega (arith, length-le _ a.pre.length-ok))
+  half = natural (omega (arith, length_le _ a.pre.length_ok))
 
   low : Word w64 low_bits (shr_z a.args.sum.low (2 ^ 29))
   low = shifted _ (low_word a.pre.size (lit< tt))
 
-  twice : Word w64 twice-bits (int 2 *ℤ a.args.sum.high)
-  twice = made ◌*ℤ◌ two (high_word a.pre.size (lit< tt)) (within-fits (twice-small a.pre) (lit< tt))
+  twice : Word w64 twice_bits (int 2 *ℤ a.args.sum.high)
+  twice = made ◌*ℤ◌ two (high_word a.pre.size (lit< tt)) (within_fits (twice_small a.pre) (lit< tt))
 
-  less : Word w64 less-bits (int 2 *ℤ a.args.sum.high -ℤ a.args.c)
-  less = made ◌-ℤ◌ twice (word a.fits.c) (within-fits (less-small a.pre) (lit< tt))
+  less : Word w64 less_bits (int 2 *ℤ a.args.sum.high -ℤ a.args.c)
+  less = made ◌-ℤ◌ twice (word a.fits.c) (within_fits (less_small a.pre) (lit< tt))
 
-  all : Word w64 (done ◌+ℤ◌ less-bits low_bits) (quotient a.args.sum a.args.c)
-  all = made ◌+ℤ◌ less low (within-fits (quotient-small a.pre) (lit< tt))
+  all : Word w64 (done ◌+ℤ◌ less_bits low_bits) (quotient a.args.sum a.args.c)
+  all = made ◌+ℤ◌ less low (within_fits (quotient_small a.pre) (lit< tt))
 
-  sum : Word w64 sum-bits (quotient a.args.sum a.args.c +ℤ int (a.args.n / halves))
-  sum = made ◌+ℤ◌ all half (within-fits (sum-small a.pre _ even) (lit< tt))
+  sum : Word w64 sum_bits (quotient a.args.sum a.args.c +ℤ int (a.args.n / halves))
+  sum = made ◌+ℤ◌ all half (within_fits (sum_small a.pre _ even) (lit< tt))
 
-  result : Word w64 (of_z w64 (shr_z (to_z w64 sum-bits) (2 ^ zeros)))
+  result : Word w64 (of_z w64 (shr_z (to_z w64 sum_bits) (2 ^ zeros)))
       (value_of (held a.args.sum) a.args.c a.args.n)
-  result = subst (λ v. Word w64 (of_z w64 (shr_z (to_z w64 sum-bits) (2 ^ zeros))) v)
-      (ap (shr_z (quotient a.args.sum a.args.c +ℤ int (a.args.n / halves))) power ∙ value-is a.pre (a.args.n / halves) even)
+  result = subst (λ v. Word w64 (of_z w64 (shr_z (to_z w64 sum_bits) (2 ^ zeros))) v)
+      (ap (shr_z (quotient a.args.sum a.args.c +ℤ int (a.args.n / halves))) power ∙ value_is a.pre (a.args.n / halves) even)
       (shifted (2 ^ zeros) sum)
 
 abbrev start : tie.After-struct-told2 → tie.Start
@@ -89,13 +89,13 @@ value_spec =
     tie.close
     (tie.spec
     (λ c. let a = c.before.before in
-    asked ◌*ℤ◌ (two a) (high_word a.requires.size (lit< tt)) (within-fits (twice-small a.requires) (lit< tt)))  -- mul-quotient
+    asked ◌*ℤ◌ (two a) (high_word a.requires.size (lit< tt)) (within_fits (twice_small a.requires) (lit< tt)))  -- mul-quotient
     (λ c. let a = c.before.before in
-    asked ◌-ℤ◌ (twice a) (word a.ranges.c) (within-fits (less-small a.requires) (lit< tt)))  -- sub-quotient
-    (λ c. asked ◌+ℤ◌ (less (start c)) (low (start c)) (within-fits (quotient-small (start c).requires) (lit< tt)))  -- add-quotient
+    asked ◌-ℤ◌ (twice a) (word a.ranges.c) (within_fits (less_small a.requires) (lit< tt)))  -- sub-quotient
+    (λ c. asked ◌+ℤ◌ (less (start c)) (low (start c)) (within_fits (quotient_small (start c).requires) (lit< tt)))  -- add-quotient
     (λ c. search rules)  -- cast-result
-    (λ c. asked ◌+ℤ◌ (all (start c)) (half (start c)) (within-fits (sum-small (start c).requires _ (even (start c))) (lit< tt)))  -- add-result
-    (λ c. few-fits (start c))  -- cast-result-2
+    (λ c. asked ◌+ℤ◌ (all (start c)) (half (start c)) (within_fits (sum_small (start c).requires _ (even (start c))) (lit< tt)))  -- add-result
+    (λ c. few_fits (start c))  -- cast-result-2
     (λ c. omega (arith, few (start c)))  -- shr-result
     (λ c. narrows (result (start c)) (start c).requires.fits)  -- cast-result-3
     (λ c. narrowed (result (start c)) (start c).requires.fits))  -- returns

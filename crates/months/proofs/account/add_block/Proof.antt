@@ -7,7 +7,7 @@ use mir.Val.{SFits, to_z, of_z}
 use mir.Facts.{to_z-of_z}
 use borrow.Author.Rules.{rules, sfits_of}
 use Rattle.words.specs.Words.{word}
-use Rattle.months.proofs.Blocks.{BothAdded, both-added, number_fits, block-added}
+use Rattle.months.proofs.Blocks.{BothAdded, both_added, number_fits, block_added}
 use Rattle.months.proofs.account.add_block.Statement.{statement}
 use Rattle.months.proofs.account.add_block.Tie as tie
 
@@ -24,7 +24,7 @@ module _ (c : tie.After-account3) where
   -- the words with both rows of sums
   both : BothAdded start.args.length start.args.cosine.now start.args.sine.now
       start.args.account.now second.add-sums2.last.0
-  both = both-added start.pre.0 start.pre.1 first.add-sums.ensures second.add-sums2.ensures
+  both = both_added start.pre.0 start.pre.1 first.add-sums.ensures second.add-sums2.ensures
 
   read : to_z w64 (of_z w64 (word second.add-sums2.last.0 0)) ≡ word second.add-sums2.last.0 0
   read = to_z-of_z (sfits_of c.account3.given)
@@ -32,8 +32,8 @@ module _ (c : tie.After-account3) where
   fits : SFits w64 (word second.add-sums2.last.0 0 +ℤ pos 1)
   fits = number_fits both c.account3.given start.pre.4
 
-pub add-block-spec : {M : Type 1} → statement M
-add-block-spec =
+pub add_block_spec : {M : Type 1} → statement M
+add_block_spec =
     tie.close
     (tie.spec
     (λ c. search rules)  -- add-yields
@@ -43,4 +43,4 @@ add-block-spec =
     (λ c. rw (read c) (fits c))  -- add-account
     (λ c. search rules)  -- slice-set-from-account
     (λ c. length-set (second c).add-sums2.new.0 0 _ ∙ (both c).len)  -- same-length
-    (λ c. block-added (both c) (rw (read c) (to_z-of_z (fits c)))))  -- returns
+    (λ c. block_added (both c) (rw (read c) (to_z-of_z (fits c)))))  -- returns

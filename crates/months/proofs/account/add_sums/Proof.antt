@@ -7,7 +7,7 @@ use mir.Facts.{to_z-of_z}
 use borrow.Author.Rules.{rules, sfits_of}
 use Rattle.whole.proofs.Words.{held}
 use Rattle.words.specs.Words.{word}
-use Rattle.words.proofs.Writing.{Ends, ends-none, ends-front, ends-all}
+use Rattle.words.proofs.Writing.{Ends, ends_none, ends_front, ends_all}
 use Rattle.months.specs.Accounts.{plus}
 use Rattle.months.proofs.account.add_sums.Statement.{statement}
 use Rattle.months.proofs.account.add_sums.Tie as tie
@@ -19,25 +19,25 @@ invariant-loop account₀ at coefficients n k₀ account k =
 abbrev decreases-loop : tie.decreases-loop
 decreases-loop account₀ at coefficients n k₀ account k = n - k
 
-loop-again : tie.Need-loop-preserved invariant-loop decreases-loop
-loop-again c =
+loop_again : tie.Need-loop-preserved invariant-loop decreases-loop
+loop_again c =
     let a = c.before.before in
     let t = a.before.before in
     let p = t.loop.invariant.1 in (
       omega arith,
-      ends-front p (omega arith)
+      ends_front p (omega arith)
           (held c.added.type-inv (c.added.ensures ∙ ap₂ plus
           (to_z-of_z (sfits_of a.added-arg.given) ∙ p.between t.loop.k (omega arith) (omega arith))
           (to_z-of_z (sfits_of c.before.added-arg2.given)))).is,
     )
 
-pub add-sums-spec : {M : Type 1} → statement M
-add-sums-spec =
+pub add_sums_spec : {M : Type 1} → statement M
+add_sums_spec =
     tie.close
     (tie.spec
     invariant-loop
     decreases-loop
-    (λ c. (omega arith, ends-none))  -- loop-holds
+    (λ c. (omega arith, ends_none))  -- loop-holds
     (λ c. search rules)  -- add-added
     (λ c. search rules)  -- mul-added
     (λ c. search rules)  -- shared-slice-copy-out-added
@@ -49,6 +49,6 @@ add-sums-spec =
     (λ c. search rules)  -- slice-set-from-account
     (λ c. search rules)  -- add-k
     (λ c. search rules)  -- loop-less
-    loop-again
+    loop_again
     (λ c. c.before.loop.invariant.1.len)  -- same-length
-    (λ c. ends-all c.before.loop.invariant.1 (omega arith)))  -- returns
+    (λ c. ends_all c.before.loop.invariant.1 (omega arith)))  -- returns

@@ -6,7 +6,7 @@ use borrow.Author.Rules.{rules, sfits_of}
 use Rattle.spectra.specs.Promises.{buffers}
 use Rattle.months.specs.Accounts.{full}
 use Rattle.months.specs.Promises.{Given, given}
-use Rattle.months.proofs.AccountRuns.{is-full, spectrum-refused, add-ready, block_held}
+use Rattle.months.proofs.AccountRuns.{is_full, spectrum_refused, add_ready, block_held}
 use Rattle.months.proofs.account.add_to.Statement.{statement}
 use Rattle.months.proofs.account.add_to.Tie as tie
 
@@ -33,20 +33,20 @@ add_to_spec =
     tie.close
     (tie.spec
     (λ c. search rules)  -- slice-copy-out-if1
-    (λ c. let s = c.before.before in is-full (asked s) s.args.account.now (no_room c))  -- returns
+    (λ c. let s = c.before.before in is_full (asked s) s.args.account.now (no_room c))  -- returns
     (λ c κs. search rules)  -- spectrum-requires
     (λ c. search rules)  -- enum_told
     (λ c. search rules)  -- enum-told-2
     (λ c κs. let t = c.before.before.before in
     let s = t.before.before.before.before.before in
-    let (short, cosines, sines) = add-ready (asked (start s)) (start s).args.account.now
+    let (short, cosines, sines) = add_ready (asked (start s)) (start s).args.account.now
     (room (tested s)) s.spectrum.ensures t.enum-told2.given.1 in
     ((start s).requires, short, cosines, sines, room (tested s)))  -- add-block-requires
     (λ c. search rules)  -- same-length
     (λ c. search rules)  -- same-length-2
     (λ c. search rules)  -- same-length-3
     (λ c. let s = c.before.before.before.before.before in
-    spectrum-refused (asked (start s)) (start s).args.account.now
+    spectrum_refused (asked (start s)) (start s).args.account.now
     (room (tested s)) s.spectrum.ensures c.enum_told.given.1)  -- returns-2
     (λ c. search rules)  -- same-length-4
     (λ c. search rules)  -- same-length-5

@@ -5,7 +5,7 @@ use Prim.Native.Nat.{◌^◌}
 use mir.Facts.{to_z-of_z}
 use borrow.Author.Rules.{rules}
 use Rattle.refusals.specs.Refusals.{at_most}
-use Rattle.months.proofs.Adding.{plus-stays, widens, sum-asked, sum-made}
+use Rattle.months.proofs.Adding.{plus_stays, widens, sum_asked, sum_made}
 use Rattle.months.proofs.account.added.Statement.{statement}
 use Rattle.months.proofs.account.added.Tie as tie
 
@@ -15,12 +15,12 @@ room c = sym (rw (to_z-of_z c.before.before.ranges.sum) at c.before.has_room.ens
 none : (c : tie.Else1) → at_most (2 ^ 62) c.before.before.args.sum ≡ false
 none c = sym (rw (to_z-of_z c.before.before.ranges.sum) at c.before.has_room.ensures) ∙ c.if1.false
 
-pub added-spec : {M : Type 1} → statement M
-added-spec =
+pub added_spec : {M : Type 1} → statement M
+added_spec =
     tie.close
     (tie.spec
     (λ c κs. search rules)  -- has-room-requires
     (λ c. let fits = c.before.before.ranges in widens (room c) fits.sum fits.coefficient)  -- cast-result
-    (λ c. let fits = c.before.before.ranges in sum-asked (room c) fits.sum fits.coefficient)  -- add-result
-    (λ c. let fits = c.before.before.ranges in sum-made (room c) fits.sum fits.coefficient)  -- returns
-    (λ c. rw (to_z-of_z c.before.before.ranges.sum) (sym (plus-stays _ _ (none c)))))  -- returns-2
+    (λ c. let fits = c.before.before.ranges in sum_asked (room c) fits.sum fits.coefficient)  -- add-result
+    (λ c. let fits = c.before.before.ranges in sum_made (room c) fits.sum fits.coefficient)  -- returns
+    (λ c. rw (to_z-of_z c.before.before.ranges.sum) (sym (plus_stays _ _ (none c)))))  -- returns-2

@@ -5,8 +5,8 @@ use Rattle.months.proofs.Parties.{known}
 use Rattle.months.proofs.record.account_at.Statement.{statement}
 use Rattle.months.proofs.record.account_at.Tie as tie
 
-pub account-at-spec : {M : Type 1} → statement M
-account-at-spec =
+pub account_at_spec : {M : Type 1} → statement M
+account_at_spec =
     tie.close
     (tie.spec
     (λ c. omega (arith, known c.args.party c.requires))  -- sub-result

@@ -2,18 +2,18 @@
 use mathlib.Core.Path.{refl}
 use native.Mathlib.Omega.{arith}
 use borrow.Author.Rules.{rules}
-use Rattle.months.proofs.Parties.{account-fits, lent-account}
+use Rattle.months.proofs.Parties.{account_fits, lent_account}
 use Rattle.months.proofs.record.account_of.Statement.{statement}
 use Rattle.months.proofs.record.account_of.Tie as tie
 
-pub account-of-spec : {M : Type 1} → statement M
-account-of-spec =
+pub account_of_spec : {M : Type 1} → statement M
+account_of_spec =
     tie.close
     (tie.spec
     (λ c κs. search rules)  -- account-at-requires
-    (λ c. record { fits = omega (arith, account-fits c.before.args.party c.before.requires.1) })  -- add-to
-    (λ c. record { fits = omega (arith, account-fits c.before.args.party c.before.requires.1) })  -- mul-result
+    (λ c. record { fits = omega (arith, account_fits c.before.args.party c.before.requires.1) })  -- add-to
+    (λ c. record { fits = omega (arith, account_fits c.before.args.party c.before.requires.1) })  -- mul-result
     (λ c. search rules)  -- sub-result
     (λ c. search rules)  -- part-result-start
-    (λ c. omega (arith, account-fits c.before.args.party c.before.requires.1))  -- part-result-end
-    (λ c. lent-account c.before.before.args.party _ c.before.account-at.ensures refl))  -- returns
+    (λ c. omega (arith, account_fits c.before.args.party c.before.requires.1))  -- part-result-end
+    (λ c. lent_account c.before.before.args.party _ c.before.account-at.ensures refl))  -- returns

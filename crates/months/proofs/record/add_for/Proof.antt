@@ -4,7 +4,7 @@ use native.Mathlib.Omega.{arith}
 use borrow.Author.Rules.{rules}
 use Rattle.spectra.specs.Promises.{buffers}
 use Rattle.months.specs.Promises.{Given, given}
-use Rattle.months.proofs.Parties.{account-fits, for-party}
+use Rattle.months.proofs.Parties.{account_fits, for_party}
 use Rattle.months.proofs.record.add_for.Statement.{statement}
 use Rattle.months.proofs.record.add_for.Tie as tie
 
@@ -12,16 +12,16 @@ abbrev asked : tie.Start → Given
 asked c = let a = c.args in
     given a.recording.now a.start a.length a.allowance (buffers a.cosine.now a.sine.now a.scratch.now)
 
-pub add-for-spec : {M : Type 1} → statement M
-add-for-spec =
+pub add_for_spec : {M : Type 1} → statement M
+add_for_spec =
     tie.close
     (tie.spec
     (λ c κs. search rules)  -- account-at-requires
-    (λ c. record { fits = omega (arith, account-fits c.before.args.party c.before.requires.1) })  -- add-to
-    (λ c. record { fits = omega (arith, account-fits c.before.args.party c.before.requires.1) })  -- mul-add-to
+    (λ c. record { fits = omega (arith, account_fits c.before.args.party c.before.requires.1) })  -- add-to
+    (λ c. record { fits = omega (arith, account_fits c.before.args.party c.before.requires.1) })  -- mul-add-to
     (λ c. search rules)  -- sub-add-to
     (λ c. search rules)  -- part-add-to-start
-    (λ c. omega (arith, account-fits c.before.args.party c.before.requires.1))  -- part-add-to-end
+    (λ c. omega (arith, account_fits c.before.args.party c.before.requires.1))  -- part-add-to-end
     (λ c κs. search rules)  -- add-to-requires
     (λ c. search rules)  -- same-length
     (λ c. search rules)  -- same-length-2
@@ -29,5 +29,5 @@ add-for-spec =
     (λ c. search rules)  -- same-length-4
     (λ c. let a = c.before.before.before.before in
     let s = a.before.before.before.before.before.before in
-    for-party s.args.party (asked s) s.args.month.now _ _ _ s.requires.0 s.requires.1
+    for_party s.args.party (asked s) s.args.month.now _ _ _ s.requires.0 s.requires.1
     a.before.before.before.before.before.account-at.ensures refl a.add-to.ensures))  -- returns

@@ -3,23 +3,23 @@ use mathlib.Core.Path.{◌≡◌, sym, ◌∙◌}
 use mathlib.Core.Bool.{true, false}
 use borrow.Author.Rules.{rules}
 use Rattle.spectra.specs.Promises.{buffers}
-use Rattle.months.specs.Months.{unknownParty, otherLength}
+use Rattle.months.specs.Months.{unknown_party, other_length}
 use Rattle.months.specs.Promises.{Given, given}
-use Rattle.months.proofs.AddRuns.{unknown-party, other_length, added-for}
+use Rattle.months.proofs.AddRuns.{unknown_party_lem, other_length_lem, added_for}
 use Rattle.months.proofs.record.add_to.Statement.{statement}
 use Rattle.months.proofs.record.add_to.Tie as tie
 
 -- ---- the month's own tests
-unknown : (c : tie.Then1) → unknownParty c.before.before.args.party ≡ true
+unknown : (c : tie.Then1) → unknown_party c.before.before.args.party ≡ true
 unknown c = sym c.before.is-unknown.ensures ∙ c.if1.true
 
-known : (c : tie.Else1) → unknownParty c.before.before.args.party ≡ false
+known : (c : tie.Else1) → unknown_party c.before.before.args.party ≡ false
 known c = sym c.before.is-unknown.ensures ∙ c.if1.false
 
-other : (c : tie.Then2) → let a = c.before.before.before.before.before.args in otherLength a.month.now a.length ≡ true
+other : (c : tie.Then2) → let a = c.before.before.before.before.before.args in other_length a.month.now a.length ≡ true
 other c = sym c.before.is-other-length.ensures ∙ c.if2.true
 
-own : (c : tie.Else2) → let a = c.before.before.before.before.before.args in otherLength a.month.now a.length ≡ false
+own : (c : tie.Else2) → let a = c.before.before.before.before.before.args in other_length a.month.now a.length ≡ false
 own c = sym c.before.is-other-length.ensures ∙ c.if2.false
 
 abbrev asked : tie.Start → Given
@@ -31,10 +31,10 @@ add_to_spec =
     tie.close
     (tie.spec
     (λ c κs. search rules)  -- is-unknown-requires
-    (λ c. let s = c.before.before in unknown-party s.args.party (asked s) s.args.month.now (unknown c))  -- returns
+    (λ c. let s = c.before.before in unknown_party_lem s.args.party (asked s) s.args.month.now (unknown c))  -- returns
     (λ c κs. search rules)  -- is-other-length-requires
     (λ c. let e = c.before.before.before in
-    let s = e.before.before in other_length s.args.party (asked s) s.args.month.now (known e) (other c))  -- returns-2
+    let s = e.before.before in other_length_lem s.args.party (asked s) s.args.month.now (known e) (other c))  -- returns-2
     (λ c κs. let arg = c.before.before.before in
     (arg.add-for-arg.given.0.1, known arg.before.before.before.before))  -- add-for-requires
     (λ c. search rules)  -- same-length
@@ -44,5 +44,5 @@ add_to_spec =
     let arg = made.before.before.before.before in
     let e = arg.before.before.before.before in
     let s = e.before.before in
-    added-for s.args.party (asked s) s.args.month.now (known e) (own arg.before) _ _ _
+    added_for s.args.party (asked s) s.args.month.now (known e) (own arg.before) _ _ _
     arg.add-for-arg.given.0.1 made.add-for.ensures))  -- returns-3

@@ -4,25 +4,25 @@ use mathlib.Core.Bool.{true, false}
 use native.Mathlib.Omega.{arith}
 use borrow.Author.Rules.{rules}
 use borrow.Author.Tests.{not-true, not-false}
-use Rattle.lengths.specs.Block.{isLength}
-use Rattle.lengths.proofs.ElevenLengths.{length-le}
-use Rattle.months.proofs.Beginning.{mark-fits, begun, not-begun}
+use Rattle.lengths.specs.Block.{is_length}
+use Rattle.lengths.proofs.ElevenLengths.{length_le}
+use Rattle.months.proofs.Beginning.{mark_fits, begun, not_begun}
 use Rattle.months.proofs.record.begin_in.Statement.{statement}
 use Rattle.months.proofs.record.begin_in.Tie as tie
 
-bad : (c : tie.Then1) → isLength c.before.before.before.args.length ≡ false
+bad : (c : tie.Then1) → is_length c.before.before.before.args.length ≡ false
 bad c = sym c.before.is-length.ensures ∙ not-true _ c.if1.true
 
-good : (c : tie.Else1) → isLength c.before.before.before.args.length ≡ true
+good : (c : tie.Else1) → is_length c.before.before.before.args.length ≡ true
 good c = sym c.before.is-length.ensures ∙ not-false _ c.if1.false
 
-pub begin-in-spec : {M : Type 1} → statement M
-begin-in-spec =
+pub begin_in_spec : {M : Type 1} → statement M
+begin_in_spec =
     tie.close
     (tie.spec
     (λ c κs. search rules)  -- is-length-requires
-    (λ c. not-begun _ (bad c))  -- returns
-    (λ c. record { sfits = omega (arith, length-le _ (good c)) })  -- cast-month
-    (λ c. mark-fits _ (good c))  -- add-month
+    (λ c. not_begun _ (bad c))  -- returns
+    (λ c. record { sfits = omega (arith, length_le _ (good c)) })  -- cast-month
+    (λ c. mark_fits _ (good c))  -- add-month
     (λ c. search rules)  -- element-set-from-month
     (λ c. begun _ (good c)))  -- returns-2

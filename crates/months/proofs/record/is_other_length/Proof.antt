@@ -6,8 +6,8 @@ use Rattle.months.specs.Months.{length_of}
 use Rattle.months.proofs.record.is_other_length.Statement.{statement}
 use Rattle.months.proofs.record.is_other_length.Tie as tie
 
-pub is-other-length-spec : {M : Type 1} → statement M
-is-other-length-spec =
+pub is_other_length_spec : {M : Type 1} → statement M
+is_other_length_spec =
     tie.close
     (tie.spec
     (λ c κs. search rules)  -- length-of-requires

@@ -4,8 +4,8 @@ use borrow.Author.Tests.{eq-eqb, ne_eqb}
 use Rattle.months.proofs.record.is_unknown.Statement.{statement}
 use Rattle.months.proofs.record.is_unknown.Tie as tie
 
-pub is-unknown-spec : {M : Type 1} → statement M
-is-unknown-spec =
+pub is_unknown_spec : {M : Type 1} → statement M
+is_unknown_spec =
     tie.close
     (tie.spec
     (λ c. rw (ne_eqb c.before.args.party 1 c.if1.true) refl)  -- returns

@@ -9,9 +9,9 @@ use mir.Syntax.{w64}
 use mir.Val.{SFits, to_z, of_z}
 use mir.Facts.{to_z-of_z}
 use borrow.Author.Rules.{rules}
-use Rattle.lengths.specs.Block.{isLength}
+use Rattle.lengths.specs.Block.{is_length}
 use Rattle.months.specs.Months.{marked}
-use Rattle.months.proofs.Lengths.{below-mark, beside, beside-fits, in-good, in-bad}
+use Rattle.months.proofs.Lengths.{below_mark, beside, beside_fits, in_good, in_bad}
 use Rattle.months.proofs.record.length_in.Statement.{statement}
 use Rattle.months.proofs.record.length_in.Tie as tie
 
@@ -24,21 +24,21 @@ module _ (c : tie.Else1) where
 
   -- what stands beside the mark, as it is read
   value : to_z w64 (of_z w64 (to_z w64 (of_z w64 c.before.args.mark) -ℤ pos (marked 0))) ≡ pos (nat_abs c.before.args.mark - marked 0)
-  value = rw (to_z-of_z fits) (to_z-of_z (beside-fits c.before.args.mark fits from) ∙ beside c.before.args.mark from)
+  value = rw (to_z-of_z fits) (to_z-of_z (beside_fits c.before.args.mark fits from) ∙ beside c.before.args.mark from)
 
-told : (c : tie.Then2) → isLength (nat_abs c.before.before.before.args.mark - marked 0) ≡ true
+told : (c : tie.Then2) → is_length (nat_abs c.before.before.before.args.mark - marked 0) ≡ true
 told c = sym (rw (value c.before.before) at c.before.is-length.ensures) ∙ c.if2.true
 
-untold : (c : tie.Else2) → isLength (nat_abs c.before.before.before.args.mark - marked 0) ≡ false
+untold : (c : tie.Else2) → is_length (nat_abs c.before.before.before.args.mark - marked 0) ≡ false
 untold c = sym (rw (value c.before.before) at c.before.is-length.ensures) ∙ c.if2.false
 
-pub length-in-spec : {M : Type 1} → statement M
-length-in-spec =
+pub length_in_spec : {M : Type 1} → statement M
+length_in_spec =
     tie.close
     (tie.spec
-    (λ c. below-mark c.before.args.mark (rw (to_z-of_z c.before.ranges.mark) at c.if1.true))  -- returns
-    (λ c. rw (to_z-of_z (fits c)) (beside-fits c.before.args.mark (fits c) (from c)))  -- sub-length
+    (λ c. below_mark c.before.args.mark (rw (to_z-of_z c.before.ranges.mark) at c.if1.true))  -- returns
+    (λ c. rw (to_z-of_z (fits c)) (beside_fits c.before.args.mark (fits c) (from c)))  -- sub-length
     (λ c. rw (value c) (tt, record { fits = omega (arith, nat_abs-le c.before.args.mark (fits c).sfits) }))  -- cast-length
     (λ c κs. search rules)  -- is-length-requires
-    (λ c. let e = c.before.before in rw (value e) (in-good e.before.args.mark (from e) (told c)))  -- returns-2
-    (λ c. in-bad c.before.before.before.args.mark (untold c)))  -- returns-3
+    (λ c. let e = c.before.before in rw (value e) (in_good e.before.args.mark (from e) (told c)))  -- returns-2
+    (λ c. in_bad c.before.before.before.args.mark (untold c)))  -- returns-3

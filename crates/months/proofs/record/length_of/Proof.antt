@@ -1,14 +1,14 @@
 -- `months::record::length_of` meets its contract. Assumes nothing.
 use mir.Facts.{to_z-of_z}
 use borrow.Author.Rules.{rules, sfits_of}
-use Rattle.months.proofs.Lengths.{length-in}
+use Rattle.months.proofs.Lengths.{length_in_lem}
 use Rattle.months.proofs.record.length_of.Statement.{statement}
 use Rattle.months.proofs.record.length_of.Tie as tie
 
-pub length-of-spec : {M : Type 1} → statement M
-length-of-spec =
+pub length_of_spec : {M : Type 1} → statement M
+length_of_spec =
     tie.close
     (tie.spec
     (λ c. search rules)  -- element-copy-out-length-in
     (λ c κs. search rules)  -- length-in-requires
-    (λ c. length-in _ (rw (to_z-of_z (sfits_of c.before.length-in-arg.given)) at c.length-in.ensures)))  -- returns
+    (λ c. length_in_lem _ (rw (to_z-of_z (sfits_of c.before.length-in-arg.given)) at c.length_in_lem.ensures)))  -- returns

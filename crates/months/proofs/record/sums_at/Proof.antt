@@ -5,17 +5,17 @@ use Prim.Native.Nat.{◌/◌, ◌≤◌}
 use native.Mathlib.Omega.{arith}
 use lib.ListN.{length}
 use borrow.Author.Rules.{rules}
-use Rattle.months.specs.Months.{length_of, unknownParty}
-use Rattle.months.proofs.Lengths.{length-small}
-use Rattle.months.proofs.Parties.{account-length}
-use Rattle.months.proofs.Reading.{no-party, no_length, beyond, sums-told}
+use Rattle.months.specs.Months.{length_of, unknown_party}
+use Rattle.months.proofs.Lengths.{length_small}
+use Rattle.months.proofs.Parties.{account_length}
+use Rattle.months.proofs.Reading.{no_party, no_length, beyond, sums_told}
 use Rattle.months.proofs.record.sums_at.Statement.{statement}
 use Rattle.months.proofs.record.sums_at.Tie as tie
 
-unknown : (c : tie.Then1) → unknownParty c.before.before.args.party ≡ true
+unknown : (c : tie.Then1) → unknown_party c.before.before.args.party ≡ true
 unknown c = sym c.before.is-unknown.ensures ∙ c.if1.true
 
-known : (c : tie.Else1) → unknownParty c.before.before.args.party ≡ false
+known : (c : tie.Else1) → unknown_party c.before.before.args.party ≡ false
 known c = sym c.before.is-unknown.ensures ∙ c.if1.false
 
 -- a length that is not 0
@@ -26,12 +26,12 @@ some c e = c.if2.false (c.before.length-of.ensures ∙ e)
 yielded : (c : tie.Else3) → let a = c.before.before.before.before.before.args in a.k ≤ length_of a.month.now / 2
 yielded c = rw c.before.before.length-of.ensures at c.if3.false
 
-pub sums-at-spec : {M : Type 1} → statement M
-sums-at-spec =
+pub sums_at_spec : {M : Type 1} → statement M
+sums_at_spec =
     tie.close
     (tie.spec
     (λ c κs. search rules)  -- is-unknown-requires
-    (λ c. no-party c.before.before.args.party _ _ (unknown c))  -- returns
+    (λ c. no_party c.before.before.args.party _ _ (unknown c))  -- returns
     (λ c κs. search rules)  -- length-of-requires
     (λ c. let e = c.before.before in
     no_length e.before.before.args.party _ _ (known e) (sym c.before.length-of.ensures ∙ c.if2.true))  -- returns-2
@@ -40,11 +40,11 @@ sums-at-spec =
     (rw c.before.before.length-of.ensures at c.if3.true))  -- returns-3
     (λ c κs. (c.account-of-arg.given.0, known c.before.before.before.before))  -- account-of-requires
     (λ c κs. let arg = c.before in (
-      ap length c.account-of.ensures ∙ account-length _ _ arg.account-of-arg.given.0 (known arg.before.before.before.before),
-      omega (arith, yielded arg.before, length-small arg.before.before.before.before.before.before.args.month.now),
+      ap length c.account-of.ensures ∙ account_length _ _ arg.account-of-arg.given.0 (known arg.before.before.before.before),
+      omega (arith, yielded arg.before, length_small arg.before.before.before.before.before.before.args.month.now),
     ))  -- sums-at-requires
     (λ c. let of = c.before in
     let y = of.before.before in
     let e = y.before.before.before in
-    sums-told e.before.before.args.party _ _ (known e) (some y.before) (yielded y)
+    sums_told e.before.before.args.party _ _ (known e) (some y.before) (yielded y)
     (rw of.account-of.ensures at c.sums_at.ensures)))  -- returns-4

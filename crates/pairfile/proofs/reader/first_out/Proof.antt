@@ -4,40 +4,40 @@ use Prim.Native.Nat.{◌-◌, ◌≤◌}
 use native.Mathlib.Omega.{arith}
 use mir.Facts.{to_z-of_z}
 use borrow.Author.Rules.{rules, sfits_of}
-use Rattle.lengths.specs.Block.{largestSample}
+use Rattle.lengths.specs.Block.{largest_sample}
 use Rattle.refusals.specs.Refusals.{in_range}
-use Rattle.refusals.proofs.Passes.{Looked, looked-none, looked-on, looked-out, looked-all}
-use Rattle.pairfile.specs.File.{samplesAt}
+use Rattle.refusals.proofs.Passes.{Looked, looked_none, looked_on, looked_out, looked_all}
+use Rattle.pairfile.specs.File.{samples_at}
 use Rattle.pairfile.proofs.reader.first_out.Statement.{statement}
 use Rattle.pairfile.proofs.reader.first_out.Tie as tie
 
 abbrev invariant-loop : tie.invariant-loop
-invariant-loop file start m looks₀ i₀ looks i = (i ≤ m) × Looked largestSample (samplesAt file start) 0 i looks
+invariant-loop file start m looks₀ i₀ looks i = (i ≤ m) × Looked largest_sample (samples_at file start) 0 i looks
 
 abbrev decreases-loop : tie.decreases-loop
 decreases-loop file start m looks₀ i₀ looks i = m - i
 
 -- what a turn's look tells of its sample
 looked : (c : tie.After-in-range invariant-loop decreases-loop) → let args = c.before.before.before.before.before.args in
-    c.in-range.result ≡ in_range (samplesAt args.file.now args.start c.before.before.before.loop.i)
-looked c = c.in-range.ensures ∙ ap in_range (to_z-of_z (sfits_of c.before.signed-at.type-inv) ∙ c.before.signed-at.ensures)
+    c.in_range_lem.result ≡ in_range (samples_at args.file.now args.start c.before.before.before.loop.i)
+looked c = c.in_range_lem.ensures ∙ ap in_range (to_z-of_z (sfits_of c.before.signed-at.type-inv) ∙ c.before.signed-at.ensures)
 
-pub first-out-spec : {M : Type 1} → statement M
-first-out-spec =
+pub first_out_spec : {M : Type 1} → statement M
+first_out_spec =
     tie.close
     (tie.spec
     invariant-loop
     decreases-loop
-    (λ c. search (rules, looked-none))  -- loop-holds
+    (λ c. search (rules, looked_none))  -- loop-holds
     (λ c. search rules)  -- mul-signed-at
     (λ c. search rules)  -- add-signed-at
     (λ c κs. search rules)  -- signed-at-requires
     (λ c. search rules)  -- add-looks
     (λ c κs. search rules)  -- in-range-requires
     (λ c. let l = c.before.before.before.before in
-    looked-out l.loop.invariant.1 (omega arith) (omega arith) (omega arith) (looked c.before) c.if1.true)  -- returns
+    looked_out l.loop.invariant.1 (omega arith) (omega arith) (omega arith) (looked c.before) c.if1.true)  -- returns
     (λ c. search rules)  -- add-i
     (λ c. search rules)  -- loop-less
     (λ c. let l = c.before.before.before.before in
-    (omega arith, looked-on l.loop.invariant.1 (omega arith) (looked c.before) c.if1.false))  -- loop-again
-    (λ c. looked-all c.before.loop.invariant.1 (omega arith)))  -- returns-2
+    (omega arith, looked_on l.loop.invariant.1 (omega arith) (looked c.before) c.if1.false))  -- loop-again
+    (λ c. looked_all c.before.loop.invariant.1 (omega arith)))  -- returns-2

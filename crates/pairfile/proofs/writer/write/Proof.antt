@@ -4,41 +4,41 @@ use Prim.Native.Nat.{◌≤◌}
 use native.Mathlib.Omega.{arith}
 use lib.ListN.{length}
 use borrow.Author.Rules.{rules}
-use Rattle.pairfile.proofs.Verdicts.{good-count}
-use Rattle.pairfile.proofs.WriteVerdicts.{count-bad, differ, bad-length, a-out, b-out, too_short, Writable, all-passed}
+use Rattle.pairfile.proofs.Verdicts.{good_count}
+use Rattle.pairfile.proofs.WriteVerdicts.{count_bad, differ, bad_length, a_out, b_out, too_short, Writable, all_passed}
 use Rattle.pairfile.proofs.writer.write.Statement.{statement}
 use Rattle.pairfile.proofs.writer.write.Tie as tie
 
 -- behind the test of the count it is from 1 to 4,096
 counted : (c : tie.Else1) → let m = length c.before.before.before.args.a.now in (1 ≤ m) × (m ≤ 4096)
-counted c = good-count _ (sym c.before.bad-count.ensures ∙ c.if1.false)
+counted c = good_count _ (sym c.before.bad-count.ensures ∙ c.if1.false)
 
 -- behind the last test, where less is at hand to search than behind the stores
-is-writable : (c : tie.Else4) →
+is_writable : (c : tie.Else4) →
     let s = c.before.before.before.before.before.before.before.before.before.before.before.before.before.args in
     Writable s.a.now s.b.now s.length s.file.now
-is-writable c = search (rules, all-passed)
+is_writable c = search (rules, all_passed)
 
 pub write_spec : {M : Type 1} → statement M
 write_spec =
     tie.close
     (tie.spec
     (λ c κs. search rules)  -- bad-count-requires
-    (λ c. search (rules, count-bad))  -- returns
+    (λ c. search (rules, count_bad))  -- returns
     (λ c. search (rules, differ, c.if2.true))  -- returns-2
     (λ c κs. search rules)  -- is-length-requires
-    (λ c. search (rules, bad-length))  -- returns-3
+    (λ c. search (rules, bad_length))  -- returns-3
     (λ c κs. search rules)  -- first-out-requires
     (λ c. search rules)  -- enum-known-first-out
-    (λ c. search (rules, a-out))  -- returns-4
+    (λ c. search (rules, a_out))  -- returns-4
     (λ c. search rules)  -- enum-told
     (λ c κs. search rules)  -- first-out-requires-2
     (λ c. search rules)  -- enum-known-first-out-2
-    (λ c. search (rules, b-out))  -- returns-5
+    (λ c. search (rules, b_out))  -- returns-5
     (λ c. search rules)  -- enum-told-2
     (λ c. record { fits = omega (arith, counted c.before.before.before.before.before.before.before.before.before) })  -- mul-if4
     (λ c. record { fits = omega (arith, counted c.before.before.before.before.before.before.before.before.before) })  -- add-if4
     (λ c. search (rules, too_short))  -- returns-6
-    (λ c κs. (is-writable c.before).ready)  -- put-file-requires
+    (λ c κs. (is_writable c.before).ready)  -- put-file-requires
     (λ c. search rules)  -- same-length
-    (λ c. (is-writable c.before.before.before.before).writes c.before.before.put-file.ensures))  -- returns-7
+    (λ c. (is_writable c.before.before.before.before).writes c.before.before.put-file.ensures))  -- returns-7

@@ -6,7 +6,7 @@ use Prim.Native.Nat.{ℕ, ◌+◌, ◌-◌, ◌≤◌}
 use native.Mathlib.Omega.{arith}
 use lib.Dec.{ltb}
 use borrow.Author.Tests.{lt-ltb, le-ltb}
-use Rattle.whole.proofs.Cases.{le-or-lt}
+use Rattle.whole.proofs.Cases.{le_or_lt}
 use Rattle.refusals.proofs.length.reaches_beyond.Statement.{statement}
 use Rattle.refusals.proofs.length.reaches_beyond.Tie as tie
 
@@ -14,10 +14,10 @@ same_test : (start n len : ℕ) → n ≤ len → ltb (len - n) start ≡ ltb le
 same_test start n len h = ⊎_elim
     (λ l. rw (le-ltb (len - n) start l, le-ltb len (start + n) (omega arith)))
     (λ l. rw (lt-ltb (len - n) start l, lt-ltb len (start + n) (omega arith)))
-    (le-or-lt start (len - n))
+    (le_or_lt start (len - n))
 
-pub reaches-beyond-spec : {M : Type 1} → statement M
-reaches-beyond-spec =
+pub reaches_beyond_spec : {M : Type 1} → statement M
+reaches_beyond_spec =
     tie.close
     (tie.spec
     (λ c. let a = c.before.args in sym (lt-ltb a.len (a.start + a.n) (omega arith)))  -- returns

@@ -7,34 +7,34 @@ use mir.Val.{SFits, to_z, of_z}
 use mir.Facts.{to_z-of_z}
 use borrow.Author.Rules.{rules}
 use Rattle.whole.proofs.Difference.{int}
-use Rattle.whole.proofs.Size.{within-int, within-neg, within-fits}
+use Rattle.whole.proofs.Size.{within_int, within_neg, within_fits}
 use Rattle.whole.proofs.Words.{negates, negated}
 use Rattle.whole.proofs.Operations.{natural}
-use Rattle.refusals.proofs.Ranges.{high-decides, too-low}
+use Rattle.refusals.proofs.Ranges.{high_decides, too_low}
 use Rattle.refusals.proofs.range.at_most.Statement.{statement}
 use Rattle.refusals.proofs.range.at_most.Tie as tie
 
 -- ---- the negative of the limit
 module _ {m : ℕ} (l : m < 2 ^ 31) where
   low : SFits w32 (neg_ℤ (int m))
-  low = within-fits (within-neg (within-int m)) l
+  low = within_fits (within_neg (within_int m)) l
 
-  low-is : to_z w32 (of_z w32 (pos 0 -ℤ to_z w32 m)) ≡ neg_ℤ (pos m)
+  low_is : to_z w32 (of_z w32 (pos 0 -ℤ to_z w32 m)) ≡ neg_ℤ (pos m)
   unfolding int
-  low-is = (negated (natural l) low).is
+  low_is = (negated (natural l) low).is
 
 returns : tie.Need-returns
 unfolding int
 returns c =
     rw (to_z-of_z c.before.ranges.x, (natural c.before.requires).is)
-    (high-decides c.before.args.limit c.before.args.x
-    (rw (to_z-of_z c.before.ranges.x, low-is c.before.requires) at c.if1.true))
+    (high_decides c.before.args.limit c.before.args.x
+    (rw (to_z-of_z c.before.ranges.x, low_is c.before.requires) at c.if1.true))
 
 returns-2 : tie.Need-returns-2
 returns-2 c =
     c.if1.false
-    ∙ too-low c.before.args.limit c.before.args.x
-    (rw (to_z-of_z c.before.ranges.x, low-is c.before.requires) at c.if1.false)
+    ∙ too_low c.before.args.limit c.before.args.x
+    (rw (to_z-of_z c.before.ranges.x, low_is c.before.requires) at c.if1.false)
 
-pub at-most-spec : {M : Type 1} → statement M
-at-most-spec = tie.close (tie.spec (λ c. search rules) (λ c. negates (natural c.requires) (low c.requires)) returns returns-2)
+pub at_most_spec : {M : Type 1} → statement M
+at_most_spec = tie.close (tie.spec (λ c. search rules) (λ c. negates (natural c.requires) (low c.requires)) returns returns-2)

@@ -6,7 +6,7 @@ use mir.Facts.{to_z-of_z}
 use borrow.Author.Rules.{rules, sfits_of}
 use Rattle.words.specs.Words.{word}
 use Rattle.refusals.specs.Refusals.{at_most}
-use Rattle.refusals.proofs.Passes.{Looked, looked-none, looked-on, looked-out, looked-all}
+use Rattle.refusals.proofs.Passes.{Looked, looked_none, looked_on, looked_out, looked_all}
 use Rattle.refusals.proofs.range.first_beyond.Statement.{statement}
 use Rattle.refusals.proofs.range.first_beyond.Tie as tie
 
@@ -18,25 +18,25 @@ decreases-loop limit words start n end looks₀ i₀ looks i = end - i
 
 -- what a turn's look tells of its word
 looked : (c : tie.After-at-most invariant-loop decreases-loop) → let l = c.before.before.before in
-    c.at-most.result ≡ at_most l.before.args.limit (word l.before.args.words.now l.loop.i)
-looked c = rw (to_z-of_z (sfits_of c.before.x.given)) at c.at-most.ensures
+    c.at_most_lem.result ≡ at_most l.before.args.limit (word l.before.args.words.now l.loop.i)
+looked c = rw (to_z-of_z (sfits_of c.before.x.given)) at c.at_most_lem.ensures
 
-pub first-beyond-spec : {M : Type 1} → statement M
-first-beyond-spec =
+pub first_beyond_spec : {M : Type 1} → statement M
+first_beyond_spec =
     tie.close
     (tie.spec
     invariant-loop
     decreases-loop
     (λ c. search rules)  -- add-end
-    (λ c. search (rules, looked-none))  -- loop-holds
+    (λ c. search (rules, looked_none))  -- loop-holds
     (λ c. search rules)  -- mul-x
     (λ c. search rules)  -- shared-slice-copy-out-x
     (λ c. search rules)  -- add-looks
     (λ c κs. search rules)  -- at-most-requires
     (λ c. let l = c.before.before.before.before in
-    looked-out l.loop.invariant.1 (omega arith) (omega arith) (omega arith) (looked c.before) c.if1.true)  -- returns
+    looked_out l.loop.invariant.1 (omega arith) (omega arith) (omega arith) (looked c.before) c.if1.true)  -- returns
     (λ c. search rules)  -- add-i
     (λ c. search rules)  -- loop-less
     (λ c. let l = c.before.before.before.before in
-    (omega arith, looked-on l.loop.invariant.1 (omega arith) (looked c.before) c.if1.false))  -- loop-again
-    (λ c. looked-all c.before.loop.invariant.1 (omega arith)))  -- returns-2
+    (omega arith, looked_on l.loop.invariant.1 (omega arith) (looked c.before) c.if1.false))  -- loop-again
+    (λ c. looked_all c.before.loop.invariant.1 (omega arith)))  -- returns-2

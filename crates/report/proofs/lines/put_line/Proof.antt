@@ -1,20 +1,20 @@
 -- `report::lines::put_line` meets its contract: its four numbers and what ends them are the line. Assumes nothing.
 use borrow.Author.Rules.{rules}
-use Rattle.report.proofs.LineRuns.{block-ready, k-ready, re-ready, im-ready, line-put}
+use Rattle.report.proofs.LineRuns.{block_ready, k_ready, re_ready, im_ready, line_put}
 use Rattle.report.proofs.lines.put_line.Statement.{statement}
 use Rattle.report.proofs.lines.put_line.Tie as tie
 
-pub put-line-spec : {M : Type 1} → statement M
-put-line-spec =
+pub put_line_spec : {M : Type 1} → statement M
+put_line_spec =
     tie.close
     (tie.spec
     (λ c. search rules)  -- slice-aggregate-put-number
-    (λ c κs. search (rules, block-ready))  -- put-number-requires
+    (λ c κs. search (rules, block_ready))  -- put-number-requires
     (λ c. search rules)  -- slice-aggregate-put-number-2
-    (λ c κs. search (rules, k-ready))  -- put-number-requires-2
+    (λ c κs. search (rules, k_ready))  -- put-number-requires-2
     (λ c. search rules)  -- slice-aggregate-put-decimal
-    (λ c κs. search (rules, re-ready))  -- put-decimal-requires
+    (λ c κs. search (rules, re_ready))  -- put-decimal-requires
     (λ c. search rules)  -- slice-aggregate-put-decimal-2
-    (λ c κs. search (rules, im-ready))  -- put-decimal-requires-2
+    (λ c κs. search (rules, im_ready))  -- put-decimal-requires-2
     (λ c. search rules)  -- same-length
-    (λ c. search (rules, line-put)))  -- returns
+    (λ c. search (rules, line_put)))  -- returns

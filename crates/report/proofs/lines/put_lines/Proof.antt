@@ -2,7 +2,7 @@
 use Prim.Native.Nat.{◌-◌, ◌≤◌}
 use borrow.Author.Rules.{rules}
 use Rattle.words.specs.Words.{word}
-use Rattle.report.proofs.LineRuns.{LinesPut, no_lines, line-ready, line-more, all_lines}
+use Rattle.report.proofs.LineRuns.{LinesPut, no_lines, line_ready, line_more, all_lines}
 use Rattle.report.proofs.lines.put_lines.Statement.{statement}
 use Rattle.report.proofs.lines.put_lines.Tie as tie
 
@@ -13,8 +13,8 @@ invariant-loop block real imaginary n page₀ at next₀ k₀ page next k =
 abbrev decreases-loop : tie.decreases-loop
 decreases-loop block real imaginary n page₀ at next₀ k₀ page next k = n - k
 
-pub put-lines-spec : {M : Type 1} → statement M
-put-lines-spec =
+pub put_lines_spec : {M : Type 1} → statement M
+put_lines_spec =
     tie.close
     (tie.spec
     invariant-loop
@@ -24,9 +24,9 @@ put-lines-spec =
     (λ c. search rules)  -- shared-slice-copy-out-re
     (λ c. search rules)  -- mul-im
     (λ c. search rules)  -- shared-slice-copy-out-im
-    (λ c κs. search (rules, line-ready))  -- put-line-requires
+    (λ c κs. search (rules, line_ready))  -- put-line-requires
     (λ c. search rules)  -- add-k
     (λ c. search rules)  -- loop-less
-    (λ c. search (rules, line-more))  -- loop-again
+    (λ c. search (rules, line_more))  -- loop-again
     (λ c. search rules)  -- same-length
     (λ c. search (rules, all_lines)))  -- returns

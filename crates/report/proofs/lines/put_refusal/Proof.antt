@@ -1,16 +1,16 @@
 -- `report::lines::put_refusal` meets its contract: the word, the number and the line feed. Assumes nothing.
 use borrow.Author.Rules.{rules}
-use Rattle.report.proofs.LineRuns.{number-ready, refusal-put}
+use Rattle.report.proofs.LineRuns.{number_ready, refusal_put}
 use Rattle.report.proofs.lines.put_refusal.Statement.{statement}
 use Rattle.report.proofs.lines.put_refusal.Tie as tie
 
-pub put-refusal-spec : {M : Type 1} → statement M
-put-refusal-spec =
+pub put_refusal_spec : {M : Type 1} → statement M
+put_refusal_spec =
     tie.close
     (tie.spec
     (λ c. search rules)  -- slice-aggregate-put
     (λ c κs. search rules)  -- put-requires
     (λ c. search rules)  -- slice-aggregate-put-number
-    (λ c κs. search (rules, number-ready))  -- put-number-requires
+    (λ c κs. search (rules, number_ready))  -- put-number-requires
     (λ c. search rules)  -- same-length
-    (λ c. search (rules, refusal-put)))  -- returns
+    (λ c. search (rules, refusal_put)))  -- returns

@@ -1,15 +1,15 @@
 -- `spectra::marks::all_within` meets its contract. Assumes nothing.
 use borrow.Author.Rules.{rules}
-use Rattle.spectra.proofs.MarkRules.{all-by, not-all-by}
+use Rattle.spectra.proofs.MarkRules.{all_by, not_all_by}
 use Rattle.spectra.proofs.marks.all_within.Statement.{statement}
 use Rattle.spectra.proofs.marks.all_within.Tie as tie
 
-pub all-within-spec : {M : Type 1} → statement M
-all-within-spec =
+pub all_within_spec : {M : Type 1} → statement M
+all_within_spec =
     tie.close
     (tie.spec
     (λ c κs. search rules)  -- first-beyond-requires
     (λ c. search rules)  -- enum_told
     (λ c. search rules)  -- enum-told-2
-    (λ c. all-by _ _ c.before.before.first-beyond.ensures c.enum_told.given.1)  -- returns
-    (λ c. not-all-by _ _ c.before.before.first-beyond.ensures c.enum-told2.given.1))  -- returns-2
+    (λ c. all_by _ _ c.before.before.first_beyond_lem.ensures c.enum_told.given.1)  -- returns
+    (λ c. not_all_by _ _ c.before.before.first_beyond_lem.ensures c.enum-told2.given.1))  -- returns-2

@@ -4,9 +4,9 @@ use Rattle.spectra.specs.Marks.{mark}
 use Rattle.spectra.proofs.marks.mark_by.Statement.{statement}
 use Rattle.spectra.proofs.marks.mark_by.Tie as tie
 
-pub mark-by-spec : {M : Type 1} → statement M
+pub mark_by_spec : {M : Type 1} → statement M
 unfolding mark
-mark-by-spec =
+mark_by_spec =
     tie.close
     (tie.spec
     (λ c κs. search rules)  -- is-flat-requires

@@ -1,17 +1,17 @@
 -- `text::columns::put_right` meets its contract: the spaces, then the text. Assumes nothing.
 use borrow.Author.Rules.{rules}
-use Rattle.text.proofs.Alignment.{spaces-count, spaces-ready, text-ready, right-put}
+use Rattle.text.proofs.Alignment.{spaces_count, spaces_ready, text_ready, right_put}
 use Rattle.text.proofs.columns.put_right.Statement.{statement}
 use Rattle.text.proofs.columns.put_right.Tie as tie
 
-pub put-right-spec : {M : Type 1} → statement M
-put-right-spec =
+pub put_right_spec : {M : Type 1} → statement M
+put_right_spec =
     tie.close
     (tie.spec
     (λ c. search rules)  -- sub-spaces
     (λ c. search rules)  -- array-share-prefix-spaces
-    (λ c. search (rules, spaces-count))  -- slice-aggregate-put
-    (λ c κs. search (rules, spaces-ready))  -- put-requires
-    (λ c κs. search (rules, text-ready))  -- put-requires-2
+    (λ c. search (rules, spaces_count))  -- slice-aggregate-put
+    (λ c κs. search (rules, spaces_ready))  -- put-requires
+    (λ c κs. search (rules, text_ready))  -- put-requires-2
     (λ c. search rules)  -- same-length
-    (λ c. search (rules, right-put)))  -- returns
+    (λ c. search (rules, right_put)))  -- returns

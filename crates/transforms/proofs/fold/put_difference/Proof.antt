@@ -21,10 +21,10 @@ difference : (c : tie.After-second) →
     Computes ◌-ℤ◌ (of_z w64 x) (of_z w64 y) x y
 difference c =
     let p = c.before.before.requires in
-    subtracted (held c.before.first.given refl) (held c.second.given refl) (omega (arith, p.x-small)) (omega (arith, p.y-small))
+    subtracted (held c.before.first.given refl) (held c.second.given refl) (omega (arith, p.x_small)) (omega (arith, p.y_small))
 
-pub put-difference-spec : {M : Type 1} → statement M
-put-difference-spec =
+pub put_difference_spec : {M : Type 1} → statement M
+put_difference_spec =
     tie.close
     (tie.spec
     (λ c. search rules)  -- mul-first

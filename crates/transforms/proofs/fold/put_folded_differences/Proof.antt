@@ -7,17 +7,17 @@ use borrow.Author.Rules.{rules}
 use lib.IntN.{pos}
 use Rattle.counts.specs.Tally.{Summed}
 use Rattle.words.specs.Words.{word}
-use Rattle.words.proofs.Writing.{Ends, ends-none, ends-all}
-use Rattle.ffct.specs.Transforms.{foldedDifferences}
+use Rattle.words.proofs.Writing.{Ends, ends_none, ends_all}
+use Rattle.ffct.specs.Transforms.{folded_differences}
 use Rattle.transforms.specs.Pairs.{paired}
-use Rattle.transforms.proofs.Folding.{place, inside, beside-ready, even-more, odd-more}
+use Rattle.transforms.proofs.Folding.{place, inside, beside_ready, even_more, odd_more}
 use Rattle.transforms.proofs.fold.put_folded_differences.Statement.{statement}
 use Rattle.transforms.proofs.fold.put_folded_differences.Tie as tie
 
 abbrev invariant-loop : tie.invariant-loop
 invariant-loop w₀ n stride b tally₀ i₀ w tally i =
     ((i ≤ n / 4) × (i % 2 ≡ 0) × Summed i tally₀ tally)
-    × Ends (pos 0) b i 0 (n / 4) (foldedDifferences n (paired n stride (word w₀))) w₀ w
+    × Ends (pos 0) b i 0 (n / 4) (folded_differences n (paired n stride (word w₀))) w₀ w
 
 abbrev decreases-loop : tie.decreases-loop
 decreases-loop w₀ n stride b tally₀ i₀ w tally i = n / 4 - i
@@ -43,17 +43,17 @@ even : (c : tie.After-put-difference invariant-loop decreases-loop) →
     let l = c.before.before.before in
     let n = l.before.args.n in
     let w = l.before.args.w.now in
-    Ends (pos 0) l.before.args.b (l.loop.i + 1) 0 (n / 4) (foldedDifferences n (paired n l.before.args.stride (word w))) w
+    Ends (pos 0) l.before.args.b (l.loop.i + 1) 0 (n / 4) (folded_differences n (paired n l.before.args.stride (word w))) w
     c.put-difference.new.0
 even c =
     let l = c.before.before.before in
-    even-more l.before.requires.0 (omega arith) l.loop.invariant.1 (omega arith) c.put-difference.ensures.words
+    even_more l.before.requires.0 (omega arith) l.loop.invariant.1 (omega arith) c.put-difference.ensures.words
 
 put-difference-requires : tie.Need-put-difference-requires invariant-loop decreases-loop
 put-difference-requires c κs =
     let l = c.before.before in
     let r = l.before.requires.0 in
-    beside-ready r {i = l.loop.i} (omega arith) l.loop.invariant.1 (omega (arith, r.room)) (omega (arith, r.fits)) _ _ (omega arith)
+    beside_ready r {i = l.loop.i} (omega arith) l.loop.invariant.1 (omega (arith, r.room)) (omega (arith, r.fits)) _ _ (omega arith)
     (omega arith)
 
 put-difference-requires-2 : tie.Need-put-difference-requires-2 invariant-loop decreases-loop
@@ -62,31 +62,31 @@ put-difference-requires-2 c κs =
     let l = d.before.before.before in
     let r = l.before.requires.0 in
     let h = follows d.before.before in
-    beside-ready r {i = l.loop.i + 1} h (even d) (omega (arith, r.room, d.put-difference.ensures.tallied))
+    beside_ready r {i = l.loop.i + 1} h (even d) (omega (arith, r.room, d.put-difference.ensures.tallied))
     (omega (arith, r.fits)) _ _ (omega arith) (omega arith)
 
-loop-again : tie.Need-loop-preserved invariant-loop decreases-loop
-loop-again c =
+loop_again : tie.Need-loop-preserved invariant-loop decreases-loop
+loop_again c =
     let d = c.before.before.before.before in
     let l = d.before.before.before in
     let h = follows d.before.before in
     let two : l.loop.i + 1 + 1 ≡ l.loop.i + 2 = omega arith in (
       omega (arith, d.put-difference.ensures.tallied, c.before.put-difference2.ensures.tallied),
-      rw two at (odd-more l.before.requires.0 h (even d) (omega arith) c.before.put-difference2.ensures.words),
+      rw two at (odd_more l.before.requires.0 h (even d) (omega arith) c.before.put-difference2.ensures.words),
     )
 
 returns : tie.Need-returns invariant-loop decreases-loop
 returns c =
     let end : c.before.loop.i ≡ c.before.before.args.n / 4 = omega arith in
-    record { words = ends-all c.before.loop.invariant.1 (omega arith); tallied = rw end at c.before.loop.invariant.0.2 }
+    record { words = ends_all c.before.loop.invariant.1 (omega arith); tallied = rw end at c.before.loop.invariant.0.2 }
 
-pub put-folded-differences-spec : {M : Type 1} → statement M
-put-folded-differences-spec =
+pub put_folded_differences_spec : {M : Type 1} → statement M
+put_folded_differences_spec =
     tie.close
     (tie.spec
     invariant-loop
     decreases-loop
-    (λ c. (omega arith, ends-none))  -- loop-holds
+    (λ c. (omega arith, ends_none))  -- loop-holds
     (λ c. omega (arith, room c c.before.loop.i (omega arith)))  -- mul-p
     (λ c. search rules)  -- mul-p-2
     (λ c. search rules)  -- add-p
@@ -104,6 +104,6 @@ put-folded-differences-spec =
     put-difference-requires-2
     (λ c. search rules)  -- add-i
     (λ c. search rules)  -- loop-less
-    loop-again
+    loop_again
     (λ c. search rules)  -- same-length
     returns)

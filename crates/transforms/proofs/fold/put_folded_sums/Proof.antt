@@ -9,16 +9,16 @@ use mir.Syntax.{w64}
 use mir.Val.{of_z}
 use Rattle.whole.proofs.Operations.{Computes}
 use Rattle.words.specs.Words.{word}
-use Rattle.words.proofs.Writing.{Ends, ends-none, ends-front, ends-all}
-use Rattle.ffct.specs.Transforms.{foldedSums}
+use Rattle.words.proofs.Writing.{Ends, ends_none, ends_front, ends_all}
+use Rattle.ffct.specs.Transforms.{folded_sums}
 use Rattle.transforms.specs.Pairs.{paired}
-use Rattle.transforms.proofs.Folding.{place, inside, folded-sum}
+use Rattle.transforms.proofs.Folding.{place, inside, folded_sum}
 use Rattle.transforms.proofs.fold.put_folded_sums.Statement.{statement}
 use Rattle.transforms.proofs.fold.put_folded_sums.Tie as tie
 
 abbrev invariant-loop : tie.invariant-loop
 invariant-loop w₀ n stride b spent sums₀ i₀ w sums i =
-    (i ≤ n / 4) × (sums ≡ spent.sums + i) × Ends (pos 0) b i 0 (n / 4) (foldedSums n (paired n stride (word w₀))) w₀ w
+    (i ≤ n / 4) × (sums ≡ spent.sums + i) × Ends (pos 0) b i 0 (n / 4) (folded_sums n (paired n stride (word w₀))) w₀ w
 
 abbrev decreases-loop : tie.decreases-loop
 decreases-loop w₀ n stride b spent sums₀ i₀ w sums i = n / 4 - i
@@ -38,18 +38,18 @@ sum : (c : tie.After-y invariant-loop decreases-loop) →
     let p = place s l.loop.i in
     Computes ◌+ℤ◌ (of_z w64 (word l.loop.w p)) (of_z w64 (word l.loop.w (p - 1))) (x (2 * l.loop.i + 1))
     (x (n - 2 * l.loop.i - 1))
-sum c = let l = c.before.before.before in folded-sum l.before.requires (omega arith) l.loop.invariant.2 c.before.x.given c.y.given
+sum c = let l = c.before.before.before in folded_sum l.before.requires (omega arith) l.loop.invariant.2 c.before.x.given c.y.given
 
-loop-again : tie.Need-loop-preserved invariant-loop decreases-loop
-loop-again c = let l = c.before.before.before in (omega arith, omega arith, ends-front l.loop.invariant.2 (omega arith) (sum c).made)
+loop_again : tie.Need-loop-preserved invariant-loop decreases-loop
+loop_again c = let l = c.before.before.before in (omega arith, omega arith, ends_front l.loop.invariant.2 (omega arith) (sum c).made)
 
-pub put-folded-sums-spec : {M : Type 1} → statement M
-put-folded-sums-spec =
+pub put_folded_sums_spec : {M : Type 1} → statement M
+put_folded_sums_spec =
     tie.close
     (tie.spec
     invariant-loop
     decreases-loop
-    (λ c. (omega arith, omega arith, ends-none))  -- loop-holds
+    (λ c. (omega arith, omega arith, ends_none))  -- loop-holds
     (λ c. omega (arith, room c))  -- mul-p
     (λ c. search rules)  -- mul-p-2
     (λ c. search rules)  -- add-p
@@ -66,6 +66,6 @@ put-folded-sums-spec =
     (λ c. search rules)  -- add-sums
     (λ c. search rules)  -- add-i
     (λ c. search rules)  -- loop-less
-    loop-again
+    loop_again
     (λ c. search rules)  -- same-length
-    (λ c. record { words = ends-all c.before.loop.invariant.2 (omega arith); tallied = omega arith }))  -- returns
+    (λ c. record { words = ends_all c.before.loop.invariant.2 (omega arith); tallied = omega arith }))  -- returns

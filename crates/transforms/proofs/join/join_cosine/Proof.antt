@@ -6,15 +6,15 @@ use native.Mathlib.Omega.{arith}
 use borrow.Author.Rules.{rules}
 use lib.IntN.{pos}
 use lib.ListN.{length-set}
-use Rattle.words.proofs.Writing.{Ends, ends-none, ends-turn, ends-pass, ends-all}
-use Rattle.transforms.specs.Steps.{evenAt, oddAt, cosineJoin}
-use Rattle.transforms.proofs.Joining.{cosine-front, cosine-back, cosine-middle, JoinTurn, join-turn}
+use Rattle.words.proofs.Writing.{Ends, ends_none, ends_turn, ends_pass, ends_all}
+use Rattle.transforms.specs.Steps.{even_at, odd_at, cosine_join}
+use Rattle.transforms.proofs.Joining.{cosine_front, cosine_back, cosine_middle, JoinTurn, join_turn}
 use Rattle.transforms.proofs.join.join_cosine.Statement.{statement}
 use Rattle.transforms.proofs.join.join_cosine.Tie as tie
 
 abbrev invariant-loop : tie.invariant-loop
 invariant-loop w₀ n at spent h b sums₀ k₀ w sums k =
-    ((k ≤ n / 4) × (sums ≡ spent.sums + 2 * k)) × Ends (pos 0) at k k (n / 2 + 1) (cosineJoin n (evenAt at w₀) (oddAt n at w₀)) w₀ w
+    ((k ≤ n / 4) × (sums ≡ spent.sums + 2 * k)) × Ends (pos 0) at k k (n / 2 + 1) (cosine_join n (even_at at w₀) (odd_at n at w₀)) w₀ w
 
 abbrev decreases-loop : tie.decreases-loop
 decreases-loop w₀ n at spent h b sums₀ k₀ w sums k = n / 4 - k
@@ -25,20 +25,20 @@ turn : (c : tie.After-d invariant-loop decreases-loop) →
     JoinTurn l.before.args.n l.before.args.at l.loop.k l.loop.k l.before.args.w.now l.loop.w
 turn c =
     let l = c.before.before.before in
-    join-turn l.before.requires l.loop.invariant.1 _ _ (omega arith) c.before.e.given c.d.given
+    join_turn l.before.requires l.loop.invariant.1 _ _ (omega arith) c.before.e.given c.d.given
 
-loop-again : tie.Need-loop-preserved invariant-loop decreases-loop
-loop-again c =
+loop_again : tie.Need-loop-preserved invariant-loop decreases-loop
+loop_again c =
     let l = c.before.before.before in
     let n = l.before.args.n in
     let w = l.before.args.w.now in
-    let E = evenAt l.before.args.at w in
-    let D = oddAt n l.before.args.at w in
+    let E = even_at l.before.args.at w in
+    let D = odd_at n l.before.args.at w in
     let k = l.loop.k in
     let q = l.before.requires.quarters in (
       omega arith,
-      ends-turn l.loop.invariant.1 (n / 2 - k) (omega (arith, l.before.requires.fits))
-          ((turn c).sum.made ∙ cosine-front n q E D k (omega arith)) ((turn c).difference.made ∙ cosine-back n q E D k (omega arith)),
+      ends_turn l.loop.invariant.1 (n / 2 - k) (omega (arith, l.before.requires.fits))
+          ((turn c).sum.made ∙ cosine_front n q E D k (omega arith)) ((turn c).difference.made ∙ cosine_back n q E D k (omega arith)),
     )
 
 returns : tie.Need-returns invariant-loop decreases-loop
@@ -46,23 +46,23 @@ returns c =
     let s = c.before.before in
     let w = s.args.w.now in
     let middle : c.before.loop.k ≡ s.args.n / 4 = omega arith in
-    let E = evenAt s.args.at w in
-    let D = oddAt s.args.n s.args.at w in
+    let E = even_at s.args.at w in
+    let D = odd_at s.args.n s.args.at w in
     let run = rw middle at c.before.loop.invariant.1 in
     record {
-      words = ends-all (ends-pass run (omega (arith, s.requires.quarters)) (cosine-middle s.args.n s.requires.quarters E D)) (omega arith);
+      words = ends_all (ends_pass run (omega (arith, s.requires.quarters)) (cosine_middle s.args.n s.requires.quarters E D)) (omega arith);
       tallied = omega (arith, s.requires.quarters);
     }
 
-pub join-cosine-spec : {M : Type 1} → statement M
-join-cosine-spec =
+pub join_cosine_spec : {M : Type 1} → statement M
+join_cosine_spec =
     tie.close
     (tie.spec
     invariant-loop
     decreases-loop
     (λ c. search rules)  -- add-b
     (λ c. search rules)  -- add-b-2
-    (λ c. (omega arith, ends-none))  -- loop-holds
+    (λ c. (omega arith, ends_none))  -- loop-holds
     (λ c. search rules)  -- add-e
     (λ c. search rules)  -- mul-e
     (λ c. search rules)  -- slice-copy-out-e
@@ -82,6 +82,6 @@ join-cosine-spec =
     (λ c. search rules)  -- add-sums-2
     (λ c. search rules)  -- add-k
     (λ c. search rules)  -- loop-less
-    loop-again
+    loop_again
     (λ c. search rules)  -- same-length
     returns)

@@ -8,27 +8,27 @@ use borrow.Author.Rules.{rules}
 use lib.IntN.{pos}
 use lib.ListN.{length-set}
 use Rattle.whole.proofs.Words.{held}
-use Rattle.words.proofs.Writing.{Ends, ends-none, ends-front, ends-turn, ends-pass, ends-all, written-more}
-use Rattle.transforms.specs.Steps.{evenAt, oddAt, sineJoin}
-use Rattle.transforms.proofs.Joining.{sine-first, sine-front, sine-back, sine-middle, sine-last, JoinTurn, join-turn}
+use Rattle.words.proofs.Writing.{Ends, ends_none, ends_front, ends_turn, ends_pass, ends_all, written_more}
+use Rattle.transforms.specs.Steps.{even_at, odd_at, sine_join}
+use Rattle.transforms.proofs.Joining.{sine_first, sine_front, sine_back, sine_middle, sine_last, JoinTurn, join_turn}
 use Rattle.transforms.proofs.join.join_sine.Statement.{statement}
 use Rattle.transforms.proofs.join.join_sine.Tie as tie
 
 abbrev invariant-loop : tie.invariant-loop
 invariant-loop w₀ n at spent q h b sums₀ k₀ w sums k =
     ((1 ≤ k) × (k ≤ n / 4) × (sums ≡ spent.sums + 2 * (k - 1)))
-    × Ends (pos 0) at k (k - 1) (n / 2) (sineJoin n (evenAt at w₀) (oddAt n at w₀)) w₀ w
+    × Ends (pos 0) at k (k - 1) (n / 2) (sine_join n (even_at at w₀) (odd_at n at w₀)) w₀ w
 
 abbrev decreases-loop : tie.decreases-loop
 decreases-loop w₀ n at spent q h b sums₀ k₀ w sums k = n / 4 - k
 
-loop-holds : tie.Need-loop-init invariant-loop decreases-loop
-loop-holds c =
+loop_holds : tie.Need-loop-init invariant-loop decreases-loop
+loop_holds c =
     let w = c.args.w.now in
     let r = c.requires.0 in (
       omega (arith, r.some),
-      ends-pass ends-none (omega (arith, r.some))
-          (sine-first c.args.n r.quarters (evenAt c.args.at w) (oddAt c.args.n c.args.at w)),
+      ends_pass ends_none (omega (arith, r.some))
+          (sine_first c.args.n r.quarters (even_at c.args.at w) (odd_at c.args.n c.args.at w)),
     )
 
 -- what a turn makes of E(k) and D(n / 4 - k)
@@ -38,21 +38,21 @@ turn : (c : tie.After-d invariant-loop decreases-loop) →
     JoinTurn n l.before.args.at l.loop.k (n / 4 - l.loop.k) l.before.args.w.now l.loop.w
 turn c =
     let l = c.before.before.before in
-    join-turn l.before.requires.0 l.loop.invariant.1 _ _ (omega arith) c.before.e.given c.d.given
+    join_turn l.before.requires.0 l.loop.invariant.1 _ _ (omega arith) c.before.e.given c.d.given
 
-loop-again : tie.Need-loop-preserved invariant-loop decreases-loop
-loop-again c =
+loop_again : tie.Need-loop-preserved invariant-loop decreases-loop
+loop_again c =
     let l = c.before.before.before in
     let n = l.before.args.n in
     let w = l.before.args.w.now in
-    let E = evenAt l.before.args.at w in
-    let D = oddAt n l.before.args.at w in
+    let E = even_at l.before.args.at w in
+    let D = odd_at n l.before.args.at w in
     let k = l.loop.k in
     let q = l.before.requires.0.quarters in (
       omega arith,
-      ends-turn l.loop.invariant.1 (n / 2 - k) (omega (arith, l.before.requires.0.fits))
-          ((turn c).sum.made ∙ sine-front n q E D k (omega arith) (omega arith))
-          ((turn c).reversed.made ∙ sine-back n q E D k (omega arith) (omega arith)),
+      ends_turn l.loop.invariant.1 (n / 2 - k) (omega (arith, l.before.requires.0.fits))
+          ((turn c).sum.made ∙ sine_front n q E D k (omega arith) (omega arith))
+          ((turn c).reversed.made ∙ sine_back n q E D k (omega arith) (omega arith)),
     )
 
 returns : tie.Need-returns invariant-loop decreases-loop
@@ -62,30 +62,30 @@ returns c =
     let at = s.args.at in
     let w = s.args.w.now in
     let r = s.requires.0 in
-    let E = evenAt at w in
-    let D = oddAt n at w in
+    let E = even_at at w in
+    let D = odd_at n at w in
     let middle : c.before.before.loop.k ≡ n / 4 = omega arith in
-    let run : Ends (pos 0) at (n / 4) (n / 4 - 1) (n / 2) (sineJoin n E D) w c.before.before.loop.w =
+    let run : Ends (pos 0) at (n / 4) (n / 4 - 1) (n / 2) (sine_join n E D) w c.before.before.loop.w =
     rw middle at c.before.before.loop.invariant.1 in
     let zeroth : at + n / 2 + 1 + 0 ≡ at + n / 2 + 1 = omega arith in
-    let d = rw zeroth at (sine-middle n r.quarters E D s.requires.2 r.some) in
+    let d = rw zeroth at (sine_middle n r.quarters E D s.requires.2 r.some) in
     record {
-      words = written-more
-          (ends-all (ends-front run (omega (arith, r.fits)) ((held c.d2.given (run.high _ (omega arith))).is ∙ d))
+      words = written_more
+          (ends_all (ends_front run (omega (arith, r.fits)) ((held c.d2.given (run.high _ (omega arith))).is ∙ d))
           (omega (arith, r.quarters, r.some)))
-          (omega (arith, r.fits)) (sine-last n r.quarters E D s.requires.1 r.some);
+          (omega (arith, r.fits)) (sine_last n r.quarters E D s.requires.1 r.some);
       tallied = omega (arith, r.quarters, r.some);
     }
 
-pub join-sine-spec : {M : Type 1} → statement M
-join-sine-spec =
+pub join_sine_spec : {M : Type 1} → statement M
+join_sine_spec =
     tie.close
     (tie.spec
     invariant-loop
     decreases-loop
     (λ c. search rules)  -- add-b
     (λ c. search rules)  -- add-b-2
-    loop-holds
+    loop_holds
     (λ c. search rules)  -- add-e
     (λ c. search rules)  -- mul-e
     (λ c. search rules)  -- slice-copy-out-e
@@ -106,7 +106,7 @@ join-sine-spec =
     (λ c. search rules)  -- add-sums-2
     (λ c. search rules)  -- add-k
     (λ c. search rules)  -- loop-less
-    loop-again
+    loop_again
     (λ c. search rules)  -- mul-d-2
     (λ c. search rules)  -- slice-copy-out-d-2
     (λ c. search rules)  -- add-d-2

@@ -11,7 +11,7 @@ use Rattle.whole.proofs.Words.{held}
 use Rattle.whole.proofs.Operations.{Computes}
 use Rattle.words.specs.Words.{word}
 use Rattle.ffct.proofs.Sizes.{added, subtracted}
-use Rattle.transforms.proofs.Bases.{dft-pair-small, cosine-two}
+use Rattle.transforms.proofs.Bases.{dft_pair_small, cosine_two}
 use Rattle.transforms.proofs.short.cosine_2.Statement.{statement}
 use Rattle.transforms.proofs.short.cosine_2.Tie as tie
 
@@ -21,7 +21,7 @@ module _ (c : tie.After-y) where
 
   sum : let z = word s.args.w.now in let j = 2 * s.args.stride - 1 in Computes ◌+ℤ◌ (of_z w64 (z 0)) (of_z w64 (z j)) (z 0) (z j)
   sum =
-      let b = dft-pair-small s.pre in
+      let b = dft_pair_small s.pre in
       added (held c.before.x.given refl) (held c.y.given refl) (omega (arith, b)) (omega (arith, b))
 
   difference :
@@ -29,11 +29,11 @@ module _ (c : tie.After-y) where
       let j = 2 * s.args.stride - 1 in
       Computes ◌-ℤ◌ (of_z w64 (z 0)) (of_z w64 (z j)) (z 0) (z j)
   difference =
-      let b = dft-pair-small s.pre in
+      let b = dft_pair_small s.pre in
       subtracted (held c.before.x.given refl) (held c.y.given refl) (omega (arith, b)) (omega (arith, b))
 
-pub cosine-2-spec : {M : Type 1} → statement M
-cosine-2-spec =
+pub cosine_2_spec : {M : Type 1} → statement M
+cosine_2_spec =
     tie.close
     (tie.spec
     (λ c. search rules)  -- slice-copy-out-x
@@ -51,4 +51,4 @@ cosine-2-spec =
     (λ c. simp length-set (omega arith))  -- slice-set-from-w-2
     (λ c. search rules)  -- add-sums-2
     (λ c. search rules)  -- same-length
-    (λ c. cosine-two (s c).requires (sum c).made (difference c).made (omega arith)))  -- returns
+    (λ c. cosine_two (s c).requires (sum c).made (difference c).made (omega arith)))  -- returns

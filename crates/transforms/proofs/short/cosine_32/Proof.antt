@@ -1,23 +1,23 @@
 -- `transforms::short::cosine_32` meets its contract: a run of the cosine-DFT at that length. Assumes nothing.
 use borrow.Author.Rules.{rules}
-use Rattle.transforms.proofs.DftRuns.{cosine-kind, even-ready, fold-ready, tail-starts, odd-ready, lent-join-ready, lent-ends}
+use Rattle.transforms.proofs.DftRuns.{cosine_kind, even_ready, fold_ready, tail_starts, odd_ready, lent_join_ready, lent_ends}
 use Rattle.transforms.proofs.short.cosine_32.Statement.{statement}
 use Rattle.transforms.proofs.short.cosine_32.Tie as tie
 
-pub cosine-32-spec : {M : Type 1} → statement M
-cosine-32-spec =
+pub cosine_32_spec : {M : Type 1} → statement M
+cosine_32_spec =
     tie.close
     (tie.spec
     (λ c. search rules)  -- mul-cosine-16
-    (λ c κs. search (rules, even-ready cosine-kind {n = 32}))  -- cosine-16-requires
+    (λ c κs. search (rules, even_ready cosine_kind {n = 32}))  -- cosine-16-requires
     (λ c. search rules)  -- add-b
     (λ c. search rules)  -- add-b-2
-    (λ c κs. search (rules, fold-ready cosine-kind {n = 32}))  -- put-folded-sums-requires
+    (λ c κs. search (rules, fold_ready cosine_kind {n = 32}))  -- put-folded-sums-requires
     (λ c. search rules)  -- mul-dct-8
-    (λ c. search (rules, tail-starts cosine-kind {n = 32}))  -- sub-dct-8
-    (λ c. search (rules, tail-starts cosine-kind {n = 32}))  -- part-dct-8-start
+    (λ c. search (rules, tail_starts cosine_kind {n = 32}))  -- sub-dct-8
+    (λ c. search (rules, tail_starts cosine_kind {n = 32}))  -- part-dct-8-start
     (λ c. search rules)  -- part-dct-8-end
-    (λ c κs. search (rules, odd-ready cosine-kind {n = 32}))  -- dct-8-requires
-    (λ c κs. search (rules, lent-join-ready cosine-kind {n = 32}, c.before.before.dct-8.ensures))  -- join-cosine-requires
+    (λ c κs. search (rules, odd_ready cosine_kind {n = 32}))  -- dct-8-requires
+    (λ c κs. search (rules, lent_join_ready cosine_kind {n = 32}, c.before.before.dct-8.ensures))  -- join-cosine-requires
     (λ c. search rules)  -- same-length
-    (λ c. search (rules, lent-ends cosine-kind {n = 32}, c.before.before.before.before.dct-8.ensures)))  -- returns
+    (λ c. search (rules, lent_ends cosine_kind {n = 32}, c.before.before.before.before.dct-8.ensures)))  -- returns

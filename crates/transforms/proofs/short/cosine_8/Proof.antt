@@ -1,23 +1,23 @@
 -- `transforms::short::cosine_8` meets its contract: a run of the cosine-DFT at that length. Assumes nothing.
 use borrow.Author.Rules.{rules}
-use Rattle.transforms.proofs.DftRuns.{cosine-kind, even-ready, fold-ready, tail-starts, odd-ready, lent-join-ready, lent-ends}
+use Rattle.transforms.proofs.DftRuns.{cosine_kind, even_ready, fold_ready, tail_starts, odd_ready, lent_join_ready, lent_ends}
 use Rattle.transforms.proofs.short.cosine_8.Statement.{statement}
 use Rattle.transforms.proofs.short.cosine_8.Tie as tie
 
-pub cosine-8-spec : {M : Type 1} → statement M
-cosine-8-spec =
+pub cosine_8_spec : {M : Type 1} → statement M
+cosine_8_spec =
     tie.close
     (tie.spec
     (λ c. search rules)  -- mul-cosine-4
-    (λ c κs. search (rules, even-ready cosine-kind {n = 8}))  -- cosine-4-requires
+    (λ c κs. search (rules, even_ready cosine_kind {n = 8}))  -- cosine-4-requires
     (λ c. search rules)  -- add-b
     (λ c. search rules)  -- add-b-2
-    (λ c κs. search (rules, fold-ready cosine-kind {n = 8}))  -- put-folded-sums-requires
+    (λ c κs. search (rules, fold_ready cosine_kind {n = 8}))  -- put-folded-sums-requires
     (λ c. search rules)  -- mul-dct-2
-    (λ c. search (rules, tail-starts cosine-kind {n = 8}))  -- sub-dct-2
-    (λ c. search (rules, tail-starts cosine-kind {n = 8}))  -- part-dct-2-start
+    (λ c. search (rules, tail_starts cosine_kind {n = 8}))  -- sub-dct-2
+    (λ c. search (rules, tail_starts cosine_kind {n = 8}))  -- part-dct-2-start
     (λ c. search rules)  -- part-dct-2-end
-    (λ c κs. search (rules, odd-ready cosine-kind {n = 8}))  -- dct-2-requires
-    (λ c κs. search (rules, lent-join-ready cosine-kind {n = 8}, c.before.before.dct-2.ensures))  -- join-cosine-requires
+    (λ c κs. search (rules, odd_ready cosine_kind {n = 8}))  -- dct-2-requires
+    (λ c κs. search (rules, lent_join_ready cosine_kind {n = 8}, c.before.before.dct-2.ensures))  -- join-cosine-requires
     (λ c. search rules)  -- same-length
-    (λ c. search (rules, lent-ends cosine-kind {n = 8}, c.before.before.before.before.dct-2.ensures)))  -- returns
+    (λ c. search (rules, lent_ends cosine_kind {n = 8}, c.before.before.before.before.dct-2.ensures)))  -- returns

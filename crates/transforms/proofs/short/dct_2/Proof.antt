@@ -6,13 +6,13 @@ use lib.IntN.{◌+ℤ◌, ◌-ℤ◌, ◌*ℤ◌}
 use lib.ListN.{length-set}
 use mir.Syntax.{w64}
 use mir.Val.{of_z}
-use Rattle.whole.specs.Round.{round, restSize}
+use Rattle.whole.specs.Round.{round, rest_size}
 use Rattle.whole.proofs.Words.{held}
 use Rattle.whole.proofs.Operations.{Computes}
 use Rattle.words.specs.Words.{word}
 use Rattle.circle.specs.Circle.{T}
 use Rattle.ffct.proofs.Sizes.{added, subtracted}
-use Rattle.transforms.proofs.Bases.{dct-pair-small, dct-two}
+use Rattle.transforms.proofs.Bases.{dct_pair_small, dct_two}
 use Rattle.transforms.proofs.short.dct_2.Statement.{statement}
 use Rattle.transforms.proofs.short.dct_2.Tie as tie
 
@@ -22,12 +22,12 @@ module _ (c : tie.After-y) where
 
   sum : let z = word s.args.w.now in Computes ◌+ℤ◌ (of_z w64 (z 0)) (of_z w64 (z 1)) (z 0) (z 1)
   sum =
-      let b = dct-pair-small s.pre.1 in
+      let b = dct_pair_small s.pre.1 in
       added (held c.before.x.given refl) (held c.y.given refl) (omega (arith, b)) (omega (arith, b))
 
   difference : let z = word s.args.w.now in Computes ◌-ℤ◌ (of_z w64 (z 0)) (of_z w64 (z 1)) (z 0) (z 1)
   difference =
-      let b = dct-pair-small s.pre.1 in
+      let b = dct_pair_small s.pre.1 in
       subtracted (held c.before.x.given refl) (held c.y.given refl) (omega (arith, b)) (omega (arith, b))
 
 returns : tie.Need-returns
@@ -35,12 +35,12 @@ returns c =
     let m = c.before.before.before.before in
     let y = m.before in
     let product_is = ap (λ z. T 512 *ℤ z) (difference y).made in
-    dct-two (s y).requires.1 (sum y).made
+    dct_two (s y).requires.1 (sum y).made
     ((held c.before.before.before.struct_told.given.0.1 m.rotate-middle.ensures.middle).is ∙ ap round product_is)
-    (omega (arith, m.rotate-middle.ensures, ap restSize product_is, c.larger.ensures))
+    (omega (arith, m.rotate-middle.ensures, ap rest_size product_is, c.larger.ensures))
 
-pub dct-2-spec : {M : Type 1} → statement M
-dct-2-spec =
+pub dct_2_spec : {M : Type 1} → statement M
+dct_2_spec =
     tie.close
     (tie.spec
     (λ c. search rules)  -- slice-copy-out-x
@@ -50,7 +50,7 @@ dct-2-spec =
     (λ c. search rules)  -- add-sums
     (λ c. (difference c).asked)  -- sub-difference
     (λ c. search rules)  -- add-sums-2
-    (λ c κs. ((s c).requires.0, rw (difference c).made (dct-pair-small (s c).requires.1).2))  -- rotate-middle-requires
+    (λ c κs. ((s c).requires.0, rw (difference c).made (dct_pair_small (s c).requires.1).2))  -- rotate-middle-requires
     (λ c. simp length-set (omega arith))  -- slice-set-from-value
     (λ c. search rules)  -- add-t15
     (λ c κs. search rules)  -- larger-requires

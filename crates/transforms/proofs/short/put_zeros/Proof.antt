@@ -4,8 +4,8 @@ use Rattle.transforms.proofs.Bases.{zeros}
 use Rattle.transforms.proofs.short.put_zeros.Statement.{statement}
 use Rattle.transforms.proofs.short.put_zeros.Tie as tie
 
-pub put-zeros-spec : {M : Type 1} → statement M
-put-zeros-spec =
+pub put_zeros_spec : {M : Type 1} → statement M
+put_zeros_spec =
     tie.close
     (tie.spec
     (λ c. search rules)  -- mul-w

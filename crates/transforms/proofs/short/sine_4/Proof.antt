@@ -2,45 +2,45 @@
 use Prim.Native.Nat.{◌+◌, ◌*◌}
 use borrow.Author.Rules.{rules}
 use lib.Dec.{lit≤}
-use Rattle.ffct.specs.Transforms.{sineDft, foldedDifferences}
+use Rattle.ffct.specs.Transforms.{sine_dft, folded_differences}
 use Rattle.transforms.specs.Steps.{DftDone, Folded}
-use Rattle.transforms.proofs.Bases.{sine-few, four-ready, four-folded, dct-single}
-use Rattle.transforms.proofs.DftRuns.{sine-kind, even-ready, fold-ready, join-ready, sine-zeros, dft-ends}
+use Rattle.transforms.proofs.Bases.{sine_few, four_ready, four_folded, dct_single}
+use Rattle.transforms.proofs.DftRuns.{sine_kind, even_ready, fold_ready, join_ready, sine_zeros, dft_ends}
 use Rattle.transforms.proofs.short.sine_4.Statement.{statement}
 use Rattle.transforms.proofs.short.sine_4.Tie as tie
 
 -- the sine-DFT of the two even samples
 even : (c : tie.After-put-zeros) →
     let s = c.before.before in
-    DftDone sineDft 2 (2 * s.args.stride) s.args.at s.args.w.now c.put-zeros.new.0 s.args.spent s.args.spent
-even c = sine-few (even-ready sine-kind c.before.before.requires (lit≤ tt)) (lit≤ tt) c.put-zeros.ensures
+    DftDone sine_dft 2 (2 * s.args.stride) s.args.at s.args.w.now c.put-zeros.new.0 s.args.spent s.args.spent
+even c = sine_few (even_ready sine_kind c.before.before.requires (lit≤ tt)) (lit≤ tt) c.put-zeros.ensures
 
 -- the one folded difference
 folded : (c : tie.After-put-difference) →
     let e = c.before.before.before in
     let s = e.before.before in
-    Folded foldedDifferences 4 s.args.stride (s.args.at + 2 + 1) e.put-zeros.new.0 c.put-difference.new.0
+    Folded folded_differences 4 s.args.stride (s.args.at + 2 + 1) e.put-zeros.new.0 c.put-difference.new.0
     s.args.spent c.put-difference.result
 folded c =
     let e = c.before.before.before in
-    four-folded (fold-ready sine-kind e.before.before.requires (lit≤ tt) (even e)) c.put-difference.ensures
+    four_folded (fold_ready sine_kind e.before.before.requires (lit≤ tt) (even e)) c.put-difference.ensures
 
 join-sine-requires : tie.Need-join-sine-requires
 join-sine-requires c κs =
     let f = c.before.before in
     let e = f.before.before.before in
     let s = e.before.before in
-    let z = sine-zeros s.requires (lit≤ tt) (even e) (folded f) dct-single in
-    (join-ready sine-kind s.requires (lit≤ tt) (even e) (folded f) dct-single, z.0, z.1)
+    let z = sine_zeros s.requires (lit≤ tt) (even e) (folded f) dct_single in
+    (join_ready sine_kind s.requires (lit≤ tt) (even e) (folded f) dct_single, z.0, z.1)
 
 returns : tie.Need-returns
 returns c =
     let f = c.before.before.before.before in
     let e = f.before.before.before in
-    dft-ends sine-kind e.before.before.requires (lit≤ tt) (even e) (folded f) dct-single c.before.join-sine.ensures
+    dft_ends sine_kind e.before.before.requires (lit≤ tt) (even e) (folded f) dct_single c.before.join-sine.ensures
 
-pub sine-4-spec : {M : Type 1} → statement M
-sine-4-spec =
+pub sine_4_spec : {M : Type 1} → statement M
+sine_4_spec =
     tie.close
     (tie.spec
     (λ c κs. search rules)  -- put-zeros-requires
@@ -49,7 +49,7 @@ sine-4-spec =
     (λ c. search rules)  -- sub-put-difference
     (λ c. search rules)  -- add-put-difference
     (λ c. search rules)  -- add-put-difference-2
-    (λ c κs. search (rules, four-ready, fold-ready sine-kind {n = 4}, even c.before.before))  -- put-difference-requires
+    (λ c κs. search (rules, four_ready, fold_ready sine_kind {n = 4}, even c.before.before))  -- put-difference-requires
     join-sine-requires
     (λ c. search rules)  -- same-length
     returns)
