@@ -1,3 +1,5 @@
+#![tactic(auto)]
+
 // The transforms of an accepted block, from 32-bit samples to 32-bit coefficients, over words that are all cleared at the end.
 pub mod buffers;
 

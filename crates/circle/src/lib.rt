@@ -1,3 +1,5 @@
+#![tactic(auto)]
+
 // The stored quarter wave T of document 01, in units of 2^-30: entry j is the cosine at place j of the circle's 4,096.
 mod table;
 

@@ -1,7 +1,7 @@
 // The products and sums of a transform, by its length.
 ghost use Rattle.std.specs.Prelude.{◌≡◌, ◌+◌, ◌^◌, ◌≤◌};
 
-#[derive(Drop)]
+#[derive(Clone, Copy)]
 pub struct Cost {
     pub products: u64,
     pub sums: u64,

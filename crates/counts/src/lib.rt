@@ -1,3 +1,5 @@
+#![tactic(auto)]
+
 // The tally of a call, and the counts of a length, by the recursions (21) to (26), level by level.
 pub mod cost;
 pub mod tally;
@@ -9,7 +11,7 @@ ghost use Rattle.counts.specs.Counts.{LevelCosts, SixCounts};
 use cost::{Cost, plus};
 
 // The counts of one level: of the cosine-DFT and the sine-DFT of n samples, and of the DCT of n / 2.
-#[derive(Drop)]
+#[derive(Clone, Copy)]
 pub struct Level {
     pub cosine: Cost,
     pub sine: Cost,
@@ -17,7 +19,7 @@ pub struct Level {
 }
 
 // The six counts that a query gives.
-#[derive(Drop)]
+#[derive(Clone, Copy)]
 pub struct Counts {
     pub dct: Cost,
     pub spectrum: Cost,

@@ -1,6 +1,6 @@
 // What has been made so far: products and sums, and the largest size of a rest among the roundings. Each step of a transform takes the
 // tally and gives it back with what it made.
-#[derive(Drop)]
+#[derive(Clone, Copy)]
 pub struct Tally {
     pub products: u64,
     pub sums: u64,

@@ -1,3 +1,5 @@
+#![tactic(auto)]
+
 // Strain back from a stored cosine block: the inverse of the DCT-II (document 02, (i)). The call asks nothing of its input: it tests its
 // refusals in their order, before anything is written, and promises its whole outcome (specs/Promises.antt).
 mod sum;

@@ -7,7 +7,7 @@ ghost use Rattle.inverse.specs.Steps.{Small, AddReady, Added, Joined, SumReady, 
 use circle::wave_at;
 
 // The whole number high * 2^30 + low.
-#[derive(Drop)]
+#[derive(Clone, Copy)]
 pub struct Sum {
     pub high: i64,
     pub low: i64,

@@ -19,7 +19,7 @@ fn value(sum: Sum, c: i64, n: usize) -> i32
 }
 
 // The values of i and n - 1 - i.
-#[derive(Drop)]
+#[derive(Clone, Copy)]
 pub struct Two {
     pub near: i32,
     pub far: i32,

@@ -1,3 +1,5 @@
+#![tactic(auto)]
+
 // The eleven lengths of a block.
 ghost use Rattle.std.specs.Prelude.{◌≡◌};
 ghost use Rattle.lengths.specs.Block.{is_length};

@@ -1,3 +1,5 @@
+#![tactic(auto)]
+
 // Numbers of 32 bits in the bytes of a file, the lowest byte first: read, and put.
 ghost use Rattle.std.specs.Prelude.{[], ◌∷◌, ◌≡◌, ◌+◌, ◌%◌, ◌≤◌, ◌<◌, length};
 ghost use Rattle.words.specs.Put.{Put};

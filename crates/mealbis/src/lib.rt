@@ -1,3 +1,5 @@
+#![tactic(auto)]
+
 // The calls for programs in C and in Rust: plain numbers, slices as pointer and length, and the answer as the number of document 01 or 02,
 // 0 where the call is accepted. What else an answer tells comes back through one lent record of words, which are written in every answer.
 // No function asks anything of its input, and each promises what the call that it makes promises (specs/Promises.antt). include/mealbis.h

@@ -21,7 +21,7 @@ const SINE_SUMS: usize = 514;
 const MOST_BLOCKS: i64 = 50000;
 
 // The two sums of an account for one k.
-#[derive(Drop)]
+#[derive(Clone, Copy)]
 pub struct Sums {
     pub cosine: i64,
     pub sine: i64,

@@ -1,3 +1,5 @@
+#![tactic(auto)]
+
 // Month sums beside the blocks, of two parties (document 02, (vi) and (viii)). A month is a value that only `begin` and `add` make: its
 // words are private. A refusal gives the month back as it was.
 mod account;

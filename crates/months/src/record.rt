@@ -21,14 +21,14 @@ const EDITION: i64 = 40000;
 const MARKED: i64 = 65536 * EDITION;
 
 // The answer of reading a party's block number.
-#[derive(Drop)]
+#[derive(Clone, Copy)]
 pub enum NumberAnswer {
     Refused(Refusal),
     Blocks(i64),
 }
 
 // The answer of reading its sums for a k.
-#[derive(Drop)]
+#[derive(Clone, Copy)]
 pub enum SumsAnswer {
     Refused(Refusal),
     Yielded(Sums),

@@ -1,3 +1,5 @@
+#![tactic(auto)]
+
 // Adds many blocks of two owners to months, one after the other, and writes the owners' block numbers and sums: a program that keeps a
 // month through a loop, and relies on it that the sums of an account that holds a history are small. Both owners' calls at random in one
 // month, and each owner's alone in a month, lead to the same account. The file stdout beside src/ was made by

@@ -1,3 +1,5 @@
+#![tactic(auto)]
+
 // A page for the site binder: a stored spectrum in lines of 30 columns (document 02, (vii)). The call asks nothing of its input: it tests
 // its refusals in their order, before anything is written, and promises its whole outcome (specs/Promises.antt).
 ghost use Rattle.std.specs.Prelude.{◌≡◌, ◌++◌, ◌+◌, ◌*◌, ◌≤◌, ◌<◌, length};

@@ -14,14 +14,14 @@ use refusals::range::{Pass, in_range};
 use refusals::refusal::Refusal;
 
 // The sizes of a file: m samples of each recording, in blocks of N.
-#[derive(Drop)]
+#[derive(Clone, Copy)]
 pub struct Sizes {
     pub samples: usize,
     pub length: usize,
 }
 
 // The answer of the reader: a refusal, or the sizes of the file that was read.
-#[derive(Drop)]
+#[derive(Clone, Copy)]
 pub enum ReadAnswer {
     Refused(Refusal),
     Read(Sizes),

@@ -1,3 +1,5 @@
+#![tactic(auto)]
+
 // pairspec: reads a pair file from standard input and prints the spectra of its blocks (document 01, "The pair file"). All that it prints
 // is what the library function `report::put_output` puts into the page: the definition `output` of the bytes that were read.
 ghost use Rattle.std.specs.Prelude.{◌≡◌, length};

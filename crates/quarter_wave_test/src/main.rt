@@ -1,3 +1,5 @@
+#![tactic(auto)]
+
 // Writes the stored quarter wave, an entry to a line. The file stdout beside src/ was made by tests/expect_quarter_wave.py, which
 // shares nothing with the product.
 use libc::STDOUT_FILENO;

@@ -9,7 +9,7 @@ ghost use Rattle.refusals.specs.Passes.{OnePass};
 const LARGEST_SAMPLE: u32 = 1000000;
 
 // What a pass over numbers finds: none beyond the limit, or the place of the first; and its looks, a look at each number up to there.
-#[derive(Drop)]
+#[derive(Clone, Copy)]
 pub enum Pass {
     None { looks: usize },
     At { place: usize, looks: usize },

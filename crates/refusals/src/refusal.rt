@@ -4,7 +4,7 @@ ghost use Rattle.refusals.specs.Refusals.{number, place};
 ghost use Rattle.refusals.specs.Answers.{verdict_of};
 
 // A case for each number, 1 to 16; 6 and 10 with the place of what they refuse.
-#[derive(Drop)]
+#[derive(Clone, Copy)]
 pub enum Refusal {
     BadLength,
     InputTooShort,
@@ -25,14 +25,14 @@ pub enum Refusal {
 }
 
 // What tests come to, and the answer of a call that tells no more.
-#[derive(Drop)]
+#[derive(Clone, Copy)]
 pub enum Outcome {
     Refused(Refusal),
     Accepted,
 }
 
 // The answer of a call that puts bytes at the front of a lent buffer: their number.
-#[derive(Drop)]
+#[derive(Clone, Copy)]
 pub enum Filled {
     Refused(Refusal),
     Bytes(usize),

@@ -1,3 +1,5 @@
+#![tactic(auto)]
+
 // All that `pairspec` prints, put into a lent page.
 mod lines;
 

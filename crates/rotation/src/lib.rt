@@ -1,3 +1,5 @@
+#![tactic(auto)]
+
 // The rotation (18), (19) of a cosine-DFT and a sine-DFT to the DCT, in the form of (20): three products and three sums for each pair k,
 // n - k. Each whole expression is rounded once, and the largest size of a rest is kept as the roundings are made.
 ghost use Rattle.std.specs.Prelude.{◌+◌, ◌*◌, ◌/◌, ◌^◌, ◌≤◌, ◌≡◌, nat_abs};
@@ -11,7 +13,7 @@ use counts::tally::Tally;
 use whole::{larger, round, size_of};
 
 // DCT(k) and DCT(n - k), with the products and sums that they take and the larger size of their two rests.
-#[derive(Drop)]
+#[derive(Clone, Copy)]
 struct Rotation {
     pub low: i64,
     pub high: i64,
@@ -50,7 +52,7 @@ fn rotate_pair(c: i64, s: i64, cosine: i64, sine: i64) -> Rotation
 }
 
 // DCT(n / 2), with the products that it takes and the size of its rest.
-#[derive(Drop)]
+#[derive(Clone, Copy)]
 pub struct Middle {
     pub value: i64,
     pub products: u64,

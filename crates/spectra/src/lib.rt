@@ -1,3 +1,5 @@
+#![tactic(auto)]
+
 // Spectrum, Cosine, Pair and the count query, as a buyer calls them; marks of blocks are in a module of their own. No call asks anything of
 // its input: each tests its refusals in their order, before anything is written, and promises its whole outcome (specs/Promises.antt).
 pub mod marks;
@@ -20,14 +22,14 @@ use refusals::range::{Pass, first_out};
 use refusals::refusal::{Outcome, Refusal};
 
 // The answer of a call on recordings: a refusal, or the counts that were spent and the largest rest.
-#[derive(Drop)]
+#[derive(Clone, Copy)]
 pub enum Answer {
     Refused(Refusal),
     Done(Tally),
 }
 
 // The answer of the count query.
-#[derive(Drop)]
+#[derive(Clone, Copy)]
 pub enum CountsAnswer {
     Refused(Refusal),
     Counted(Counts),

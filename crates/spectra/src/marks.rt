@@ -11,7 +11,7 @@ use counts::tally::Tally;
 use refusals::range::{Pass, first_beyond};
 use refusals::refusal::{Outcome, Refusal};
 
-#[derive(Drop)]
+#[derive(Clone, Copy)]
 pub enum Mark {
     Flat,
     Clipped,
@@ -19,7 +19,7 @@ pub enum Mark {
 }
 
 // The answer of the call: a refusal, or the mark with the counts that were spent and the largest rest.
-#[derive(Drop)]
+#[derive(Clone, Copy)]
 pub enum MarkAnswer {
     Refused(Refusal),
     Marked(Mark, Tally),

@@ -1,3 +1,5 @@
+#![tactic(auto)]
+
 // Runs Spectrum, Cosine, Pair and the count query, and writes what each answers and what then stands in its buffers. The file stdout beside
 // src/ was made by tests/expect_spectra.py, which shares nothing with the product.
 ghost use Rattle.std.specs.Prelude.{◌≡◌, ◌+◌, ◌≤◌, length};

@@ -1,3 +1,5 @@
+#![tactic(auto)]
+
 // What the test programs write: numbers with a blank before each, and rows of words; and samples for them.
 ghost use Rattle.std.specs.Prelude.{◌≤◌, ◌<◌, nat_abs};
 ghost use Rattle.lengths.specs.Block.{largest_sample};

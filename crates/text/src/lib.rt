@@ -1,3 +1,5 @@
+#![tactic(auto)]
+
 // Numbers in decimal, put into a lent page. Each function puts its text from the place `at` on and answers the place behind it.
 pub mod columns;
 

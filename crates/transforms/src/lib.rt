@@ -1,3 +1,5 @@
+#![tactic(auto)]
+
 // Cosine-DFT, sine-DFT and DCT, over words that the caller lends. The three call each other in a cycle; each promises the definition of
 // the crate ffct, values and counts together. A DFT finds its block in pairs at the front of the words, with a stride, leaves what stands
 // below its result, and puts the result at `at`; a DCT works in its place. What a function needs for itself stands behind its result.

@@ -1,9 +1,11 @@
+#![tactic(auto)]
+
 // Whole numbers: the rounding of documents 01 and 02, and sizes. The laws over whole numbers that the other crates cite are in proofs/.
 ghost use Rattle.std.specs.Prelude.{◌≡◌, ◌^◌, ◌≤◌, max, nat_abs};
 ghost use Rattle.whole.specs.Round.{round as rounded, rest as rest_of};
 
 // A rounded number and its rest.
-#[derive(Drop)]
+#[derive(Clone, Copy)]
 pub struct Rounded {
     pub value: i64,
     pub rest: i64,

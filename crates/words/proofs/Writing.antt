@@ -20,7 +20,7 @@
 use mathlib.Core.Path.{◌≡◌, refl, sym, ◌∙◌, ap}
 use mathlib.Core.List.{List, [], ◌∷◌}
 use mathlib.Core.Logic.{⊎_elim}
-use Prim.Native.Nat.{ℕ, suc, ◌+◌, ◌-◌, ◌*◌, ◌/◌, ◌≤◌, ◌<◌}
+use Prim.Native.Nat.{ℕ, zero, suc, ◌+◌, ◌-◌, ◌*◌, ◌/◌, ◌≤◌, ◌<◌}
 use native.Mathlib.Omega.{arith}
 use lib.IntN.{ℤ, pos}
 use lib.ListN.{length, get_or, set, length-set}
@@ -196,6 +196,7 @@ module _ {A : Type 0} {d : A} {m : ℕ} {f : ℕ → A} {before after : List A} 
 -- past its end a list has no element
 pub past : {A : Type 0} (d : A) (w : List A) (k : ℕ) → length w ≤ k → get_or w k d ≡ d
 past d [] k h = refl
+past d (x ∷ w) zero h = elim h [ ]
 past d (x ∷ w) (suc k) h = past d w k (omega (arith, h))
 
 -- two stores
