@@ -10,7 +10,7 @@ dct-requires c κs =
     let l = c.before.before.before in
     let q = l.before.before in
     let k = q.before.requires.0 in
-    (q.quarter-wave.ensures, dct_ready k.block_ok l.load.ensures (omega (arith, k.room)))
+    (q.quarter_wave.ensures, dct_ready k.block_ok l.load.ensures (omega (arith, k.room)))
 
 pub cosine_of_spec : {M : Type 1} → statement M
 cosine_of_spec =

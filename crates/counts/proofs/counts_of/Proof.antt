@@ -12,18 +12,18 @@ returns c =
     rw (one_level c.before.args.n c.if1.true)
     (record { of_dct = record { products = λ x. refl; sums = λ x. refl }; of_spectrum = λ x. (refl, refl); of_pair = λ x y. (refl, refl) })
 
-level-counts-requires : tie.Need-level-counts-requires
-level-counts-requires c κs =
+level_counts-requires : tie.Need-level_counts-requires
+level_counts-requires c κs =
     let h = c.before.requires in
     let (length, two, most) = from_two _ h c.if1.false in
     rw (trailing c.before.args.n h) (some_level _ h two, level_le _ h)
 
-six-counts-requires : tie.Need-six-counts-requires
-six-counts-requires c κs =
+six_counts-requires : tie.Need-six_counts-requires
+six_counts-requires c κs =
     let h = c.before.before.requires in
     let n = c.before.before.args.n in
     let (length, two, most) = from_two n h c.before.if1.false in
-    (rw (trailing n h, sym (is_power n h)) at c.level-counts.ensures, length, two, most)
+    (rw (trailing n h, sym (is_power n h)) at c.level_counts.ensures, length, two, most)
 
 pub counts_of_spec : {M : Type 1} → statement M
-counts_of_spec = tie.close (tie.spec returns level-counts-requires six-counts-requires (λ c. search rules))
+counts_of_spec = tie.close (tie.spec returns level_counts-requires six_counts-requires (λ c. search rules))

@@ -20,7 +20,7 @@ reach c = search (rules, enough)
 limit_is : (c : tie.Else1) → let n = c.before.before.before.before.args.length in n * 1000000 + n ≡ largest_coefficient n
 limit_is c = omega arith
 
-is_accepted : (c : tie.After-enum-told2) → let a = c.before.before.before.before.before.before.before.args in
+is_accepted : (c : tie.After-enum_told2) → let a = c.before.before.before.before.before.before.before.args in
     Accepted a.coefficients.now a.values.now a.length
 is_accepted c = search (rules, all_within, limit_is c.before.before.before)
 
@@ -42,4 +42,4 @@ inverse_dct_spec =
     (λ c. search rules)  -- enum-told-2
     (λ c κs. let a = is_accepted c.before in (a.stored, a.room))  -- put-values-requires
     (λ c. search rules)  -- same-length
-    (λ c. (is_accepted c.before.before.before).writes c.before.put-values.ensures))  -- returns-4
+    (λ c. (is_accepted c.before.before.before).writes c.before.put_values.ensures))  -- returns-4

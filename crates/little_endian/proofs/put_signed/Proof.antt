@@ -7,7 +7,7 @@ use Rattle.little_endian.proofs.put_signed.Statement.{statement}
 use Rattle.little_endian.proofs.put_signed.Tie as tie
 
 -- the bits that are put are those of the number
-bits_put : (c : tie.After-bits-of) → c.bits_of.result ≡ bits c.before.before.args.x
+bits_put : (c : tie.After-bits_of) → c.bits_of.result ≡ bits c.before.before.args.x
 bits_put c = c.bits_of.ensures ∙ ap bits (to_z-of_z c.before.before.ranges.x)
 
 pub put_signed_spec : {M : Type 1} → statement M
@@ -17,4 +17,4 @@ put_signed_spec =
     (λ c κs. search rules)  -- bits-of-requires
     (λ c κs. search rules)  -- put-unsigned-requires
     (λ c. search rules)  -- same-length
-    (λ c. rw (bits_put c.before.before.before.before) at c.before.before.put-unsigned.ensures))  -- returns
+    (λ c. rw (bits_put c.before.before.before.before) at c.before.before.put_unsigned.ensures))  -- returns

@@ -12,4 +12,4 @@ signed_at_spec =
     (tie.spec
     (λ c κs. search rules)  -- unsigned-at-requires
     (λ c κs. search rules)  -- signed-of-requires
-    (λ c. to_z-of_z (sfits_of c.Signed-of.type-inv) ∙ c.Signed-of.ensures ∙ ap signed c.before.unsigned-at.ensures))  -- returns
+    (λ c. to_z-of_z (sfits_of c.Signed-of.type_inv) ∙ c.Signed-of.ensures ∙ ap signed c.before.unsigned_at.ensures))  -- returns

@@ -14,5 +14,5 @@ mealbis_counts_spec =
     (λ c κs. search rules)  -- number-of-requires
     (λ c. search rules)  -- enum-known-counts
     (λ c. let w = c.before.before.before in
-    told w.before.before.count-query.ensures w.refusal.given.1 c.number_of_lem.ensures refl)  -- returns
-    (λ c. let w = c.before.before in told w.before.before.count-query.ensures w.counts.given.1 refl refl))  -- returns-2
+    told w.before.before.count_query.ensures w.refusal.given.1 c.number_of_lem.ensures refl)  -- returns
+    (λ c. let w = c.before.before in told w.before.before.count_query.ensures w.counts.given.1 refl refl))  -- returns-2

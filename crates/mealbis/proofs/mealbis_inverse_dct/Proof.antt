@@ -16,7 +16,7 @@ mealbis_inverse_dct_spec =
     (λ c. search rules)  -- enum_told
     (λ c. search rules)  -- same-length
     (λ c. let w = c.before.before.before.before in
-    told w.before.before.before.inverse-dct.ensures w.refusal.given.1
+    told w.before.before.before.inverse_dct.ensures w.refusal.given.1
     c.number_of_lem.ensures (rw c.before.before.place_of.ensures))  -- returns
     (λ c. search rules)  -- same-length-2
-    (λ c. let w = c.before in told w.before.before.before.inverse-dct.ensures w.enum_told.given.1 refl refl))  -- returns-2
+    (λ c. let w = c.before in told w.before.before.before.inverse_dct.ensures w.enum_told.given.1 refl refl))  -- returns-2

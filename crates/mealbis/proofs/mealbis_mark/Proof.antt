@@ -23,7 +23,7 @@ mealbis_mark_spec =
     (λ c. let w = c.before.before.before.before in
     let m = w.before.before.before.before.before in
     let figures = m.before.before.before.before.ranges in
-    told (rw (to_z-of_z figures.flat_limit_lem, to_z-of_z figures.clip_level_lem) at m.mark-block.ensures)
+    told (rw (to_z-of_z figures.flat_limit_lem, to_z-of_z figures.clip_level_lem) at m.mark_block.ensures)
     w.answer.given.1 c.number_of_lem.ensures (rw c.before.before.place_of.ensures))  -- returns
     (λ c. search rules)  -- same-length-4
     (λ c. search rules)  -- same-length-5
@@ -31,5 +31,5 @@ mealbis_mark_spec =
     (λ c. let w = c.before.before.before in
     let m = w.before.before.before.before.before in
     let figures = m.before.before.before.before.ranges in
-    told (rw (to_z-of_z figures.flat_limit_lem, to_z-of_z figures.clip_level_lem) at m.mark-block.ensures)
-    w.answer2.given.1 refl (rw c.before.number-of-mark.ensures)))  -- returns-2
+    told (rw (to_z-of_z figures.flat_limit_lem, to_z-of_z figures.clip_level_lem) at m.mark_block.ensures)
+    w.answer2.given.1 refl (rw c.before.number_of_mark.ensures)))  -- returns-2

@@ -14,5 +14,5 @@ mealbis_month_begin_spec =
     (λ c κs. search rules)  -- number-of-requires
     (λ c. search rules)  -- enum_told
     (λ c. let w = c.before.before in
-    told w.before.before.begin-in.ensures w.refusal.given.1 c.number_of_lem.ensures refl)  -- returns
-    (λ c. let w = c in told w.before.before.begin-in.ensures w.enum_told.given.1 refl refl))  -- returns-2
+    told w.before.before.begin_in.ensures w.refusal.given.1 c.number_of_lem.ensures refl)  -- returns
+    (λ c. let w = c in told w.before.before.begin_in.ensures w.enum_told.given.1 refl refl))  -- returns-2

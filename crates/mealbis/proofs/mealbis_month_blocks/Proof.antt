@@ -15,7 +15,7 @@ mealbis_month_blocks_spec =
     (λ c κs. search rules)  -- number-of-requires
     (λ c. search rules)  -- enum-known-blocks
     (λ c. let w = c.before.before.before in
-    told w.before.before.block-number.ensures w.refusal.given.1 c.number_of_lem.ensures refl)  -- returns
+    told w.before.before.block_number.ensures w.refusal.given.1 c.number_of_lem.ensures refl)  -- returns
     (λ c. let w = c.before.before in
-    told w.before.before.block-number.ensures w.blocks2.given.1 refl
-    (rw (to_z-of_z (sfits_of c.before.known-told2.given.0.1)))))  -- returns-2
+    told w.before.before.block_number.ensures w.blocks2.given.1 refl
+    (rw (to_z-of_z (sfits_of c.before.known_told2.given.0.1)))))  -- returns-2

@@ -15,7 +15,7 @@ mealbis_page_spec =
     (λ c. search rules)  -- enum-known-bytes
     (λ c. search rules)  -- same-length
     (λ c. let w = c.before.before.before in
-    told w.before.before.before.before.fill-page.ensures w.refusal.given.1 c.number_of_lem.ensures refl)  -- returns
+    told w.before.before.before.before.fill_page.ensures w.refusal.given.1 c.number_of_lem.ensures refl)  -- returns
     (λ c. search rules)  -- same-length-2
     (λ c. let w = c.before.before in
-    told w.before.before.before.before.fill-page.ensures w.bytes.given.1 refl refl))  -- returns-2
+    told w.before.before.before.before.fill_page.ensures w.bytes.given.1 refl refl))  -- returns-2

@@ -20,4 +20,4 @@ add_spec =
     (λ c. search rules)  -- same-length-3
     (λ c. let made = c.before.before.before in
     let s = made.before.before.before.before.before in
-    adding s.args.party (asked s) s.args.month _ _ made.add-to.ensures))  -- returns
+    adding s.args.party (asked s) s.args.month _ _ made.add_to.ensures))  -- returns

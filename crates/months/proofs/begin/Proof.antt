@@ -9,5 +9,5 @@ begin_spec =
     tie.close
     (tie.spec
     (λ c κs. search rules)  -- begin-in-requires
-    (λ c. let p = c.begin-in.ensures in
+    (λ c. let p = c.begin_in.ensures in
     record { promise = p; held = record { history = λ p. []; holds = p.empty } }))  -- returns

@@ -8,12 +8,12 @@ use Rattle.pages.proofs.fill_page.Statement.{statement}
 use Rattle.pages.proofs.fill_page.Tie as tie
 
 -- behind the tests of a stored spectrum
-enough_at : (c : tie.After-enum-told) → let a = c.before.before.before.before.before.args in
+enough_at : (c : tie.After-enum_told) → let a = c.before.before.before.before.before.args in
     (a.length / 2 + 1 ≤ 513) × (a.length / 2 + 1 ≤ length a.cosine.now) × (a.length / 2 + 1 ≤ length a.sine.now)
 enough_at c =
     let t = c.before.before in
     let a = t.before.before.before.args in
-    enough a.cosine.now a.sine.now _ _ t.before.shorter.ensures t.test-stored.ensures c.enum_told.given.1
+    enough a.cosine.now a.sine.now _ _ t.before.shorter.ensures t.test_stored.ensures c.enum_told.given.1
 
 pub fill_page_spec : {M : Type 1} → statement M
 fill_page_spec =

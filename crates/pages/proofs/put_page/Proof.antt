@@ -17,7 +17,7 @@ loop_again : tie.Need-loop-preserved invariant-loop decreases-loop
 loop_again c =
     let l = c.before.before in
     let head = l.before.before.before.before.before in
-    (search rules, line_more _ _ _ head.loop.invariant.1 l.put-line.ensures (omega arith) (search rules) (search rules))
+    (search rules, line_more _ _ _ head.loop.invariant.1 l.put_line.ensures (omega arith) (search rules) (search rules))
 
 pub put_page_spec : {M : Type 1} → statement M
 put_page_spec =

@@ -5,7 +5,7 @@ use Rattle.whole.proofs.Words.{not_negative}
 use Rattle.quarter_wave_test.proofs.write_entry.Statement.{statement}
 use Rattle.quarter_wave_test.proofs.write_entry.Tie as tie
 
-cast_print_decimal : tie.Need-overflow-cast-print-decimal
+cast_print_decimal : tie.Need-overflow_cast-print_decimal
 cast_print_decimal c =
     let f = c.before.ranges.value in
     rw (to_z-of_z f) (not_negative c.before.args.value (rw (to_z-of_z f) at c.if1.false), Fits-nat_abs tt f)

@@ -9,13 +9,13 @@ use Rattle.report.proofs.pair_products.Tie as tie
 returns : tie.Need-returns
 returns c =
     let q = c.before.before.before in
-    let counted = (subst (CountsPromise q.before.args.n) c.before.counts.given.1 q.count-query.ensures).counted in
+    let counted = (subst (CountsPromise q.before.args.n) c.before.counts.given.1 q.count_query.ensures).counted in
     λ x y. ((counted refl).0.of_pair x y).0
 
 returns-2 : tie.Need-returns-2
 returns-2 c =
     let q = c.before.before in
-    let refused = (subst (CountsPromise q.before.args.n) c.enum_told.given.1 q.count-query.ensures).verdict in
+    let refused = (subst (CountsPromise q.before.args.n) c.enum_told.given.1 q.count_query.ensures).verdict in
     absurd (refuses c.enum_told.given.0.0 (rw q.before.requires at refused))
 
 pub pair_products_spec : {M : Type 1} → statement M

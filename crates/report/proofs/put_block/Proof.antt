@@ -9,18 +9,18 @@ use Rattle.report.proofs.put_block.Statement.{statement}
 use Rattle.report.proofs.put_block.Tie as tie
 
 -- places on the way, from behind the call of Pair: the allowance, and the start
-abbrev allowed : tie.After-pair → tie.After-pair-products
+abbrev allowed : tie.After-pair → tie.After-pair_products
 allowed c = c.before.before.before.before
 
 abbrev start : tie.After-pair → tie.Start
 start c = (allowed c).before.before
 
-put-lines-requires : tie.Need-put-lines-requires
-put-lines-requires c κs =
+put_lines-requires : tie.Need-put_lines-requires
+put_lines-requires c κs =
     let p = c.before.before.before.before.before.before in
     let s = start p in
     let k = s.pre.0 in
-    let done = pair_done s.args.block p.pair.result k (allowed p).pair-products.ensures p.pair.ensures in (
+    let done = pair_done s.args.block p.pair.result k (allowed p).pair_products.ensures p.pair.ensures in (
       omega (arith, few_blocks s.args.block s.args.n _ k.length_ok k.most),
       length_le s.args.n k.length_ok,
       omega (arith, done.real_words.len, k.real_words),
@@ -33,8 +33,8 @@ returns c =
     let l = c.before.before in
     let p = l.before.before.before.before.before.before.before in
     let s = start p in
-    let done = pair_done s.args.block p.pair.result s.pre.0 (allowed p).pair-products.ensures p.pair.ensures in
-    let r = l.put-lines.ensures in
+    let done = pair_done s.args.block p.pair.result s.pre.0 (allowed p).pair_products.ensures p.pair.ensures in
+    let r = l.put_lines.ensures in
     record {
       put = rw (lines_same s.args.block _ _ _ _ s.args.n (front done.real_words) (front done.imaginary_words)) at r.0;
       fits = r.1;
@@ -48,7 +48,7 @@ put_block_spec =
     (λ c κs. search rules)  -- pair-products-requires
     (λ c. search rules)  -- mul-pair
     (λ c κs. search rules)  -- pair-requires
-    put-lines-requires
+    put_lines-requires
     (λ c. search rules)  -- same-length
     (λ c. search rules)  -- same-length-2
     (λ c. search rules)  -- same-length-3

@@ -26,7 +26,7 @@ put_output_spec =
     let r = w.before.before.before.before in
     let pre = (start r).requires in
     refusal_put _ _ _ _ _ _ r.read.ensures pre.0 pre.1 w.answer.given.1 n.number_of_lem.ensures
-    p.put-refusal.ensures)  -- returns
+    p.put_refusal.ensures)  -- returns
     (λ c. search rules)  -- same-length-4
     (λ c. search rules)  -- same-length-5
     (λ c. search rules)  -- same-length-6
@@ -37,4 +37,4 @@ put_output_spec =
     let w = p.before.before.before.before.before.before.before.before in
     let r = w.before.before.before.before in
     let pre = (start r).requires in
-    spectra_put _ _ _ _ _ _ r.read.ensures pre.0 pre.1 _ w.answer2.given.1 p.put-spectra.ensures))  -- returns-2
+    spectra_put _ _ _ _ _ _ r.read.ensures pre.0 pre.1 _ w.answer2.given.1 p.put_spectra.ensures))  -- returns-2

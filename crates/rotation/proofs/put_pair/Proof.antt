@@ -26,14 +26,14 @@ module _ (c : tie.After-y) where
   sine : let a = start.args in to_z w64 (of_z w64 (sine_at a.n a.w.now a.k)) ≡ sine_at a.n a.w.now a.k
   sine = (held c.y.given refl).is
 
-  entry : to_z w64 (of_z w64 c.before.before.before.wave-at.result) ≡ T start.args.j
-  entry = let v = c.before.before.before.wave-at in (held v.type-inv v.ensures).is
+  entry : to_z w64 (of_z w64 c.before.before.before.wave_at.result) ≡ T start.args.j
+  entry = let v = c.before.before.before.wave_at in (held v.type_inv v.ensures).is
 
-  mirror : to_z w64 (of_z w64 c.before.before.wave-at2.result) ≡ T (1024 - start.args.j)
-  mirror = let v = c.before.before.wave-at2 in (held v.type-inv v.ensures).is
+  mirror : to_z w64 (of_z w64 c.before.before.wave_at2.result) ≡ T (1024 - start.args.j)
+  mirror = let v = c.before.before.wave_at2 in (held v.type_inv v.ensures).is
 
-rotate-pair-requires : tie.Need-rotate-pair-requires
-rotate-pair-requires c κs =
+rotate_pair-requires : tie.Need-rotate_pair-requires
+rotate_pair-requires c κs =
     let p = (start c).requires in
     rw (cosine c, sine c, entry c, mirror c) (
       (p.2.cosine_small, p.2.sine_small),
@@ -44,12 +44,12 @@ returns : tie.Need-returns
 returns c =
     let q = c.before.before.before.before.before.before.before in
     let y = q.before in
-    let r = rw (cosine y, sine y, entry y, mirror y) at q.rotate-pair.ensures in
+    let r = rw (cosine y, sine y, entry y, mirror y) at q.rotate_pair.ensures in
     let p = (start y).requires.2 in
     record {
       both = two_put (omega (arith, p.some, p.below, p.fits)) (λ e. absurd (omega (arith, p.below)))
           (held c.before.before.before.before.before.before.struct_told.given.0.1 r.low).is
-          (held c.before.before.before.before.before.struct-told2.given.1.0.1 r.high).is;
+          (held c.before.before.before.before.before.struct_told2.given.1.0.1 r.high).is;
       tallied = omega (arith, r, c.larger.ensures);
     }
 
@@ -68,7 +68,7 @@ put_pair_spec =
     (λ c. search rules)  -- add-y-3
     (λ c. search rules)  -- mul-y
     (λ c. search rules)  -- slice-copy-out-y
-    rotate-pair-requires
+    rotate_pair-requires
     (λ c. search rules)  -- mul-low
     (λ c. search rules)  -- slice-set-from-low
     (λ c. search rules)  -- sub-high

@@ -20,9 +20,9 @@ returns c =
     record {
       both = two_put (omega (arith, p.fits)) (λ e. absurd (omega (arith, p.some)))
           (rw add-zero (held m.before.before.first.given refl).is)
-          ((held c.before.before.before.struct_told.given.0.1 m.rotate-middle.ensures.middle).is
+          ((held c.before.before.before.struct_told.given.0.1 m.rotate_middle.ensures.middle).is
           ∙ ap round cosine_is);
-      tallied = omega (arith, m.rotate-middle.ensures, ap rest_size cosine_is, c.larger.ensures);
+      tallied = omega (arith, m.rotate_middle.ensures, ap rest_size cosine_is, c.larger.ensures);
     }
 
 pub put_single_spec : {M : Type 1} → statement M

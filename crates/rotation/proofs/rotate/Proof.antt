@@ -13,8 +13,8 @@ invariant-loop wave w₀ n h step tally₀ k₀ w tally k = ((1 ≤ k) × (k ≤
 abbrev decreases-loop : tie.decreases-loop
 decreases-loop wave w₀ n h step tally₀ k₀ w tally k = h - k
 
-put-pair-requires : tie.Need-put-pair-requires invariant-loop decreases-loop
-put-pair-requires c κs =
+put_pair-requires : tie.Need-put_pair-requires invariant-loop decreases-loop
+put_pair-requires c κs =
     let l = c.before.before in
     let s = l.before.requires in
     (s.0, place s.1 _ (omega arith), pair_ready s.1 l.loop.invariant.1 (omega arith))
@@ -22,10 +22,10 @@ put-pair-requires c κs =
 loop_again : tie.Need-loop-preserved invariant-loop decreases-loop
 loop_again c =
     let l = c.before.before.before.before in
-    (omega arith, pair_more l.before.requires.1 l.loop.invariant.1 (omega arith) refl c.before.put-pair.ensures)
+    (omega arith, pair_more l.before.requires.1 l.loop.invariant.1 (omega arith) refl c.before.put_pair.ensures)
 
-put-single-requires : tie.Need-put-single-requires invariant-loop decreases-loop
-put-single-requires c κs =
+put_single-requires : tie.Need-put_single-requires invariant-loop decreases-loop
+put_single-requires c κs =
     let l = c.before.before in
     let s = l.before.requires in
     (s.0, single_ready s.1 l.loop.invariant.1 (omega arith))
@@ -33,7 +33,7 @@ put-single-requires c κs =
 returns : tie.Need-returns invariant-loop decreases-loop
 returns c =
     let l = c.before.before.before.before in
-    all_made l.before.requires.1 l.loop.invariant.1 (omega arith) c.before.put-single.ensures
+    all_made l.before.requires.1 l.loop.invariant.1 (omega arith) c.before.put_single.ensures
 
 pub rotate_spec : {M : Type 1} → statement M
 rotate_spec =
@@ -44,10 +44,10 @@ rotate_spec =
     (λ c. search rules)  -- div-step
     (λ c. (omega (arith, c.requires.1.some), none_made refl))  -- loop-holds
     (λ c. let l = c.before.before in omega (arith, place l.before.requires.1 l.loop.k (omega arith)))  -- mul-put-pair
-    put-pair-requires
+    put_pair-requires
     (λ c. search rules)  -- add-k
     (λ c. search rules)  -- loop-less
     loop_again
-    put-single-requires
+    put_single-requires
     (λ c. search rules)  -- same-length
     returns)

@@ -26,29 +26,29 @@ next : {j : ℕ} (s k : ℕ) → j ≡ s * k → (j + s ≡ s * (k + 1)) × (j +
 next s k e = omega arith
 
 -- the first pair of a turn is put
-module _ (c : tie.After-put-pair invariant-loop decreases-loop) where
+module _ (c : tie.After-put_pair invariant-loop decreases-loop) where
   abbrev head : tie.At-loop invariant-loop decreases-loop
   head = c.before.before.before
 
   abbrev start : tie.Start invariant-loop decreases-loop
   start = head.before
 
-  one : let a = start.args in Run a.n a.w.now a.spent head.loop.k c.put-pair.new.1.0 c.put-pair.result
-  one = pair_more start.pre.1 head.loop.inv.1 (omega arith) head.loop.inv.0.2 c.put-pair.ensures
+  one : let a = start.args in Run a.n a.w.now a.spent head.loop.k c.put_pair.new.1.0 c.put_pair.result
+  one = pair_more start.pre.1 head.loop.inv.1 (omega arith) head.loop.inv.0.2 c.put_pair.ensures
 
   place_two : head.loop.j + 1024 / start.args.n ≡ 1024 / start.args.n * (head.loop.k + 1)
   place_two = (next _ _ head.loop.inv.0.2).0
 
 -- the table's place where the next turn begins
-turn_place : (c : tie.After-put-pair invariant-loop decreases-loop) → (head c).loop.j + 2 * (1024 / (start c).args.n) ≤ 1024
+turn_place : (c : tie.After-put_pair invariant-loop decreases-loop) → (head c).loop.j + 2 * (1024 / (start c).args.n) ≤ 1024
 turn_place c =
     let l = (head c).loop in
     let s = (start c).requires in
     let more = follows _ _ s.2 l.inv.0.0 (omega arith) in
     omega (arith, next _ _ l.inv.0.2, place s.1 (l.k + 2) (omega (arith, more)))
 
-put-pair-requires : tie.Need-put-pair-requires invariant-loop decreases-loop
-put-pair-requires c κs =
+put_pair-requires : tie.Need-put_pair-requires invariant-loop decreases-loop
+put_pair-requires c κs =
     let l = c.before.before in
     let s = l.before.requires in (
       s.0,
@@ -56,8 +56,8 @@ put-pair-requires c κs =
       pair_ready s.1 l.loop.invariant.1 (omega arith),
     )
 
-put-pair-requires-2 : tie.Need-put-pair-requires-2 invariant-loop decreases-loop
-put-pair-requires-2 c κs =
+put_pair-requires-2 : tie.Need-put_pair-requires-2 invariant-loop decreases-loop
+put_pair-requires-2 c κs =
     let d = c.before.before in
     let s = (start d).requires in (
       s.0,
@@ -71,12 +71,12 @@ loop_again c =
     let s = (start d).requires in
     let l = (head d).loop.invariant.0 in (
       omega (arith, follows _ _ s.2 l.0 (omega arith), next _ _ l.2),
-      pair_more s.1 (one d) (omega arith) (place_two d) c.before.put-pair2.ensures,
+      pair_more s.1 (one d) (omega arith) (place_two d) c.before.put_pair2.ensures,
     )
 
 -- the last pair
-put-pair-requires-3 : tie.Need-put-pair-requires-3 invariant-loop decreases-loop
-put-pair-requires-3 c κs =
+put_pair-requires-3 : tie.Need-put_pair-requires-3 invariant-loop decreases-loop
+put_pair-requires-3 c κs =
     let l = c.before.before in
     let s = l.before.requires in (
       s.0,
@@ -84,16 +84,16 @@ put-pair-requires-3 c κs =
       pair_ready s.1 l.loop.invariant.1 (omega arith),
     )
 
-last : (c : tie.After-put-pair3 invariant-loop decreases-loop) →
+last : (c : tie.After-put_pair3 invariant-loop decreases-loop) →
     let l = c.before.before.before in
     let a = l.before.args in
-    Run a.n a.w.now a.spent l.loop.k c.put-pair3.new.1.0 c.put-pair3.result
+    Run a.n a.w.now a.spent l.loop.k c.put_pair3.new.1.0 c.put_pair3.result
 last c =
     let l = c.before.before.before in
-    pair_more l.before.requires.1 l.loop.invariant.1 (omega arith) l.loop.invariant.0.2 c.put-pair3.ensures
+    pair_more l.before.requires.1 l.loop.invariant.1 (omega arith) l.loop.invariant.0.2 c.put_pair3.ensures
 
-put-single-requires : tie.Need-put-single-requires invariant-loop decreases-loop
-put-single-requires c κs =
+put_single-requires : tie.Need-put_single-requires invariant-loop decreases-loop
+put_single-requires c κs =
     let d = c.before.before in
     let s = d.before.before.before.before.requires in
     (s.0, single_ready s.1 (last d) (omega arith))
@@ -102,7 +102,7 @@ returns : tie.Need-returns invariant-loop decreases-loop
 returns c =
     let d = c.before.before.before.before in
     let s = d.before.before.before.before.requires.1 in
-    all_made s (last d) (omega arith) c.before.put-single.ensures
+    all_made s (last d) (omega arith) c.before.put_single.ensures
 
 pub rotate_by_twos_spec : {M : Type 1} → statement M
 rotate_by_twos_spec =
@@ -113,16 +113,16 @@ rotate_by_twos_spec =
     (λ c. search rules)  -- div-step
     (λ c. (omega (arith, c.requires.1.some, c.requires.2), none_made refl))  -- loop-holds
     (λ c. search rules)  -- add-loop
-    put-pair-requires
+    put_pair-requires
     (λ c. omega (arith, turn_place c.before.before))  -- add-put-pair
     (λ c. search rules)  -- add-put-pair-2
-    put-pair-requires-2
+    put_pair-requires-2
     (λ c. omega (arith, turn_place c.before.before.before.before))  -- mul-j
     (λ c. omega (arith, turn_place c.before.before.before.before))  -- add-j
     (λ c. search rules)  -- add-k
     (λ c. search rules)  -- loop-less
     loop_again
-    put-pair-requires-3
-    put-single-requires
+    put_pair-requires-3
+    put_single-requires
     (λ c. search rules)  -- same-length
     returns)

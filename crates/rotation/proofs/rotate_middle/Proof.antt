@@ -17,16 +17,16 @@ use Rattle.whole.proofs.Operations.{Computes, computes}
 use Rattle.rotation.proofs.rotate_middle.Statement.{statement}
 use Rattle.rotation.proofs.rotate_middle.Tie as tie
 
-size : (c : tie.After-wave-at) → T 512 *ℤ c.before.args.cosine within 2 ^ 62
+size : (c : tie.After-wave_at) → T 512 *ℤ c.before.args.cosine within 2 ^ 62
 size c = within_le (within_mul (entry_within 512 (lit≤ tt)) (size_within _ c.before.requires.1)) (lit≤ tt)
 
-product : (c : tie.After-wave-at) →
+product : (c : tie.After-wave_at) →
     let C = c.before.args.cosine in
-    Computes ◌*ℤ◌ (of_z w64 c.wave-at.result) (of_z w64 C) (T 512) C
-product c = computes ◌*ℤ◌ (held c.wave-at.type-inv c.wave-at.ensures) (word c.before.ranges.cosine) (within_fits (size c) (lit< tt))
+    Computes ◌*ℤ◌ (of_z w64 c.wave_at.result) (of_z w64 C) (T 512) C
+product c = computes ◌*ℤ◌ (held c.wave_at.type_inv c.wave_at.ensures) (word c.before.ranges.cosine) (within_fits (size c) (lit< tt))
 
 -- the rest that is read
-middle_rest : (c : tie.After-struct-told) →
+middle_rest : (c : tie.After-struct_told) →
     Word w64 (of_z w64 c.before.round.result.rest) (rest (T 512 *ℤ c.before.before.before.args.cosine))
 middle_rest c = held c.struct_told.given.1.0.1 (c.before.round.ensures.1 ∙ ap rest (product c.before.before).made)
 
@@ -34,7 +34,7 @@ returns : tie.Need-returns
 returns c =
     let one = c.before.before in
     record {
-      middle = (held c.struct-told2.given.0.1 one.before.round.ensures.0).is ∙ ap round (product one.before.before).made;
+      middle = (held c.struct_told2.given.0.1 one.before.round.ensures.0).is ∙ ap round (product one.before.before).made;
       one_product = search rules;
       rest_size_lem = c.before.type_size.ensures ∙ ap nat_abs (middle_rest one).is;
     }

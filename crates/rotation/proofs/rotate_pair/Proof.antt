@@ -60,17 +60,17 @@ module _ (a : tie.Start) where
   second_is = let v = a.args in second.made ∙ second_form v.cosine v.sine v.c v.s
 
 -- their rests
-low_rest : (c : tie.After-struct-told) →
+low_rest : (c : tie.After-struct_told) →
     let v = c.before.before.before.args in
     Word w64 (of_z w64 c.before.before.round.result.rest) (rest (v.c *ℤ v.cosine -ℤ v.s *ℤ v.sine))
 low_rest c = held c.struct_told.given.1.0.1 (c.before.before.round.ensures.1 ∙ ap rest (first_is c.before.before.before))
 
-high_rest : (c : tie.After-struct-told2) →
+high_rest : (c : tie.After-struct_told2) →
     let v = c.before.before.before.before.before.args in
     Word w64 (of_z w64 c.before.before.before.round2.result.rest) (rest (v.s *ℤ v.cosine +ℤ v.c *ℤ v.sine))
 high_rest c =
     let two = c.before.before.before in
-    held c.struct-told2.given.1.0.1 (two.round2.ensures.1 ∙ ap rest (second_is two.before.before))
+    held c.struct_told2.given.1.0.1 (two.round2.ensures.1 ∙ ap rest (second_is two.before.before))
 
 returns : tie.Need-returns
 returns c =
@@ -79,13 +79,13 @@ returns c =
     let one = two.before.before in
     let a = one.before.before.before in
     record {
-      low = (held c.before.struct-told3.given.0.1 one.before.before.round.ensures.0).is ∙ ap round (first_is a);
-      high = (held c.struct-told4.given.0.1 one.before.round2.ensures.0).is ∙ ap round (second_is a);
+      low = (held c.before.struct_told3.given.0.1 one.before.before.round.ensures.0).is ∙ ap round (first_is a);
+      high = (held c.struct_told4.given.0.1 one.before.round2.ensures.0).is ∙ ap round (second_is a);
       three_products = refl;
       three_sums = refl;
       larger_rest = l.larger.ensures ∙ ap₂ max
           (two.before.type_size.ensures ∙ ap nat_abs (low_rest one).is)
-          (l.before.size-of2.ensures ∙ ap nat_abs (high_rest two).is);
+          (l.before.size_of2.ensures ∙ ap nat_abs (high_rest two).is);
     }
 
 pub rotate_pair_spec : {M : Type 1} → statement M

@@ -11,13 +11,13 @@ use Rattle.spectra.proofs.Accepted.{taken, cosine_ready, cosine_done}
 use Rattle.spectra.proofs.cosine.Statement.{statement}
 use Rattle.spectra.proofs.cosine.Tie as tie
 
-abbrev call : tie.After-test-cosine → Call
+abbrev call : tie.After-test_cosine → Call
 call c =
     let a = c.before.before.before.args in
     cosine_call a.recording.now a.start a.length a.allowance a.coefficients.now a.scratch.now
 
-passed : (c : tie.After-enum-told) → Passes (call c.before.before)
-passed c = passes _ (passed_by c.before.before.test-cosine.ensures accepted c.enum_told.given.1)
+passed : (c : tie.After-enum_told) → Passes (call c.before.before)
+passed c = passes _ (passed_by c.before.before.test_cosine.ensures accepted c.enum_told.given.1)
 
 pub cosine_spec : {M : Type 1} → statement M
 cosine_spec =
@@ -28,7 +28,7 @@ cosine_spec =
     (λ c. search rules)  -- same-length
     (λ c. search rules)  -- same-length-2
     (λ c. let t = c.before.before.before in
-    refused_by t.test-cosine.ensures accepted (refl, refl) c.before.tested.given.1)  -- returns
+    refused_by t.test_cosine.ensures accepted (refl, refl) c.before.tested.given.1)  -- returns
     (λ c. search rules)  -- enum_told
     (λ c. record { fits = omega (arith, (passed c).recordings.0) })  -- add-end
     (λ c κs. length_le _ (passed c).length_ok)  -- scratch-words-requires
@@ -40,7 +40,7 @@ cosine_spec =
     (λ c. taken _ _ (omega (arith, (passed c.before.before.before.before).scratch)))  -- slice-aggregate-cosine-of
     (λ c κs. let m = c.before.before.before in
     let a = m.before.before.before.before.before.before.args in
-    cosine_ready m.scratch-words.ensures _ a.coefficients.now _ (passed m.before))  -- cosine-of-requires
+    cosine_ready m.scratch_words.ensures _ a.coefficients.now _ (passed m.before))  -- cosine-of-requires
     (λ c. search rules)  -- same-length-3
     (λ c. search rules)  -- same-length-4
     (λ c. search (rules, cosine_done, passed)))  -- returns-2

@@ -11,11 +11,11 @@ use Rattle.spectra.proofs.count_query.Tie as tie
 
 returns : tie.Need-returns
 returns c =
-    let no = sym c.before.is-length.ensures ∙ not-true _ c.if1.true in
+    let no = sym c.before.is_length.ensures ∙ not-true _ c.if1.true in
     record { verdict = rw no; counted = λ e. absurd (not_both e) }
 
 accepted : (c : tie.Else1) → is_length c.before.before.args.length ≡ true
-accepted c = sym c.before.is-length.ensures ∙ not-false _ c.if1.false
+accepted c = sym c.before.is_length.ensures ∙ not-false _ c.if1.false
 
 returns-2 : tie.Need-returns-2
 returns-2 c =

@@ -12,7 +12,7 @@ counts_at_spec =
     tie.close
     (tie.spec
     (λ c κs. search rules)  -- is-length-requires
-    (λ c κs. sym c.before.is-length.ensures ∙ c.if1.true)  -- counts-of-requires
+    (λ c κs. sym c.before.is_length.ensures ∙ c.if1.true)  -- counts-of-requires
     (λ c κs. refl)  -- counts-of-requires-2
     (λ c. search rules)  -- returns
-    (λ c yes. absurd (false≢true (sym c.before.if1.false ∙ c.before.before.is-length.ensures ∙ yes))))  -- returns-2
+    (λ c yes. absurd (false≢true (sym c.before.if1.false ∙ c.before.before.is_length.ensures ∙ yes))))  -- returns-2

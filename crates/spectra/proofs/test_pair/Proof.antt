@@ -28,12 +28,12 @@ told c e rest =
     let a = c.before.before.before.before.args in
     let shortest = two_below _ _ c.before.before.shorter.ensures in
     let room = two_below _ _ c.before.shorter2.ensures in
-    by_first (call c) refl _ _ _ shortest room (λ ok. ((c.before.before.before.counts-at.ensures ok).of_pair _ _).0)
+    by_first (call c) refl _ _ _ shortest room (λ ok. ((c.before.before.before.counts_at.ensures ok).of_pair _ _).0)
     c.test.ensures rest
     ∙ ap (λ t. behind t (first_out_or (word a.b.now) a.start a.length rest)) e
 
 -- where a passes them, b's block lies in its recording
-inside : (c : tie.After-enum-told) → let a = c.before.before.before.before.before.before.args in
+inside : (c : tie.After-enum_told) → let a = c.before.before.before.before.before.before.args in
     a.start + a.length ≤ length a.b.now
 inside c =
     let t = c.before.before in
@@ -62,5 +62,5 @@ test_pair_spec =
     (λ c. let p = c.before in
     record {
       verdict = λ rest. told p.before.before.before.before p.before.before.enum_told.given.1 rest
-          ∙ found_none 6 rest p.before.first_out.ensures c.enum-told2.given.1;
+          ∙ found_none 6 rest p.before.first_out.ensures c.enum_told2.given.1;
     }))  -- returns-3

@@ -105,12 +105,12 @@ four h = omega arith
 two : {n : ℕ} → 16 < n → 2 ≤ n
 two h = omega arith
 
-cosine_join : (t : ℕ) → cosine-dft-lts.Need-join-cosine-requires (cosine_dft_calls t) (cosine_dft_at t) cosine-dft.Post
+cosine_join : (t : ℕ) → cosine-dft-lts.Need-join_cosine-requires (cosine_dft_calls t) (cosine_dft_at t) cosine-dft.Post
 cosine_join t c κs =
     let d = c.before.before in
     let f = d.before.before.before in
     let e = f.before.before.before in
-    lent_join_ready cosine_kind e.before.before.before.requires.1.1 (omega arith) e.cosine-dft.ensures f.put-folded-sums.ensures
+    lent_join_ready cosine_kind e.before.before.before.requires.1.1 (omega arith) e.cosine_dft.ensures f.put_folded_sums.ensures
     d.dct.ensures
 
 cosine_ends : (t : ℕ) → cosine-dft-lts.Need-returns-2 (cosine_dft_calls t) (cosine_dft_at t) cosine-dft.Post
@@ -118,15 +118,15 @@ cosine_ends t c =
     let d = c.before.before.before.before in
     let f = d.before.before.before in
     let e = f.before.before.before in
-    lent_ends cosine_kind e.before.before.before.requires.1.1 (omega arith) e.cosine-dft.ensures f.put-folded-sums.ensures
-    d.dct.ensures c.before.join-cosine.ensures
+    lent_ends cosine_kind e.before.before.before.requires.1.1 (omega arith) e.cosine_dft.ensures f.put_folded_sums.ensures
+    d.dct.ensures c.before.join_cosine.ensures
 
-sine_join : (t : ℕ) → sine-dft-lts.Need-join-sine-requires (sine_dft_calls t) (sine_dft_at t) sine-dft.Post
+sine_join : (t : ℕ) → sine-dft-lts.Need-join_sine-requires (sine_dft_calls t) (sine_dft_at t) sine-dft.Post
 sine_join t c κs =
     let d = c.before.before in
     let f = d.before.before.before in
     let e = f.before.before.before in
-    lent_sine_ready e.before.before.before.requires.1.1 (omega arith) e.sine-dft.ensures f.put-folded-differences.ensures
+    lent_sine_ready e.before.before.before.requires.1.1 (omega arith) e.sine_dft.ensures f.put_folded_differences.ensures
     d.dct.ensures
 
 sine_ends : (t : ℕ) → sine-dft-lts.Need-returns-2 (sine_dft_calls t) (sine_dft_at t) sine-dft.Post
@@ -134,11 +134,11 @@ sine_ends t c =
     let d = c.before.before.before.before in
     let f = d.before.before.before in
     let e = f.before.before.before in
-    lent_ends sine_kind e.before.before.before.requires.1.1 (omega arith) e.sine-dft.ensures f.put-folded-differences.ensures
-    d.dct.ensures c.before.join-sine.ensures
+    lent_ends sine_kind e.before.before.before.requires.1.1 (omega arith) e.sine_dft.ensures f.put_folded_differences.ensures
+    d.dct.ensures c.before.join_sine.ensures
 
-pub +cosine-dft-dct-sine-dft-spec : {M : Type 1} → statement M
-+cosine-dft-dct-sine-dft-spec = close μ-cosine-dft μ-dct μ-sine-dft (λ t. cosine-dft-lts.spec (cosine_dft_calls t)
+pub +cosine_dft_dct_sine_dft_spec : {M : Type 1} → statement M
++cosine_dft_dct_sine_dft_spec = close μ-cosine-dft μ-dct μ-sine-dft (λ t. cosine-dft-lts.spec (cosine_dft_calls t)
     (cosine_dft_at t)
     cosine-dft.Post
     (λ c κs. search rules)  -- cosine-dft-cosine-short-requires

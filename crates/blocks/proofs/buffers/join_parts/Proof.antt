@@ -30,8 +30,8 @@ even : (c : tie.In-loop invariant-loop decreases-loop) →
     (2 * (n / 2) ≡ n) × (1 ≤ c.before.loop.k) × (c.before.loop.k < n / 2)
 even c = let e = c.before.before.requires.whole (λ e. omega arith) in (e, omega arith, omega arith)
 
-put-sum-and-difference-requires : tie.Need-put-sum-and-difference-requires invariant-loop decreases-loop
-put-sum-and-difference-requires c κs =
+put_sum_and_difference-requires : tie.Need-put_sum_and_difference-requires invariant-loop decreases-loop
+put_sum_and_difference-requires c κs =
     let i = c.before in
     let l = i.before in
     let s = l.before.requires in
@@ -44,8 +44,8 @@ put-sum-and-difference-requires c κs =
       room = omega (arith, s.room);
     }
 
-put-sum-and-difference-requires-2 : tie.Need-put-sum-and-difference-requires-2 invariant-loop decreases-loop
-put-sum-and-difference-requires-2 c κs =
+put_sum_and_difference-requires-2 : tie.Need-put_sum_and_difference-requires-2 invariant-loop decreases-loop
+put_sum_and_difference-requires-2 c κs =
     let p = c.before.before in
     let i = p.before.before in
     let l = i.before in
@@ -56,7 +56,7 @@ put-sum-and-difference-requires-2 c κs =
       c_small = s.of_imaginary.cosine_small l.loop.k (omega arith);
       s_small = s.of_imaginary.sine_small l.loop.k (omega arith);
       apart = omega arith;
-      room = omega (arith, s.room, p.put-sum-and-difference.ensures.tallied);
+      room = omega (arith, s.room, p.put_sum_and_difference.ensures.tallied);
     }
 
 loop_again : tie.Need-loop-preserved invariant-loop decreases-loop
@@ -67,21 +67,21 @@ loop_again c =
     let l = i.before in
     let s = l.before.requires in
     let e = even i in
-    let real = p.put-sum-and-difference.ensures in
-    let imaginary = q.put-sum-and-difference2.ensures in (
+    let real = p.put_sum_and_difference.ensures in
+    let imaginary = q.put_sum_and_difference2.ensures in (
       omega (arith, l.loop.invariant.0.2, real.tallied, imaginary.tallied),
       part_turn adding s.of_real e l.loop.invariant.1 real.both,
       part_turn subtracting s.of_imaginary e l.loop.invariant.2 (put_turned imaginary.both),
     )
 
-store-ends-requires : tie.Need-store-ends-requires invariant-loop decreases-loop
-store-ends-requires c κs =
+store_ends-requires : tie.Need-store_ends-requires invariant-loop decreases-loop
+store_ends-requires c κs =
     let l = c.before.before in
     let s = l.before.requires in
     (omega (arith, s.fits, s.real_fits, s.some, l.loop.invariant.1.len), λ k h. omega (arith, s.of_real.cosine_small k h))
 
-store-ends-requires-2 : tie.Need-store-ends-requires-2 invariant-loop decreases-loop
-store-ends-requires-2 c κs =
+store_ends-requires-2 : tie.Need-store_ends-requires-2 invariant-loop decreases-loop
+store_ends-requires-2 c κs =
     let l = c.before.before.before.before.before in
     let s = l.before.requires in
     (omega (arith, s.fits, s.imaginary_fits, s.some, l.loop.invariant.2.len), λ k h. omega (arith, s.of_imaginary.cosine_small k h))
@@ -94,9 +94,9 @@ returns c =
     let n = l.before.args.n in
     let done : l.loop.k - 1 ≡ n - n / 2 - 1 = omega arith in
     record {
-      real_words = part_ends adding s.of_real (s.some, done) s.whole l.loop.invariant.1 f.store-ends.ensures;
+      real_words = part_ends adding s.of_real (s.some, done) s.whole l.loop.invariant.1 f.store_ends.ensures;
       imaginary_words = part_ends subtracting s.of_imaginary (s.some, done) s.whole l.loop.invariant.2
-          c.before.store-ends2.ensures;
+          c.before.store_ends2.ensures;
       tallied = rw (parts_sums n l.loop.k s.whole (omega arith)) at l.loop.invariant.0.2;
     }
 
@@ -118,16 +118,16 @@ join_parts_spec =
     (λ c. search rules)  -- add-put-sum-and-difference
     (λ c. search rules)  -- add-put-sum-and-difference-2
     (λ c. search rules)  -- sub-put-sum-and-difference
-    put-sum-and-difference-requires
+    put_sum_and_difference-requires
     (λ c. search rules)  -- add-put-sum-and-difference-3
     (λ c. search rules)  -- add-put-sum-and-difference-4
     (λ c. search rules)  -- sub-put-sum-and-difference-2
-    put-sum-and-difference-requires-2
+    put_sum_and_difference-requires-2
     (λ c. search rules)  -- add-k
     (λ c. search rules)  -- loop-less
     loop_again
-    store-ends-requires
-    store-ends-requires-2
+    store_ends-requires
+    store_ends-requires-2
     (λ c. search rules)  -- same-length
     (λ c. search rules)  -- same-length-2
     returns)

@@ -28,18 +28,18 @@ factor : (c : tie.After-c invariant-loop decreases-loop) →
     Word w64 (of_z w64 (to_z w32 (of_z w32 x))) x
 factor c = read_widened _ c.c.given
 
-wave : (c : tie.After-wave-on-circle invariant-loop decreases-loop) →
+wave : (c : tie.After-wave_on_circle invariant-loop decreases-loop) →
     let l = c.before.before.before in
     let k = l.before.args.first + 2 * l.loop.i in
-    Word w64 (of_z w64 c.wave-on-circle.result) (T° (l.before.args.turn * k))
-wave c = held c.wave-on-circle.type-inv (place_wave _ _ c.wave-on-circle.ensures c.before.before.before.loop.invariant.1)
+    Word w64 (of_z w64 c.wave_on_circle.result) (T° (l.before.args.turn * k))
+wave c = held c.wave_on_circle.type_inv (place_wave _ _ c.wave_on_circle.ensures c.before.before.before.loop.invariant.1)
 
 loop_again : tie.Need-loop-preserved invariant-loop decreases-loop
 loop_again c =
     let l = c.before.before.before.before in (
       search rules,
       place_on _ _ _ _ l.loop.invariant.1,
-      sum_more l.loop.invariant.2 (factor c.before.before).is (wave c.before).is c.add-product.ensures,
+      sum_more l.loop.invariant.2 (factor c.before.before).is (wave c.before).is c.add_product.ensures,
     )
 
 pub every_other_spec : {M : Type 1} → statement M

@@ -23,7 +23,7 @@ wave_on_circle_spec =
     tie.close
     (tie.spec
     (λ c κs. search rules)  -- wave-on-half-requires
-    (λ c. (held c.wave-on-half.type-inv c.wave-on-half.ensures).is ∙ sym (low _ (omega arith)))  -- returns
+    (λ c. (held c.wave_on_half.type_inv c.wave_on_half.ensures).is ∙ sym (low _ (omega arith)))  -- returns
     (λ c. search rules)  -- sub-wave-on-half
     (λ c κs. search rules)  -- wave-on-half-requires-2
-    (λ c. (held c.wave-on-half2.type-inv c.wave-on-half2.ensures).is ∙ sym (high _ (omega arith) (omega arith))))  -- returns-2
+    (λ c. (held c.wave_on_half2.type_inv c.wave_on_half2.ensures).is ∙ sym (high _ (omega arith) (omega arith))))  -- returns-2

@@ -23,13 +23,13 @@ abbrev decreases-loop : tie.decreases-loop
 decreases-loop coefficients n values₀ wave i₀ values i = n / 2 - i
 
 -- the values that a turn stores
-near : (c : tie.After-struct-told2 invariant-loop decreases-loop) → let t = c.before.before in
-    to_z w32 (of_z w32 t.two-values.result.near) ≡ t.two-values.result.near
+near : (c : tie.After-struct_told2 invariant-loop decreases-loop) → let t = c.before.before in
+    to_z w32 (of_z w32 t.two_values.result.near) ≡ t.two_values.result.near
 near c = to_z-of_z (sfits_of c.before.struct_told.given.0.1)
 
-far : (c : tie.After-struct-told2 invariant-loop decreases-loop) → let t = c.before.before in
-    to_z w32 (of_z w32 t.two-values.result.far) ≡ t.two-values.result.far
-far c = to_z-of_z (sfits_of c.struct-told2.given.1.0.1)
+far : (c : tie.After-struct_told2 invariant-loop decreases-loop) → let t = c.before.before in
+    to_z w32 (of_z w32 t.two_values.result.far) ≡ t.two_values.result.far
+far c = to_z-of_z (sfits_of c.struct_told2.given.1.0.1)
 
 loop_again : tie.Need-loop-preserved invariant-loop decreases-loop
 loop_again c =
@@ -38,7 +38,7 @@ loop_again c =
     let a = l.before.before.before.args in (
       search rules,
       ends_turn l.loop.invariant.1 (a.n - 1 - l.loop.i) (omega arith)
-          (near c ∙ t.two-values.ensures.near_is) (far c ∙ t.two-values.ensures.far_is),
+          (near c ∙ t.two_values.ensures.near_is) (far c ∙ t.two_values.ensures.far_is),
     )
 
 pub put_values_spec : {M : Type 1} → statement M
@@ -54,7 +54,7 @@ put_values_spec =
     (λ c κs. search rules)  -- quarter-wave-requires
     (λ c. search (rules, ends_none))  -- loop-holds
     (λ c κs. (
-      c.before.before.before.quarter-wave.ensures,
+      c.before.before.before.quarter_wave.ensures,
       record { stored = c.before.before.before.before.before.requires.0; front = omega arith },
     ))  -- two-values-requires
     (λ c. search rules)  -- mul-near

@@ -25,24 +25,24 @@ module _ (c : tie.After-c) where
   first_is : Word w64 (of_z w64 (to_z w32 (of_z w32 first))) first
   first_is = read_widened _ c.c.given
 
-  small : Small 512 c.before.before.every-other.result × Small 512 c.before.every-other2.result
+  small : Small 512 c.before.before.every_other.result × Small 512 c.before.every_other2.result
   small =
       let r = start.pre.1 in
-      let e = c.before.before.every-other.ensures in
-      let o = c.before.every-other2.ensures in
+      let e = c.before.before.every_other.ensures in
+      let o = c.before.every_other2.ensures in
       (evens_small r e o, odds_small r e o)
 
 near : (c : tie.After-add) → let a = (start c.before).args in
     value_of (held c.add.result) (first c.before) a.n ≡ inverse_dct a.n (word a.coefficients.now) a.i
 near c =
     let b = c.before in
-    near_value (start b).requires.1 b.before.before.every-other.ensures b.before.every-other2.ensures c.add.ensures
+    near_value (start b).requires.1 b.before.before.every_other.ensures b.before.every_other2.ensures c.add.ensures
 
 far : (c : tie.After-subtract) → let b = c.before.before.before in let a = (start b).args in
     value_of (held c.subtract.result) (first b) a.n ≡ inverse_dct a.n (word a.coefficients.now) (a.n - 1 - a.i)
 far c =
     let b = c.before.before.before in
-    far_value (start b).requires.1 b.before.before.every-other.ensures b.before.every-other2.ensures c.subtract.ensures
+    far_value (start b).requires.1 b.before.before.every_other.ensures b.before.every_other2.ensures c.subtract.ensures
 
 returns : tie.Need-returns
 returns c =
@@ -51,9 +51,9 @@ returns c =
     let n = (start v.before.before).args.n in
     let f = (first_is v.before.before).is in
     record {
-      near_is = to_z-of_z (sfits_of v.value.type-inv) ∙ v.value.ensures
+      near_is = to_z-of_z (sfits_of v.value.type_inv) ∙ v.value.ensures
           ∙ ap (λ z. value_of (held v.before.add.result) z n) f ∙ near v.before;
-      far_is = to_z-of_z (sfits_of c.value2.type-inv) ∙ c.value2.ensures ∙ ap (λ z. value_of (held s.subtract.result) z n) f ∙ far s;
+      far_is = to_z-of_z (sfits_of c.value2.type_inv) ∙ c.value2.ensures ∙ ap (λ z. value_of (held s.subtract.result) z n) f ∙ far s;
     }
 
 pub two_values_spec : {M : Type 1} → statement M

@@ -81,7 +81,7 @@ module _ (a : tie.Start) where
       (ap (shr_z (quotient a.args.sum a.args.c +ℤ int (a.args.n / halves))) power ∙ value_is a.pre (a.args.n / halves) even)
       (shifted (2 ^ zeros) sum)
 
-abbrev start : tie.After-struct-told2 → tie.Start
+abbrev start : tie.After-struct_told2 → tie.Start
 start c = c.before.before.before.before
 
 pub value_spec : {M : Type 1} → statement M

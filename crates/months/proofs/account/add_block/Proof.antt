@@ -12,10 +12,10 @@ use Rattle.months.proofs.account.add_block.Statement.{statement}
 use Rattle.months.proofs.account.add_block.Tie as tie
 
 module _ (c : tie.After-account3) where
-  abbrev second : tie.After-add-sums2
+  abbrev second : tie.After-add_sums2
   second = c.before.before
 
-  abbrev first : tie.After-add-sums
+  abbrev first : tie.After-add_sums
   first = second.before.before.before
 
   abbrev start : tie.Start
@@ -23,13 +23,13 @@ module _ (c : tie.After-account3) where
 
   -- the words with both rows of sums
   both : BothAdded start.args.length start.args.cosine.now start.args.sine.now
-      start.args.account.now second.add-sums2.last.0
-  both = both_added start.pre.0 start.pre.1 first.add-sums.ensures second.add-sums2.ensures
+      start.args.account.now second.add_sums2.last.0
+  both = both_added start.pre.0 start.pre.1 first.add_sums.ensures second.add_sums2.ensures
 
-  read : to_z w64 (of_z w64 (word second.add-sums2.last.0 0)) ≡ word second.add-sums2.last.0 0
+  read : to_z w64 (of_z w64 (word second.add_sums2.last.0 0)) ≡ word second.add_sums2.last.0 0
   read = to_z-of_z (sfits_of c.account3.given)
 
-  fits : SFits w64 (word second.add-sums2.last.0 0 +ℤ pos 1)
+  fits : SFits w64 (word second.add_sums2.last.0 0 +ℤ pos 1)
   fits = number_fits both c.account3.given start.pre.4
 
 pub add_block_spec : {M : Type 1} → statement M
@@ -42,5 +42,5 @@ add_block_spec =
     (λ c. search rules)  -- slice-copy-out-account
     (λ c. rw (read c) (fits c))  -- add-account
     (λ c. search rules)  -- slice-set-from-account
-    (λ c. length-set (second c).add-sums2.new.0 0 _ ∙ (both c).len)  -- same-length
+    (λ c. length-set (second c).add_sums2.new.0 0 _ ∙ (both c).len)  -- same-length
     (λ c. block_added (both c) (rw (read c) (to_z-of_z (fits c)))))  -- returns

@@ -26,7 +26,7 @@ loop_again c =
     let p = t.loop.invariant.1 in (
       omega arith,
       ends_front p (omega arith)
-          (held c.added.type-inv (c.added.ensures ∙ ap₂ plus
+          (held c.added.type_inv (c.added.ensures ∙ ap₂ plus
           (to_z-of_z (sfits_of a.added-arg.given) ∙ p.between t.loop.k (omega arith) (omega arith))
           (to_z-of_z (sfits_of c.before.added-arg2.given)))).is,
     )

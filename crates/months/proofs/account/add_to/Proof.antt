@@ -40,7 +40,7 @@ add_to_spec =
     (λ c κs. let t = c.before.before.before in
     let s = t.before.before.before.before.before in
     let (short, cosines, sines) = add_ready (asked (start s)) (start s).args.account.now
-    (room (tested s)) s.spectrum.ensures t.enum-told2.given.1 in
+    (room (tested s)) s.spectrum.ensures t.enum_told2.given.1 in
     ((start s).requires, short, cosines, sines, room (tested s)))  -- add-block-requires
     (λ c. search rules)  -- same-length
     (λ c. search rules)  -- same-length-2
@@ -55,4 +55,4 @@ add_to_spec =
     (λ c. let t = c.before.before.before.before.before in
     let s = t.before.before.before.before.before in
     block_held (asked (start s)) (start s).args.account.now
-    (room (tested s)) s.spectrum.ensures t.enum-told2.given.1 c.before.add-block.ensures))  -- returns-3
+    (room (tested s)) s.spectrum.ensures t.enum_told2.given.1 c.before.add_block.ensures))  -- returns-3

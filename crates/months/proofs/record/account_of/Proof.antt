@@ -16,4 +16,4 @@ account_of_spec =
     (λ c. search rules)  -- sub-result
     (λ c. search rules)  -- part-result-start
     (λ c. omega (arith, account_fits c.before.args.party c.before.requires.1))  -- part-result-end
-    (λ c. lent_account c.before.before.args.party _ c.before.account-at.ensures refl))  -- returns
+    (λ c. lent_account c.before.before.args.party _ c.before.account_at.ensures refl))  -- returns

@@ -30,4 +30,4 @@ add_for_spec =
     (λ c. let a = c.before.before.before.before in
     let s = a.before.before.before.before.before.before in
     for_party s.args.party (asked s) s.args.month.now _ _ _ s.requires.0 s.requires.1
-    a.before.before.before.before.before.account-at.ensures refl a.add-to.ensures))  -- returns
+    a.before.before.before.before.before.account_at.ensures refl a.add-to.ensures))  -- returns

@@ -11,16 +11,16 @@ use Rattle.months.proofs.record.add_to.Tie as tie
 
 -- ---- the month's own tests
 unknown : (c : tie.Then1) → unknown_party c.before.before.args.party ≡ true
-unknown c = sym c.before.is-unknown.ensures ∙ c.if1.true
+unknown c = sym c.before.is_unknown.ensures ∙ c.if1.true
 
 known : (c : tie.Else1) → unknown_party c.before.before.args.party ≡ false
-known c = sym c.before.is-unknown.ensures ∙ c.if1.false
+known c = sym c.before.is_unknown.ensures ∙ c.if1.false
 
 other : (c : tie.Then2) → let a = c.before.before.before.before.before.args in other_length a.month.now a.length ≡ true
-other c = sym c.before.is-other-length.ensures ∙ c.if2.true
+other c = sym c.before.is_other_length.ensures ∙ c.if2.true
 
 own : (c : tie.Else2) → let a = c.before.before.before.before.before.args in other_length a.month.now a.length ≡ false
-own c = sym c.before.is-other-length.ensures ∙ c.if2.false
+own c = sym c.before.is_other_length.ensures ∙ c.if2.false
 
 abbrev asked : tie.Start → Given
 asked c = let a = c.args in
@@ -36,7 +36,7 @@ add_to_spec =
     (λ c. let e = c.before.before.before in
     let s = e.before.before in other_length_lem s.args.party (asked s) s.args.month.now (known e) (other c))  -- returns-2
     (λ c κs. let arg = c.before.before.before in
-    (arg.add-for-arg.given.0.1, known arg.before.before.before.before))  -- add-for-requires
+    (arg.add_for-arg.given.0.1, known arg.before.before.before.before))  -- add-for-requires
     (λ c. search rules)  -- same-length
     (λ c. search rules)  -- same-length-2
     (λ c. search rules)  -- same-length-3
@@ -45,4 +45,4 @@ add_to_spec =
     let e = arg.before.before.before.before in
     let s = e.before.before in
     added_for s.args.party (asked s) s.args.month.now (known e) (own arg.before) _ _ _
-    arg.add-for-arg.given.0.1 made.add-for.ensures))  -- returns-3
+    arg.add_for-arg.given.0.1 made.add_for.ensures))  -- returns-3

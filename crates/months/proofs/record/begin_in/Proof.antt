@@ -11,10 +11,10 @@ use Rattle.months.proofs.record.begin_in.Statement.{statement}
 use Rattle.months.proofs.record.begin_in.Tie as tie
 
 bad : (c : tie.Then1) → is_length c.before.before.before.args.length ≡ false
-bad c = sym c.before.is-length.ensures ∙ not-true _ c.if1.true
+bad c = sym c.before.is_length.ensures ∙ not-true _ c.if1.true
 
 good : (c : tie.Else1) → is_length c.before.before.before.args.length ≡ true
-good c = sym c.before.is-length.ensures ∙ not-false _ c.if1.false
+good c = sym c.before.is_length.ensures ∙ not-false _ c.if1.false
 
 pub begin_in_spec : {M : Type 1} → statement M
 begin_in_spec =

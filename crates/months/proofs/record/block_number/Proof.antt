@@ -12,10 +12,10 @@ use Rattle.months.proofs.record.block_number.Statement.{statement}
 use Rattle.months.proofs.record.block_number.Tie as tie
 
 unknown : (c : tie.Then1) → unknown_party c.before.before.args.party ≡ true
-unknown c = sym c.before.is-unknown.ensures ∙ c.if1.true
+unknown c = sym c.before.is_unknown.ensures ∙ c.if1.true
 
 known : (c : tie.Else1) → unknown_party c.before.before.args.party ≡ false
-known c = sym c.before.is-unknown.ensures ∙ c.if1.false
+known c = sym c.before.is_unknown.ensures ∙ c.if1.false
 
 pub block_number_spec : {M : Type 1} → statement M
 block_number_spec =
@@ -23,9 +23,9 @@ block_number_spec =
     (tie.spec
     (λ c κs. search rules)  -- is-unknown-requires
     (λ c. no_number c.before.before.args.party _ (unknown c))  -- returns
-    (λ c κs. (c.account-of-arg.given.0, known c.before))  -- account-of-requires
+    (λ c κs. (c.account_of-arg.given.0, known c.before))  -- account-of-requires
     (λ c κs. let arg = c.before in
-    ap length c.account-of.ensures ∙ account_length _ _ arg.account-of-arg.given.0 (known arg.before))  -- block-number-requires
+    ap length c.account_of.ensures ∙ account_length _ _ arg.account_of-arg.given.0 (known arg.before))  -- block-number-requires
     (λ c. let of = c.before in
     number_told (known of.before.before)
-    (held c.block-number.type-inv (c.block-number.ensures ∙ ap block_number of.account-of.ensures)).is))  -- returns-2
+    (held c.block_number.type_inv (c.block_number.ensures ∙ ap block_number of.account_of.ensures)).is))  -- returns-2

@@ -27,10 +27,10 @@ module _ (c : tie.Else1) where
   value = rw (to_z-of_z fits) (to_z-of_z (beside_fits c.before.args.mark fits from) ∙ beside c.before.args.mark from)
 
 told : (c : tie.Then2) → is_length (nat_abs c.before.before.before.args.mark - marked 0) ≡ true
-told c = sym (rw (value c.before.before) at c.before.is-length.ensures) ∙ c.if2.true
+told c = sym (rw (value c.before.before) at c.before.is_length.ensures) ∙ c.if2.true
 
 untold : (c : tie.Else2) → is_length (nat_abs c.before.before.before.args.mark - marked 0) ≡ false
-untold c = sym (rw (value c.before.before) at c.before.is-length.ensures) ∙ c.if2.false
+untold c = sym (rw (value c.before.before) at c.before.is_length.ensures) ∙ c.if2.false
 
 pub length_in_spec : {M : Type 1} → statement M
 length_in_spec =

@@ -11,4 +11,4 @@ length_of_spec =
     (tie.spec
     (λ c. search rules)  -- element-copy-out-length-in
     (λ c κs. search rules)  -- length-in-requires
-    (λ c. length_in_lem _ (rw (to_z-of_z (sfits_of c.before.length-in-arg.given)) at c.length_in_lem.ensures)))  -- returns
+    (λ c. length_in_lem _ (rw (to_z-of_z (sfits_of c.before.length_in-arg.given)) at c.length_in_lem.ensures)))  -- returns

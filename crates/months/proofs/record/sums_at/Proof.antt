@@ -13,18 +13,18 @@ use Rattle.months.proofs.record.sums_at.Statement.{statement}
 use Rattle.months.proofs.record.sums_at.Tie as tie
 
 unknown : (c : tie.Then1) → unknown_party c.before.before.args.party ≡ true
-unknown c = sym c.before.is-unknown.ensures ∙ c.if1.true
+unknown c = sym c.before.is_unknown.ensures ∙ c.if1.true
 
 known : (c : tie.Else1) → unknown_party c.before.before.args.party ≡ false
-known c = sym c.before.is-unknown.ensures ∙ c.if1.false
+known c = sym c.before.is_unknown.ensures ∙ c.if1.false
 
 -- a length that is not 0
 some : (c : tie.Else2) → length_of c.before.before.before.before.args.month.now ≡ 0 → ⊥
-some c e = c.if2.false (c.before.length-of.ensures ∙ e)
+some c e = c.if2.false (c.before.length_of.ensures ∙ e)
 
 -- a k that Spectrum yields
 yielded : (c : tie.Else3) → let a = c.before.before.before.before.before.args in a.k ≤ length_of a.month.now / 2
-yielded c = rw c.before.before.length-of.ensures at c.if3.false
+yielded c = rw c.before.before.length_of.ensures at c.if3.false
 
 pub sums_at_spec : {M : Type 1} → statement M
 sums_at_spec =
@@ -34,17 +34,17 @@ sums_at_spec =
     (λ c. no_party c.before.before.args.party _ _ (unknown c))  -- returns
     (λ c κs. search rules)  -- length-of-requires
     (λ c. let e = c.before.before in
-    no_length e.before.before.args.party _ _ (known e) (sym c.before.length-of.ensures ∙ c.if2.true))  -- returns-2
+    no_length e.before.before.args.party _ _ (known e) (sym c.before.length_of.ensures ∙ c.if2.true))  -- returns-2
     (λ c. let e = c.before.before.before in
     beyond e.before.before.args.party _ _ (known e) (some c.before)
-    (rw c.before.before.length-of.ensures at c.if3.true))  -- returns-3
-    (λ c κs. (c.account-of-arg.given.0, known c.before.before.before.before))  -- account-of-requires
+    (rw c.before.before.length_of.ensures at c.if3.true))  -- returns-3
+    (λ c κs. (c.account_of-arg.given.0, known c.before.before.before.before))  -- account-of-requires
     (λ c κs. let arg = c.before in (
-      ap length c.account-of.ensures ∙ account_length _ _ arg.account-of-arg.given.0 (known arg.before.before.before.before),
+      ap length c.account_of.ensures ∙ account_length _ _ arg.account_of-arg.given.0 (known arg.before.before.before.before),
       omega (arith, yielded arg.before, length_small arg.before.before.before.before.before.before.args.month.now),
     ))  -- sums-at-requires
     (λ c. let of = c.before in
     let y = of.before.before in
     let e = y.before.before.before in
     sums_told e.before.before.args.party _ _ (known e) (some y.before) (yielded y)
-    (rw of.account-of.ensures at c.sums_at.ensures)))  -- returns-4
+    (rw of.account_of.ensures at c.sums_at.ensures)))  -- returns-4

@@ -18,9 +18,9 @@ abbrev decreases-loop : tie.decreases-loop
 decreases-loop file start m looks₀ i₀ looks i = m - i
 
 -- what a turn's look tells of its sample
-looked : (c : tie.After-in-range invariant-loop decreases-loop) → let args = c.before.before.before.before.before.args in
+looked : (c : tie.After-in_range invariant-loop decreases-loop) → let args = c.before.before.before.before.before.args in
     c.in_range_lem.result ≡ in_range (samples_at args.file.now args.start c.before.before.before.loop.i)
-looked c = c.in_range_lem.ensures ∙ ap in_range (to_z-of_z (sfits_of c.before.signed-at.type-inv) ∙ c.before.signed-at.ensures)
+looked c = c.in_range_lem.ensures ∙ ap in_range (to_z-of_z (sfits_of c.before.signed_at.type_inv) ∙ c.before.signed_at.ensures)
 
 pub first_out_spec : {M : Type 1} → statement M
 first_out_spec =

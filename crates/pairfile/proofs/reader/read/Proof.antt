@@ -9,15 +9,15 @@ use Rattle.pairfile.proofs.reader.read.Statement.{statement}
 use Rattle.pairfile.proofs.reader.read.Tie as tie
 
 -- behind the test of the count it is from 1 to 4,096
-counted : (c : tie.Else2) → let m = c.before.before.unsigned-at.result in (1 ≤ m) × (m ≤ 4096)
-counted c = good_count _ (sym c.before.bad-count.ensures ∙ c.if2.false)
+counted : (c : tie.Else2) → let m = c.before.before.unsigned_at.result in (1 ≤ m) × (m ≤ 4096)
+counted c = good_count _ (sym c.before.bad_count.ensures ∙ c.if2.false)
 
 -- behind the last test, where less is at hand to search than behind the stores
-is_accepted : (c : tie.After-enum-told2) →
+is_accepted : (c : tie.After-enum_told2) →
     let n = c.before.before.before.before.before.before.before.before.before.before in
     let m = n.before.before.before.before in
     let s = m.before.before.before.args in
-    Readable s.file.now s.a.now s.b.now m.unsigned-at.result n.unsigned-at2.result
+    Readable s.file.now s.a.now s.b.now m.unsigned_at.result n.unsigned_at2.result
 is_accepted c = search (rules, all_in_range)
 
 returns-8 : tie.Need-returns-8

@@ -11,7 +11,7 @@ use Rattle.pairfile.proofs.writer.write.Tie as tie
 
 -- behind the test of the count it is from 1 to 4,096
 counted : (c : tie.Else1) → let m = length c.before.before.before.args.a.now in (1 ≤ m) × (m ≤ 4096)
-counted c = good_count _ (sym c.before.bad-count.ensures ∙ c.if1.false)
+counted c = good_count _ (sym c.before.bad_count.ensures ∙ c.if1.false)
 
 -- behind the last test, where less is at hand to search than behind the stores
 is_writable : (c : tie.Else4) →
@@ -41,4 +41,4 @@ write_spec =
     (λ c. search (rules, too_short))  -- returns-6
     (λ c κs. (is_writable c.before).ready)  -- put-file-requires
     (λ c. search rules)  -- same-length
-    (λ c. (is_writable c.before.before.before.before).writes c.before.before.put-file.ensures))  -- returns-7
+    (λ c. (is_writable c.before.before.before.before).writes c.before.before.put_file.ensures))  -- returns-7

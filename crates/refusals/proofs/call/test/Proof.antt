@@ -49,10 +49,10 @@ module _ (x : Samples) (m s N a r y w p : ℕ) (rest : Verdict) (ok : is_length 
 
 -- ---- what the code has tested
 passed_1 : (c : tie.Else1) → is_length c.before.before.args.length ≡ true
-passed_1 c = sym c.before.is-length.ensures ∙ not-false _ c.if1.false
+passed_1 c = sym c.before.is_length.ensures ∙ not-false _ c.if1.false
 
 passed_2 : (c : tie.Else2) → let a = c.before.before.before.before.args in a.start + a.length ≤ a.shortest
-passed_2 c = ltb-false _ _ (sym c.before.reaches-beyond.ensures ∙ c.if2.false)
+passed_2 c = ltb-false _ _ (sym c.before.reaches_beyond.ensures ∙ c.if2.false)
 
 pub test_spec : {M : Type 1} → statement M
 unfolding tests
@@ -60,9 +60,9 @@ test_spec =
     tie.close
     (tie.spec
     (λ c κs. search rules)  -- is-length-requires
-    (λ c. record { verdict = λ rest. rw (← c.before.is-length.ensures, c.if1.true) })  -- returns
+    (λ c. record { verdict = λ rest. rw (← c.before.is_length.ensures, c.if1.true) })  -- returns
     (λ c κs. search rules)  -- reaches-beyond-requires
-    (λ c. record { verdict = λ rest. rw (passed_1 c.before.before, ← c.before.reaches-beyond.ensures, c.if2.true) })  -- returns-2
+    (λ c. record { verdict = λ rest. rw (passed_1 c.before.before, ← c.before.reaches_beyond.ensures, c.if2.true) })  -- returns-2
     (λ c. record { verdict = λ rest. search (rules, refused_3, passed_1, passed_2) })  -- returns-3
     (λ c κs. length_le _ (passed_1 c.before.before.before))  -- scratch-words-requires
     (λ c. record { verdict = λ rest. search (rules, refused_4, passed_1, passed_2) })  -- returns-4

@@ -17,7 +17,7 @@ abbrev decreases-loop : tie.decreases-loop
 decreases-loop limit words start n end looks₀ i₀ looks i = end - i
 
 -- what a turn's look tells of its word
-looked : (c : tie.After-at-most invariant-loop decreases-loop) → let l = c.before.before.before in
+looked : (c : tie.After-at_most invariant-loop decreases-loop) → let l = c.before.before.before in
     c.at_most_lem.result ≡ at_most l.before.args.limit (word l.before.args.words.now l.loop.i)
 looked c = rw (to_z-of_z (sfits_of c.before.x.given)) at c.at_most_lem.ensures
 

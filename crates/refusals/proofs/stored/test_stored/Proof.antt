@@ -9,7 +9,7 @@ use Rattle.refusals.proofs.stored.test_stored.Statement.{statement}
 use Rattle.refusals.proofs.stored.test_stored.Tie as tie
 
 passed_1 : (c : tie.Else1) → is_length c.before.before.args.length ≡ true
-passed_1 c = sym c.before.is-length.ensures ∙ not-false _ c.if1.false
+passed_1 c = sym c.before.is_length.ensures ∙ not-false _ c.if1.false
 
 pub test_stored_spec : {M : Type 1} → statement M
 unfolding stored_tests
@@ -17,6 +17,6 @@ test_stored_spec =
     tie.close
     (tie.spec
     (λ c κs. search rules)  -- is-length-requires
-    (λ c. record { verdict = λ rest. rw (← c.before.is-length.ensures, c.if1.true) })  -- returns
+    (λ c. record { verdict = λ rest. rw (← c.before.is_length.ensures, c.if1.true) })  -- returns
     (λ c. record { verdict = λ rest. rw (passed_1 c.before, lt-ltb _ _ c.if2.true) })  -- returns-2
     (λ c. record { verdict = λ rest. rw (passed_1 c.before, le-ltb _ _ c.if2.false) }))  -- returns-3

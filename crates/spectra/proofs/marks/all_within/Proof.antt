@@ -12,4 +12,4 @@ all_within_spec =
     (λ c. search rules)  -- enum_told
     (λ c. search rules)  -- enum-told-2
     (λ c. all_by _ _ c.before.before.first_beyond_lem.ensures c.enum_told.given.1)  -- returns
-    (λ c. not_all_by _ _ c.before.before.first_beyond_lem.ensures c.enum-told2.given.1))  -- returns-2
+    (λ c. not_all_by _ _ c.before.before.first_beyond_lem.ensures c.enum_told2.given.1))  -- returns-2

@@ -12,4 +12,4 @@ is_flat_spec =
     (λ c. let first = c.before.all_within in rw (← first.ensures, not-true first.result c.if1.true))  -- returns
     (λ c κs. search rules)  -- all-within-requires-2
     (λ c. let first = c.before.before.all_within in
-    rw (← first.ensures, not-false first.result c.before.if1.false) c.all-within2.ensures))  -- returns-2
+    rw (← first.ensures, not-false first.result c.before.if1.false) c.all_within2.ensures))  -- returns-2

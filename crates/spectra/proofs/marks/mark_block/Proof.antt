@@ -18,12 +18,12 @@ use Rattle.spectra.proofs.marks.mark_block.Tie as tie
 bad : (c : tie.Then1) → let a = c.before.before.args in bad_figures a.flat_limit_lem a.clip_level_lem ≡ true
 bad c =
     let f = c.before.before.ranges in
-    sym (rw (to_z-of_z f.flat_limit_lem, to_z-of_z f.clip_level_lem) at c.before.bad-figures.ensures) ∙ c.if1.true
+    sym (rw (to_z-of_z f.flat_limit_lem, to_z-of_z f.clip_level_lem) at c.before.bad_figures.ensures) ∙ c.if1.true
 
 good : (c : tie.Else1) → let a = c.before.before.args in bad_figures a.flat_limit_lem a.clip_level_lem ≡ false
 good c =
     let f = c.before.before.ranges in
-    sym (rw (to_z-of_z f.flat_limit_lem, to_z-of_z f.clip_level_lem) at c.before.bad-figures.ensures) ∙ c.if1.false
+    sym (rw (to_z-of_z f.flat_limit_lem, to_z-of_z f.clip_level_lem) at c.before.bad_figures.ensures) ∙ c.if1.false
 
 accepted : (c : tie.Else1) → let a = c.before.before.args in Figures a.flat_limit_lem a.clip_level_lem
 accepted c = figures _ _ (good c)
@@ -48,13 +48,13 @@ mark_block_spec =
     (λ c. search rules)  -- same-length-3
     (λ c. let t = c.before.before.before in
     tests_refused t.before.before.before.before.before.before.args.recording.now _ _ _ _ _ _
-    t.test-spectrum.ensures c.before.tested.given.1)  -- returns
+    t.test_spectrum.ensures c.before.tested.given.1)  -- returns
     (λ c. search rules)  -- same-length-4
     (λ c. search rules)  -- same-length-5
     (λ c. search rules)  -- same-length-6
     (λ c. let t = c.before.before in
     figures_refused t.before.before.before.before.before.before.args.recording.now _ _ _ _ _ _
-    t.test-spectrum.ensures (bad t.before.before.before.before) c.enum_told.given.1)  -- returns-2
+    t.test_spectrum.ensures (bad t.before.before.before.before) c.enum_told.given.1)  -- returns-2
     (λ c κs. search rules)  -- spectrum-requires
     (λ c. search rules)  -- enum-known-answer
     (λ c. search rules)  -- enum-known-answer-2
@@ -80,4 +80,4 @@ mark_block_spec =
     let e = (tested s).before.before in
     spectrum_marked e.args.recording.now _ _ _ _ _ _ (good (tested s)) s.spectrum.ensures
     c.before.before.before.before.answer2.given.1
-    (rw (to_z-of_z e.fits.flat_limit_lem, to_z-of_z e.fits.clip_level_lem) at c.mark-by.ensures)))  -- returns-4
+    (rw (to_z-of_z e.fits.flat_limit_lem, to_z-of_z e.fits.clip_level_lem) at c.mark_by.ensures)))  -- returns-4

@@ -39,30 +39,30 @@ follows : (c : tie.In-loop invariant-loop decreases-loop) → c.before.loop.i + 
 follows c = second _ _ c.before.before.requires.1 c.before.loop.invariant.0.1 (omega arith)
 
 -- after the first store
-even : (c : tie.After-put-difference invariant-loop decreases-loop) →
+even : (c : tie.After-put_difference invariant-loop decreases-loop) →
     let l = c.before.before.before in
     let n = l.before.args.n in
     let w = l.before.args.w.now in
     Ends (pos 0) l.before.args.b (l.loop.i + 1) 0 (n / 4) (folded_differences n (paired n l.before.args.stride (word w))) w
-    c.put-difference.new.0
+    c.put_difference.new.0
 even c =
     let l = c.before.before.before in
-    even_more l.before.requires.0 (omega arith) l.loop.invariant.1 (omega arith) c.put-difference.ensures.words
+    even_more l.before.requires.0 (omega arith) l.loop.invariant.1 (omega arith) c.put_difference.ensures.words
 
-put-difference-requires : tie.Need-put-difference-requires invariant-loop decreases-loop
-put-difference-requires c κs =
+put_difference-requires : tie.Need-put_difference-requires invariant-loop decreases-loop
+put_difference-requires c κs =
     let l = c.before.before in
     let r = l.before.requires.0 in
     beside_ready r {i = l.loop.i} (omega arith) l.loop.invariant.1 (omega (arith, r.room)) (omega (arith, r.fits)) _ _ (omega arith)
     (omega arith)
 
-put-difference-requires-2 : tie.Need-put-difference-requires-2 invariant-loop decreases-loop
-put-difference-requires-2 c κs =
+put_difference-requires-2 : tie.Need-put_difference-requires-2 invariant-loop decreases-loop
+put_difference-requires-2 c κs =
     let d = c.before.before in
     let l = d.before.before.before in
     let r = l.before.requires.0 in
     let h = follows d.before.before in
-    beside_ready r {i = l.loop.i + 1} h (even d) (omega (arith, r.room, d.put-difference.ensures.tallied))
+    beside_ready r {i = l.loop.i + 1} h (even d) (omega (arith, r.room, d.put_difference.ensures.tallied))
     (omega (arith, r.fits)) _ _ (omega arith) (omega arith)
 
 loop_again : tie.Need-loop-preserved invariant-loop decreases-loop
@@ -71,8 +71,8 @@ loop_again c =
     let l = d.before.before.before in
     let h = follows d.before.before in
     let two : l.loop.i + 1 + 1 ≡ l.loop.i + 2 = omega arith in (
-      omega (arith, d.put-difference.ensures.tallied, c.before.put-difference2.ensures.tallied),
-      rw two at (odd_more l.before.requires.0 h (even d) (omega arith) c.before.put-difference2.ensures.words),
+      omega (arith, d.put_difference.ensures.tallied, c.before.put_difference2.ensures.tallied),
+      rw two at (odd_more l.before.requires.0 h (even d) (omega arith) c.before.put_difference2.ensures.words),
     )
 
 returns : tie.Need-returns invariant-loop decreases-loop
@@ -93,7 +93,7 @@ put_folded_differences_spec =
     (λ c. omega (arith, room c c.before.loop.i (omega arith)))  -- mul-p-3
     (λ c. (room c.before c.before.before.loop.i (omega arith)).1)  -- sub-put-difference
     (λ c. search rules)  -- add-put-difference
-    put-difference-requires
+    put_difference-requires
     (λ c. search rules)  -- add-j
     (λ c. omega (arith, room c.before.before.before _ (follows c.before.before.before)))  -- mul-q
     (λ c. search rules)  -- mul-q-2
@@ -101,7 +101,7 @@ put_folded_differences_spec =
     (λ c. omega (arith, room c.before.before.before _ (follows c.before.before.before)))  -- mul-q-3
     (λ c. (room c.before.before.before.before _ (follows c.before.before.before.before)).1)  -- sub-put-difference-2
     (λ c. search rules)  -- add-put-difference-2
-    put-difference-requires-2
+    put_difference-requires-2
     (λ c. search rules)  -- add-i
     (λ c. search rules)  -- loop-less
     loop_again

@@ -18,6 +18,6 @@ cosine_16_spec =
     (λ c. search (rules, tail_starts cosine_kind {n = 16}))  -- part-dct-4-start
     (λ c. search rules)  -- part-dct-4-end
     (λ c κs. search (rules, odd_ready cosine_kind {n = 16}))  -- dct-4-requires
-    (λ c κs. search (rules, lent_join_ready cosine_kind {n = 16}, c.before.before.dct-4.ensures))  -- join-cosine-requires
+    (λ c κs. search (rules, lent_join_ready cosine_kind {n = 16}, c.before.before.dct_4.ensures))  -- join-cosine-requires
     (λ c. search rules)  -- same-length
-    (λ c. search (rules, lent_ends cosine_kind {n = 16}, c.before.before.before.before.dct-4.ensures)))  -- returns
+    (λ c. search (rules, lent_ends cosine_kind {n = 16}, c.before.before.before.before.dct_4.ensures)))  -- returns

@@ -18,6 +18,6 @@ cosine_32_spec =
     (λ c. search (rules, tail_starts cosine_kind {n = 32}))  -- part-dct-8-start
     (λ c. search rules)  -- part-dct-8-end
     (λ c κs. search (rules, odd_ready cosine_kind {n = 32}))  -- dct-8-requires
-    (λ c κs. search (rules, lent_join_ready cosine_kind {n = 32}, c.before.before.dct-8.ensures))  -- join-cosine-requires
+    (λ c κs. search (rules, lent_join_ready cosine_kind {n = 32}, c.before.before.dct_8.ensures))  -- join-cosine-requires
     (λ c. search rules)  -- same-length
-    (λ c. search (rules, lent_ends cosine_kind {n = 32}, c.before.before.before.before.dct-8.ensures)))  -- returns
+    (λ c. search (rules, lent_ends cosine_kind {n = 32}, c.before.before.before.before.dct_8.ensures)))  -- returns

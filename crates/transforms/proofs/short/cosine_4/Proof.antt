@@ -15,7 +15,7 @@ cosine_4_spec =
     (λ c. search rules)  -- add-put-folded-sums-2
     (λ c κs. search (rules, fold_ready cosine_kind {n = 4}))  -- put-folded-sums-requires
     (λ c κs. let f = c.before.before in
-    search (rules, join_ready cosine_kind {n = 4}, dct_single, f.put-folded-sums.ensures))  -- join-cosine-requires
+    search (rules, join_ready cosine_kind {n = 4}, dct_single, f.put_folded_sums.ensures))  -- join-cosine-requires
     (λ c. search rules)  -- same-length
     (λ c. let f = c.before.before.before.before in
-    search (rules, dft_ends cosine_kind {n = 4}, dct_single, f.put-folded-sums.ensures)))  -- returns
+    search (rules, dft_ends cosine_kind {n = 4}, dct_single, f.put_folded_sums.ensures)))  -- returns

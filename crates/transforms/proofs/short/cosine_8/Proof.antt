@@ -18,6 +18,6 @@ cosine_8_spec =
     (λ c. search (rules, tail_starts cosine_kind {n = 8}))  -- part-dct-2-start
     (λ c. search rules)  -- part-dct-2-end
     (λ c κs. search (rules, odd_ready cosine_kind {n = 8}))  -- dct-2-requires
-    (λ c κs. search (rules, lent_join_ready cosine_kind {n = 8}, c.before.before.dct-2.ensures))  -- join-cosine-requires
+    (λ c κs. search (rules, lent_join_ready cosine_kind {n = 8}, c.before.before.dct_2.ensures))  -- join-cosine-requires
     (λ c. search rules)  -- same-length
-    (λ c. search (rules, lent_ends cosine_kind {n = 8}, c.before.before.before.before.dct-2.ensures)))  -- returns
+    (λ c. search (rules, lent_ends cosine_kind {n = 8}, c.before.before.before.before.dct_2.ensures)))  -- returns

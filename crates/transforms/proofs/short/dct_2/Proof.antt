@@ -36,8 +36,8 @@ returns c =
     let y = m.before in
     let product_is = ap (λ z. T 512 *ℤ z) (difference y).made in
     dct_two (s y).requires.1 (sum y).made
-    ((held c.before.before.before.struct_told.given.0.1 m.rotate-middle.ensures.middle).is ∙ ap round product_is)
-    (omega (arith, m.rotate-middle.ensures, ap rest_size product_is, c.larger.ensures))
+    ((held c.before.before.before.struct_told.given.0.1 m.rotate_middle.ensures.middle).is ∙ ap round product_is)
+    (omega (arith, m.rotate_middle.ensures, ap rest_size product_is, c.larger.ensures))
 
 pub dct_2_spec : {M : Type 1} → statement M
 dct_2_spec =

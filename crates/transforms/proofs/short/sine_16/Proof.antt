@@ -18,6 +18,6 @@ sine_16_spec =
     (λ c. search (rules, tail_starts sine_kind {n = 16}))  -- part-dct-4-start
     (λ c. search rules)  -- part-dct-4-end
     (λ c κs. search (rules, odd_ready sine_kind {n = 16}))  -- dct-4-requires
-    (λ c κs. search (rules, lent_sine_ready {n = 16}, c.before.before.dct-4.ensures))  -- join-sine-requires
+    (λ c κs. search (rules, lent_sine_ready {n = 16}, c.before.before.dct_4.ensures))  -- join-sine-requires
     (λ c. search rules)  -- same-length
-    (λ c. search (rules, lent_ends sine_kind {n = 16}, c.before.before.before.before.dct-4.ensures)))  -- returns
+    (λ c. search (rules, lent_ends sine_kind {n = 16}, c.before.before.before.before.dct_4.ensures)))  -- returns

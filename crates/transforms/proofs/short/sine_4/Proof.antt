@@ -10,23 +10,23 @@ use Rattle.transforms.proofs.short.sine_4.Statement.{statement}
 use Rattle.transforms.proofs.short.sine_4.Tie as tie
 
 -- the sine-DFT of the two even samples
-even : (c : tie.After-put-zeros) →
+even : (c : tie.After-put_zeros) →
     let s = c.before.before in
-    DftDone sine_dft 2 (2 * s.args.stride) s.args.at s.args.w.now c.put-zeros.new.0 s.args.spent s.args.spent
-even c = sine_few (even_ready sine_kind c.before.before.requires (lit≤ tt)) (lit≤ tt) c.put-zeros.ensures
+    DftDone sine_dft 2 (2 * s.args.stride) s.args.at s.args.w.now c.put_zeros.new.0 s.args.spent s.args.spent
+even c = sine_few (even_ready sine_kind c.before.before.requires (lit≤ tt)) (lit≤ tt) c.put_zeros.ensures
 
 -- the one folded difference
-folded : (c : tie.After-put-difference) →
+folded : (c : tie.After-put_difference) →
     let e = c.before.before.before in
     let s = e.before.before in
-    Folded folded_differences 4 s.args.stride (s.args.at + 2 + 1) e.put-zeros.new.0 c.put-difference.new.0
-    s.args.spent c.put-difference.result
+    Folded folded_differences 4 s.args.stride (s.args.at + 2 + 1) e.put_zeros.new.0 c.put_difference.new.0
+    s.args.spent c.put_difference.result
 folded c =
     let e = c.before.before.before in
-    four_folded (fold_ready sine_kind e.before.before.requires (lit≤ tt) (even e)) c.put-difference.ensures
+    four_folded (fold_ready sine_kind e.before.before.requires (lit≤ tt) (even e)) c.put_difference.ensures
 
-join-sine-requires : tie.Need-join-sine-requires
-join-sine-requires c κs =
+join_sine-requires : tie.Need-join_sine-requires
+join_sine-requires c κs =
     let f = c.before.before in
     let e = f.before.before.before in
     let s = e.before.before in
@@ -37,7 +37,7 @@ returns : tie.Need-returns
 returns c =
     let f = c.before.before.before.before in
     let e = f.before.before.before in
-    dft_ends sine_kind e.before.before.requires (lit≤ tt) (even e) (folded f) dct_single c.before.join-sine.ensures
+    dft_ends sine_kind e.before.before.requires (lit≤ tt) (even e) (folded f) dct_single c.before.join_sine.ensures
 
 pub sine_4_spec : {M : Type 1} → statement M
 sine_4_spec =
@@ -50,6 +50,6 @@ sine_4_spec =
     (λ c. search rules)  -- add-put-difference
     (λ c. search rules)  -- add-put-difference-2
     (λ c κs. search (rules, four_ready, fold_ready sine_kind {n = 4}, even c.before.before))  -- put-difference-requires
-    join-sine-requires
+    join_sine-requires
     (λ c. search rules)  -- same-length
     returns)

@@ -18,6 +18,6 @@ sine_8_spec =
     (λ c. search (rules, tail_starts sine_kind {n = 8}))  -- part-dct-2-start
     (λ c. search rules)  -- part-dct-2-end
     (λ c κs. search (rules, odd_ready sine_kind {n = 8}))  -- dct-2-requires
-    (λ c κs. search (rules, lent_sine_ready {n = 8}, c.before.before.dct-2.ensures))  -- join-sine-requires
+    (λ c κs. search (rules, lent_sine_ready {n = 8}, c.before.before.dct_2.ensures))  -- join-sine-requires
     (λ c. search rules)  -- same-length
-    (λ c. search (rules, lent_ends sine_kind {n = 8}, c.before.before.before.before.dct-2.ensures)))  -- returns
+    (λ c. search (rules, lent_ends sine_kind {n = 8}, c.before.before.before.before.dct_2.ensures)))  -- returns

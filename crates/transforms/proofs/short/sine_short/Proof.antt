@@ -12,7 +12,7 @@ sine_short_spec =
     (tie.spec
     (λ c κs. search rules)  -- put-zeros-requires
     (λ c. search rules)  -- same-length
-    (λ c. let s = c.before.before.before.before in sine_few s.requires.1 (omega arith) c.before.put-zeros.ensures)  -- returns
+    (λ c. let s = c.before.before.before.before in sine_few s.requires.1 (omega arith) c.before.put_zeros.ensures)  -- returns
     (λ c κs. search (rules, dft_branch 1))  -- sine-4-requires
     (λ c. search rules)  -- same-length-2
     (λ c. search (rules, dft_branch_done 1))  -- returns-2
