@@ -8,10 +8,10 @@ pub both_dfts_spec : {M : Type 1} → statement M
 both_dfts_spec =
     tie.close
     (tie.spec
-    (λ c κs. search rules)  -- load-pairs-requires
-    (λ c κs. search (rules, cosine_ready))  -- cosine-dft-requires
-    (λ c. search rules)  -- add-sine-dft
-    (λ c. search rules)  -- add-sine-dft-2
-    (λ c κs. search (rules, sine_ready))  -- sine-dft-requires
-    (λ c. search rules)  -- same-length
+    (λ c κs. search rules)  -- load_pairs-requires
+    (λ c κs. search (rules, cosine_ready))  -- cosine_dft-cosine-requires
+    (λ c. search rules)  -- overflow_add-at
+    (λ c. search rules)  -- overflow_add-at-2
+    (λ c κs. search (rules, sine_ready))  -- sine_dft-requires
+    (λ c. search rules)  -- shape_of-w
     (λ c. search (rules, dfts_made)))  -- returns

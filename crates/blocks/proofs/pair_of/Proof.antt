@@ -6,12 +6,12 @@ use Rattle.blocks.proofs.PairRuns.{b_ready, parts_ready, pair_made}
 use Rattle.blocks.proofs.pair_of.Statement.{statement}
 use Rattle.blocks.proofs.pair_of.Tie as tie
 
-join_parts-requires : tie.Need-join_parts-requires
+join_parts-requires : tie.Need-join_parts-spent-requires
 join_parts-requires c κs =
     let f = c.before.before.before.before in
     let d = f.before.before.before.before in
     let (a, b, real, imaginary) = d.before.before.before.before.requires in
-    parts_ready a.block_ok b.block_ok a.room d.both_dfts.ensures f.both_dfts2.ensures
+    parts_ready a.block_ok b.block_ok a.room d.both_dfts-of_a.ensures f.both_dfts-of_b.ensures
     (omega (arith, real, imaginary))
 
 returns : tie.Need-returns
@@ -20,22 +20,22 @@ returns c =
     let f = j.before.before.before.before.before in
     let d = f.before.before.before.before in
     let (a, b, _, _) = d.before.before.before.before.requires in
-    pair_made a.block_ok b.block_ok a.room d.both_dfts.ensures f.both_dfts2.ensures j.join_parts.ensures
+    pair_made a.block_ok b.block_ok a.room d.both_dfts-of_a.ensures f.both_dfts-of_b.ensures j.join_parts-spent.ensures
     c.before.clear.ensures
 
 pub pair_of_spec : {M : Type 1} → statement M
 pair_of_spec =
     tie.close
     (tie.spec
-    (λ c κs. search rules)  -- quarter-wave-requires
-    (λ c κs. search (rules, spectrum_ready))  -- both-dfts-requires
-    (λ c. search rules)  -- add-both-dfts
-    (λ c. search rules)  -- mul-both-dfts
-    (λ c. search rules)  -- add-both-dfts-2
-    (λ c κs. search (rules, b_ready))  -- both-dfts-requires-2
+    (λ c κs. search rules)  -- quarter_wave-wave-requires
+    (λ c κs. search (rules, spectrum_ready))  -- both_dfts-of_a-requires
+    (λ c. search rules)  -- overflow_add-n
+    (λ c. search rules)  -- overflow_mul-n
+    (λ c. search rules)  -- overflow_add-n-2
+    (λ c κs. search (rules, b_ready))  -- both_dfts-of_b-requires
     join_parts-requires
     (λ c κs. search rules)  -- clear-requires
-    (λ c. search rules)  -- same-length
-    (λ c. search rules)  -- same-length-2
-    (λ c. search rules)  -- same-length-3
+    (λ c. search rules)  -- shape_of-real
+    (λ c. search rules)  -- shape_of-imaginary
+    (λ c. search rules)  -- shape_of-w
     returns)

@@ -8,16 +8,16 @@ pub spectrum_of_spec : {M : Type 1} → statement M
 spectrum_of_spec =
     tie.close
     (tie.spec
-    (λ c κs. search rules)  -- quarter-wave-requires
-    (λ c κs. search (rules, spectrum_ready))  -- both-dfts-requires
-    (λ c. search rules)  -- add-store
+    (λ c κs. search rules)  -- quarter_wave-wave-requires
+    (λ c κs. search (rules, spectrum_ready))  -- both_dfts-spent-requires
+    (λ c. search rules)  -- overflow_add-n
     (λ c κs. search (rules, cosine_sized))  -- store-requires
-    (λ c. search rules)  -- add-store-2
-    (λ c. search rules)  -- add-store-3
-    (λ c. search rules)  -- add-store-4
+    (λ c. search rules)  -- overflow_add-n-2
+    (λ c. search rules)  -- overflow_add-n-3
+    (λ c. search rules)  -- overflow_add-n-4
     (λ c κs. search (rules, sine_sized))  -- store-requires-2
     (λ c κs. search rules)  -- clear-requires
-    (λ c. search rules)  -- same-length
-    (λ c. search rules)  -- same-length-2
-    (λ c. search rules)  -- same-length-3
+    (λ c. search rules)  -- shape_of-cosine
+    (λ c. search rules)  -- shape_of-sine
+    (λ c. search rules)  -- shape_of-w
     (λ c. search (rules, spectrum_made)))  -- returns

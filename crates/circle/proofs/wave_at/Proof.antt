@@ -29,7 +29,7 @@ module _ {z : ℤ} (f : SFits w32 z) (n : T (non_neg z)) where
   same = to_z_pos w64 signed.sfits ∙ rw (to_z-of_z f) (size z n)
 
 -- the entry that is read fits its word, and is not negative
-module _ (c : tie.After-result) where
+module _ (c : tie.After-result-1) where
   abbrev place : ℕ
   place = c.before.args.j
 
@@ -46,8 +46,8 @@ pub wave_at_spec : {M : Type 1} → statement M
 wave_at_spec =
     tie.close
     (tie.spec
-    (λ c. search rules)  -- mul-result
-    (λ c. search rules)  -- element-copy-out-result
-    (λ c. unsigned (fits c) (above c))  -- cast-result
-    (λ c. signed (fits c) (above c))  -- cast-result-2
+    (λ c. search rules)  -- offset_bounds-wave-j
+    (λ c. search rules)  -- bounds-wave-j
+    (λ c. unsigned (fits c) (above c))  -- overflow_cast-result
+    (λ c. signed (fits c) (above c))  -- overflow_cast-result-2
     (λ c. same (fits c) (above c) ∙ c.before.requires.0 (place c) (inside c)))  -- returns

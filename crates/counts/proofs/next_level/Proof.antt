@@ -26,12 +26,12 @@ pub next_level_spec : {M : Type 1} → statement M
 next_level_spec =
     tie.close
     (tie.spec
-    (λ c. search rules)  -- add-t6
-    (λ c. search rules)  -- sub-t6
-    (λ c. search rules)  -- add-t7
+    (λ c. search rules)  -- overflow_add-of_cosine
+    (λ c. search rules)  -- overflow_sub-of_sine
+    (λ c. search rules)  -- overflow_add-of_sine
     (λ c κs. omega (arith, few c))  -- plus-requires
     (λ c κs. omega (arith, few c.before))  -- plus-requires-2
     (λ c κs. omega (arith, few c.before.before))  -- plus-requires-3
     (λ c κs. omega (arith, few c.before.before.before))  -- plus-requires-4
-    (λ c κs. omega (arith, few c.before.before.before.before))  -- dct-counts-requires
+    (λ c κs. omega (arith, few c.before.before.before.before))  -- dct_counts-requires
     returns)

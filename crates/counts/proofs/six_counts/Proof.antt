@@ -16,8 +16,8 @@ six_counts_spec =
     (tie.spec
     (λ c. search rules)  -- sub-t6
     (λ c. search rules)  -- mul-t7
-    (λ c κs. omega (arith, few_counts c.requires.0 (omega arith)))  -- plus-requires
-    (λ c κs. omega (arith, few_counts c.before.requires.0 (omega arith)))  -- dct-counts-requires
-    (λ c κs. omega (arith, few_counts c.before.before.requires.0 (omega arith)))  -- plus-requires-2
-    (λ c κs. omega (arith, few_counts c.before.before.before.requires.0 (omega arith)))  -- plus-requires-3
+    (λ c κs. omega (arith, few_counts c.requires.0 (omega arith)))  -- plus-spectrum-requires
+    (λ c κs. omega (arith, few_counts c.before.requires.0 (omega arith)))  -- dct_counts-requires
+    (λ c κs. omega (arith, few_counts c.before.before.requires.0 (omega arith)))  -- plus-requires
+    (λ c κs. omega (arith, few_counts c.before.before.before.requires.0 (omega arith)))  -- plus-requires-2
     returns)

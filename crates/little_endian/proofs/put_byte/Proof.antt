@@ -9,8 +9,8 @@ pub put_byte_spec : {M : Type 1} → statement M
 put_byte_spec =
     tie.close
     (tie.spec
-    (λ c. search rules)  -- cast-file
-    (λ c. search rules)  -- slice-write-file
-    (λ c. search rules)  -- add-result
-    (λ c. search rules)  -- same-length
+    (λ c. search rules)  -- overflow_cast-file
+    (λ c. search rules)  -- bounds-file-at
+    (λ c. search rules)  -- overflow_add-result
+    (λ c. search rules)  -- shape_of-file
     (λ c. put_byte _ _ _ (omega arith)))  -- returns

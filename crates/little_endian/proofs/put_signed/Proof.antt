@@ -14,7 +14,7 @@ pub put_signed_spec : {M : Type 1} → statement M
 put_signed_spec =
     tie.close
     (tie.spec
-    (λ c κs. search rules)  -- bits-of-requires
-    (λ c κs. search rules)  -- put-unsigned-requires
-    (λ c. search rules)  -- same-length
+    (λ c κs. search rules)  -- bits_of-requires
+    (λ c κs. search rules)  -- put_unsigned-requires
+    (λ c. search rules)  -- shape_of-file
     (λ c. rw (bits_put c.before.before.before.before) at c.before.before.put_unsigned.ensures))  -- returns

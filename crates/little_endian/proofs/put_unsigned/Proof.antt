@@ -8,9 +8,9 @@ pub put_unsigned_spec : {M : Type 1} → statement M
 put_unsigned_spec =
     tie.close
     (tie.spec
-    (λ c κs. search rules)  -- put-byte-requires
-    (λ c κs. search rules)  -- put-byte-requires-2
-    (λ c κs. search rules)  -- put-byte-requires-3
-    (λ c κs. search rules)  -- put-byte-requires-4
-    (λ c. search rules)  -- same-length
+    (λ c κs. search rules)  -- put_byte-second-requires
+    (λ c κs. search rules)  -- put_byte-third-requires
+    (λ c κs. search rules)  -- put_byte-fourth-requires
+    (λ c κs. search rules)  -- put_byte-requires
+    (λ c. search rules)  -- shape_of-file
     (λ c. search (rules, four_put)))  -- returns

@@ -10,6 +10,6 @@ pub signed_at_spec : {M : Type 1} → statement M
 signed_at_spec =
     tie.close
     (tie.spec
-    (λ c κs. search rules)  -- unsigned-at-requires
-    (λ c κs. search rules)  -- signed-of-requires
+    (λ c κs. search rules)  -- unsigned_at-requires
+    (λ c κs. search rules)  -- signed_of-requires
     (λ c. to_z-of_z (sfits_of c.Signed-of.type_inv) ∙ c.Signed-of.ensures ∙ ap signed c.before.unsigned_at.ensures))  -- returns

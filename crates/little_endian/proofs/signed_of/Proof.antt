@@ -8,7 +8,7 @@ use Rattle.little_endian.proofs.Signs.{word_reads}
 use Rattle.little_endian.proofs.signed_of.Statement.{statement}
 use Rattle.little_endian.proofs.signed_of.Tie as tie
 
-returns-2 : tie.Need-returns-2
+returns-2 : tie.Need-returns-else-n-lt2147483648
 returns-2 c =
     let n = c.before.args.n in
     let twice : 4294967295 - (4294967295 - n) ≡ n = omega arith in
@@ -18,8 +18,8 @@ pub signed_of_spec : {M : Type 1} → statement M
 signed_of_spec =
     tie.close
     (tie.spec
-    (λ c. search rules)  -- cast-result
-    (λ c. search rules)  -- sub-result
-    (λ c. search rules)  -- cast-result-2
-    (λ c. word_reads c.before.args.n (omega arith))  -- returns
+    (λ c. search rules)  -- overflow_cast-result
+    (λ c. search rules)  -- overflow_sub-result
+    (λ c. search rules)  -- overflow_cast-result-else-n-lt2147483648
+    (λ c. word_reads c.before.args.n (omega arith))  -- returns-then-n-lt2147483648
     returns-2)

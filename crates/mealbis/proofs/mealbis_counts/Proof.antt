@@ -9,10 +9,10 @@ pub mealbis_counts_spec : {M : Type 1} → statement M
 mealbis_counts_spec =
     tie.close
     (tie.spec
-    (λ c κs. search rules)  -- count-query-requires
-    (λ c. search rules)  -- enum-known-refusal
-    (λ c κs. search rules)  -- number-of-requires
-    (λ c. search rules)  -- enum-known-counts
+    (λ c κs. search rules)  -- count_query-requires
+    (λ c. search rules)  -- enum_known-refusal
+    (λ c κs. search rules)  -- number_of-requires
+    (λ c. search rules)  -- enum_known-counts
     (λ c. let w = c.before.before.before in
-    told w.before.before.count_query.ensures w.refusal.given.1 c.number_of_lem.ensures refl)  -- returns
-    (λ c. let w = c.before.before in told w.before.before.count_query.ensures w.counts.given.1 refl refl))  -- returns-2
+    told w.before.before.count_query.ensures w.refusal-1.given.1 c.number_of.ensures refl)  -- returns
+    (λ c. let w = c.before.before in told w.before.before.count_query.ensures w.counts-1.given.1 refl refl))  -- returns-in-Counted

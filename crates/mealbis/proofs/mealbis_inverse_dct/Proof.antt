@@ -9,14 +9,14 @@ pub mealbis_inverse_dct_spec : {M : Type 1} → statement M
 mealbis_inverse_dct_spec =
     tie.close
     (tie.spec
-    (λ c κs. search rules)  -- inverse-dct-requires
-    (λ c. search rules)  -- enum-known-refusal
-    (λ c κs. search rules)  -- place-of-requires
-    (λ c κs. search rules)  -- number-of-requires
-    (λ c. search rules)  -- enum_told
-    (λ c. search rules)  -- same-length
+    (λ c κs. search rules)  -- inverse_dct-requires
+    (λ c. search rules)  -- enum_known-refusal
+    (λ c κs. search rules)  -- place_of-requires
+    (λ c κs. search rules)  -- number_of-requires
+    (λ c. search rules)  -- enum_told-1
+    (λ c. search rules)  -- shape_of-values-in-Refused
     (λ c. let w = c.before.before.before.before in
-    told w.before.before.before.inverse_dct.ensures w.refusal.given.1
-    c.number_of_lem.ensures (rw c.before.before.place_of.ensures))  -- returns
-    (λ c. search rules)  -- same-length-2
-    (λ c. let w = c.before in told w.before.before.before.inverse_dct.ensures w.enum_told.given.1 refl refl))  -- returns-2
+    told w.before.before.before.inverse_dct.ensures w.refusal-1.given.1
+    c.number_of.ensures (rw c.before.before.place_of.ensures))  -- returns
+    (λ c. search rules)  -- shape_of-values-in-Accepted
+    (λ c. let w = c.before in told w.before.before.before.inverse_dct.ensures w.enum_told-1.given.1 refl refl))  -- returns-in-Accepted

@@ -11,25 +11,25 @@ pub mealbis_mark_spec : {M : Type 1} → statement M
 mealbis_mark_spec =
     tie.close
     (tie.spec
-    (λ c κs. search rules)  -- mark-block-requires
-    (λ c. search rules)  -- enum-known-answer
-    (λ c κs. search rules)  -- place-of-requires
-    (λ c κs. search rules)  -- number-of-requires
-    (λ c. search rules)  -- enum-known-answer-2
-    (λ c κs. search rules)  -- number-of-mark-requires
-    (λ c. search rules)  -- same-length
-    (λ c. search rules)  -- same-length-2
-    (λ c. search rules)  -- same-length-3
+    (λ c κs. search rules)  -- mark_block-answer-requires
+    (λ c. search rules)  -- enum_known-answer
+    (λ c κs. search rules)  -- place_of-requires
+    (λ c κs. search rules)  -- number_of-requires
+    (λ c. search rules)  -- enum_known-answer-in-Marked-1
+    (λ c κs. search rules)  -- number_of_mark-requires
+    (λ c. search rules)  -- shape_of-cosine-in-Refused
+    (λ c. search rules)  -- shape_of-sine-in-Refused
+    (λ c. search rules)  -- shape_of-scratch-in-Refused
     (λ c. let w = c.before.before.before.before in
     let m = w.before.before.before.before.before in
     let figures = m.before.before.before.before.ranges in
-    told (rw (to_z-of_z figures.flat_limit_lem, to_z-of_z figures.clip_level_lem) at m.mark_block.ensures)
-    w.answer.given.1 c.number_of_lem.ensures (rw c.before.before.place_of.ensures))  -- returns
-    (λ c. search rules)  -- same-length-4
-    (λ c. search rules)  -- same-length-5
-    (λ c. search rules)  -- same-length-6
+    told (rw (to_z-of_z figures.flat_limit_lem, to_z-of_z figures.clip_level_lem) at m.mark_block-answer.ensures)
+    w.answer-1.given.1 c.number_of.ensures (rw c.before.before.place_of.ensures))  -- returns
+    (λ c. search rules)  -- shape_of-cosine-in-Marked
+    (λ c. search rules)  -- shape_of-sine-in-Marked
+    (λ c. search rules)  -- shape_of-scratch-in-Marked
     (λ c. let w = c.before.before.before in
     let m = w.before.before.before.before.before in
     let figures = m.before.before.before.before.ranges in
-    told (rw (to_z-of_z figures.flat_limit_lem, to_z-of_z figures.clip_level_lem) at m.mark_block.ensures)
-    w.answer2.given.1 refl (rw c.before.number_of_mark.ensures)))  -- returns-2
+    told (rw (to_z-of_z figures.flat_limit_lem, to_z-of_z figures.clip_level_lem) at m.mark_block-answer.ensures)
+    w.answer-in-Marked-1.given.1 refl (rw c.before.number_of_mark.ensures)))  -- returns-2

@@ -9,10 +9,10 @@ pub mealbis_month_begin_spec : {M : Type 1} → statement M
 mealbis_month_begin_spec =
     tie.close
     (tie.spec
-    (λ c κs. search rules)  -- begin-in-requires
-    (λ c. search rules)  -- enum-known-refusal
-    (λ c κs. search rules)  -- number-of-requires
-    (λ c. search rules)  -- enum_told
+    (λ c κs. search rules)  -- begin_in-requires
+    (λ c. search rules)  -- enum_known-refusal
+    (λ c κs. search rules)  -- number_of-requires
+    (λ c. search rules)  -- enum_told-1
     (λ c. let w = c.before.before in
-    told w.before.before.begin_in.ensures w.refusal.given.1 c.number_of_lem.ensures refl)  -- returns
-    (λ c. let w = c in told w.before.before.begin_in.ensures w.enum_told.given.1 refl refl))  -- returns-2
+    told w.before.before.begin_in.ensures w.refusal-1.given.1 c.number_of.ensures refl)  -- returns
+    (λ c. let w = c in told w.before.before.begin_in.ensures w.enum_told-1.given.1 refl refl))  -- returns-in-Accepted

@@ -10,12 +10,12 @@ pub mealbis_month_blocks_spec : {M : Type 1} → statement M
 mealbis_month_blocks_spec =
     tie.close
     (tie.spec
-    (λ c κs. search rules)  -- block-number-requires
-    (λ c. search rules)  -- enum-known-refusal
-    (λ c κs. search rules)  -- number-of-requires
-    (λ c. search rules)  -- enum-known-blocks
+    (λ c κs. search rules)  -- block_number-requires
+    (λ c. search rules)  -- enum_known-refusal
+    (λ c κs. search rules)  -- number_of-requires
+    (λ c. search rules)  -- enum_known-blocks
     (λ c. let w = c.before.before.before in
-    told w.before.before.block_number.ensures w.refusal.given.1 c.number_of_lem.ensures refl)  -- returns
+    told w.before.before.block_number.ensures w.refusal-1.given.1 c.number_of.ensures refl)  -- returns
     (λ c. let w = c.before.before in
-    told w.before.before.block_number.ensures w.blocks2.given.1 refl
-    (rw (to_z-of_z (sfits_of c.before.known_told2.given.0.1)))))  -- returns-2
+    told w.before.before.block_number.ensures w.blocks-1.given.1 refl
+    (rw (to_z-of_z (sfits_of c.before.known_told-in-Blocks-1.given.0.1)))))  -- returns-2

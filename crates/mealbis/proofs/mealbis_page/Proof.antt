@@ -9,13 +9,13 @@ pub mealbis_page_spec : {M : Type 1} → statement M
 mealbis_page_spec =
     tie.close
     (tie.spec
-    (λ c κs. search rules)  -- fill-page-requires
-    (λ c. search rules)  -- enum-known-refusal
-    (λ c κs. search rules)  -- number-of-requires
-    (λ c. search rules)  -- enum-known-bytes
-    (λ c. search rules)  -- same-length
+    (λ c κs. search rules)  -- fill_page-requires
+    (λ c. search rules)  -- enum_known-refusal
+    (λ c κs. search rules)  -- number_of-requires
+    (λ c. search rules)  -- enum_known-bytes
+    (λ c. search rules)  -- shape_of-page-in-Refused
     (λ c. let w = c.before.before.before in
-    told w.before.before.before.before.fill_page.ensures w.refusal.given.1 c.number_of_lem.ensures refl)  -- returns
-    (λ c. search rules)  -- same-length-2
+    told w.before.before.before.before.fill_page.ensures w.refusal-1.given.1 c.number_of.ensures refl)  -- returns
+    (λ c. search rules)  -- shape_of-page-in-Bytes
     (λ c. let w = c.before.before in
-    told w.before.before.before.before.fill_page.ensures w.bytes.given.1 refl refl))  -- returns-2
+    told w.before.before.before.before.fill_page.ensures w.bytes-1.given.1 refl refl))  -- returns-2

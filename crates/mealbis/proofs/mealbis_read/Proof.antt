@@ -10,16 +10,16 @@ mealbis_read_spec =
     tie.close
     (tie.spec
     (λ c κs. search rules)  -- read-requires
-    (λ c. search rules)  -- enum-known-refusal
-    (λ c κs. search rules)  -- place-of-requires
-    (λ c κs. search rules)  -- number-of-requires
-    (λ c. search rules)  -- enum-known-sizes
-    (λ c. search rules)  -- same-length
-    (λ c. search rules)  -- same-length-2
+    (λ c. search rules)  -- enum_known-refusal
+    (λ c κs. search rules)  -- place_of-requires
+    (λ c κs. search rules)  -- number_of-requires
+    (λ c. search rules)  -- enum_known-sizes
+    (λ c. search rules)  -- shape_of-a-in-Refused
+    (λ c. search rules)  -- shape_of-b-in-Refused
     (λ c. let w = c.before.before.before.before in
-    told w.before.before.before.before.read.ensures w.refusal.given.1
-    c.number_of_lem.ensures (rw c.before.before.place_of.ensures))  -- returns
-    (λ c. search rules)  -- same-length-3
-    (λ c. search rules)  -- same-length-4
+    told w.before.before.before.before.read.ensures w.refusal-1.given.1
+    c.number_of.ensures (rw c.before.before.place_of.ensures))  -- returns
+    (λ c. search rules)  -- shape_of-a-in-Read
+    (λ c. search rules)  -- shape_of-b-in-Read
     (λ c. let w = c.before.before in
-    told w.before.before.before.before.read.ensures w.sizes.given.1 refl refl))  -- returns-2
+    told w.before.before.before.before.read.ensures w.sizes-1.given.1 refl refl))  -- returns-2

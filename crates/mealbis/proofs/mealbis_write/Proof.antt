@@ -10,14 +10,14 @@ mealbis_write_spec =
     tie.close
     (tie.spec
     (λ c κs. search rules)  -- write-requires
-    (λ c. search rules)  -- enum-known-refusal
-    (λ c κs. search rules)  -- place-of-requires
-    (λ c κs. search rules)  -- number-of-requires
-    (λ c. search rules)  -- enum-known-bytes
-    (λ c. search rules)  -- same-length
+    (λ c. search rules)  -- enum_known-refusal
+    (λ c κs. search rules)  -- place_of-requires
+    (λ c κs. search rules)  -- number_of-requires
+    (λ c. search rules)  -- enum_known-bytes
+    (λ c. search rules)  -- shape_of-file-in-Refused
     (λ c. let w = c.before.before.before.before in
-    told w.before.before.before.before.write.ensures w.refusal.given.1
-    c.number_of_lem.ensures (rw c.before.before.place_of.ensures))  -- returns
-    (λ c. search rules)  -- same-length-2
+    told w.before.before.before.before.write.ensures w.refusal-1.given.1
+    c.number_of.ensures (rw c.before.before.place_of.ensures))  -- returns
+    (λ c. search rules)  -- shape_of-file-in-Bytes
     (λ c. let w = c.before.before in
-    told w.before.before.before.before.write.ensures w.bytes.given.1 refl refl))  -- returns-2
+    told w.before.before.before.before.write.ensures w.bytes-1.given.1 refl refl))  -- returns-2

@@ -8,10 +8,10 @@ pub tell_spec : {M : Type 1} → statement M
 tell_spec =
     tie.close
     (tie.spec
-    (λ c. search rules)  -- enum-known-answer
-    (λ c κs. search rules)  -- place-of-requires
-    (λ c κs. search rules)  -- number-of-requires
-    (λ c. search rules)  -- enum-known-answer-2
-    (λ c. rw (c.before.before.before.before.answer.given.1, c.before.before.place_of.ensures)
-    (c.number_of_lem.ensures, refl))  -- returns
-    (λ c. rw c.before.before.answer2.given.1 (refl, refl)))  -- returns-2
+    (λ c. search rules)  -- enum_known-answer
+    (λ c κs. search rules)  -- place_of-requires
+    (λ c κs. search rules)  -- number_of-requires
+    (λ c. search rules)  -- enum_known-answer-in-Done-1
+    (λ c. rw (c.before.before.before.before.answer-1.given.1, c.before.before.place_of.ensures)
+    (c.number_of.ensures, refl))  -- returns
+    (λ c. rw c.before.before.answer-in-Done-1.given.1 (refl, refl)))  -- returns-in-Done

@@ -14,10 +14,10 @@ pub add_spec : {M : Type 1} → statement M
 add_spec =
     tie.close
     (tie.spec
-    (λ c κs. search rules)  -- add-to-requires
-    (λ c. search rules)  -- same-length
-    (λ c. search rules)  -- same-length-2
-    (λ c. search rules)  -- same-length-3
+    (λ c κs. search rules)  -- add_to-answer-requires
+    (λ c. search rules)  -- shape_of-cosine
+    (λ c. search rules)  -- shape_of-sine
+    (λ c. search rules)  -- shape_of-scratch
     (λ c. let made = c.before.before.before in
     let s = made.before.before.before.before.before in
-    adding s.args.party (asked s) s.args.month _ _ made.add_to.ensures))  -- returns
+    adding s.args.party (asked s) s.args.month _ _ made.add_to-answer.ensures))  -- returns

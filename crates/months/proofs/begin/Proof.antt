@@ -8,6 +8,6 @@ pub begin_spec : {M : Type 1} → statement M
 begin_spec =
     tie.close
     (tie.spec
-    (λ c κs. search rules)  -- begin-in-requires
-    (λ c. let p = c.begin_in.ensures in
+    (λ c κs. search rules)  -- begin_in-answer-requires
+    (λ c. let p = c.begin_in-answer.ensures in
     record { promise = p; held = record { history = λ p. []; holds = p.empty } }))  -- returns

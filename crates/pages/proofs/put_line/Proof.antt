@@ -8,12 +8,12 @@ pub put_line_spec : {M : Type 1} → statement M
 put_line_spec =
     tie.close
     (tie.spec
-    (λ c. search rules)  -- cast-put-column
+    (λ c. search rules)  -- overflow_cast-k
     (λ c. search rules)  -- slice-aggregate-put-column
-    (λ c κs. search (rules, k_fits))  -- put-column-requires
+    (λ c κs. search (rules, k_fits))  -- put_column-of_cosine-requires
     (λ c. search rules)  -- slice-aggregate-put-column-2
-    (λ c κs. search (rules, held_fits, cosine_ready))  -- put-column-requires-2
+    (λ c κs. search (rules, held_fits, cosine_ready))  -- put_column-of_sine-requires
     (λ c. search rules)  -- slice-aggregate-put-column-3
-    (λ c κs. search (rules, held_fits, sine_ready))  -- put-column-requires-3
-    (λ c. search rules)  -- same-length
+    (λ c κs. search (rules, held_fits, sine_ready))  -- put_column-requires
+    (λ c. search rules)  -- shape_of-page
     (λ c. search (rules, line_put)))  -- returns

@@ -10,13 +10,13 @@ use Rattle.report.proofs.Printing.{some_samples, no_blocks, one_more, next_fits,
 use Rattle.report.proofs.put_spectra.Statement.{statement}
 use Rattle.report.proofs.put_spectra.Tie as tie
 
-abbrev invariant-loop : tie.invariant-loop
+abbrev invariant-loop : tie.invariant-loop-block
 invariant-loop a b m n real₀ imaginary₀ scratch₀ page₀ count at₀ block₀ real imaginary scratch page at block =
     (block ≤ count)
     × PutFrom page₀ at₀ (block_lines n (word a) (word b) block) (34 * (block * n)) at page
     (pair_buffers real₀ imaginary₀ scratch₀) (pair_buffers real imaginary scratch)
 
-abbrev decreases-loop : tie.decreases-loop
+abbrev decreases-loop : tie.decreases-loop-block
 decreases-loop a b m n real₀ imaginary₀ scratch₀ page₀ count at₀ block₀ real imaginary scratch page at block = count - block
 
 pub put_spectra_spec : {M : Type 1} → statement M
@@ -25,15 +25,15 @@ put_spectra_spec =
     (tie.spec
     invariant-loop
     decreases-loop
-    (λ c. search (rules, some_samples))  -- div-count
-    (λ c κs. search rules)  -- put-heading-requires
+    (λ c. search (rules, some_samples))  -- nonzero_div-count
+    (λ c κs. search rules)  -- put_heading-at-requires
     (λ c. search (rules, no_blocks))  -- loop-holds
-    (λ c κs. (search (rules, block_ready), search (rules, block_room)))  -- put-block-requires
-    (λ c. search (rules, next_fits))  -- add-block
+    (λ c κs. (search (rules, block_ready), search (rules, block_room)))  -- put_block-at-requires
+    (λ c. search (rules, next_fits))  -- overflow_add-block
     (λ c. search rules)  -- loop-less
     (λ c. search (rules, one_more))  -- loop-again
-    (λ c. search rules)  -- same-length
-    (λ c. search rules)  -- same-length-2
-    (λ c. search rules)  -- same-length-3
-    (λ c. search rules)  -- same-length-4
+    (λ c. search rules)  -- shape_of-real
+    (λ c. search rules)  -- shape_of-imaginary
+    (λ c. search rules)  -- shape_of-scratch
+    (λ c. search rules)  -- shape_of-page
     (λ c. search (rules, spectra_put)))  -- returns

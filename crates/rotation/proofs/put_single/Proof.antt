@@ -16,29 +16,29 @@ returns : tie.Need-returns
 returns c =
     let m = c.before.before.before.before in
     let p = m.before.before.before.requires.1 in
-    let cosine_is = ap (λ z. T 512 *ℤ z) (held m.before.cosine.given refl).is in
+    let cosine_is = ap (λ z. T 512 *ℤ z) (held m.before.cosine-1.given refl).is in
     record {
       both = two_put (omega (arith, p.fits)) (λ e. absurd (omega (arith, p.some)))
-          (rw add-zero (held m.before.before.first.given refl).is)
-          ((held c.before.before.before.struct_told.given.0.1 m.rotate_middle.ensures.middle).is
+          (rw add-zero (held m.before.before.first-1.given refl).is)
+          ((held c.before.before.before.struct_told-1.given.0.1 m.rotate_middle-middle.ensures.middle).is
           ∙ ap round cosine_is);
-      tallied = omega (arith, m.rotate_middle.ensures, ap rest_size cosine_is, c.larger.ensures);
+      tallied = omega (arith, m.rotate_middle-middle.ensures, ap rest_size cosine_is, c.larger.ensures);
     }
 
 pub put_single_spec : {M : Type 1} → statement M
 put_single_spec =
     tie.close
     (tie.spec
-    (λ c. search rules)  -- mul-first
-    (λ c. search rules)  -- slice-copy-out-first
-    (λ c. search rules)  -- add-cosine
-    (λ c. search rules)  -- mul-cosine
-    (λ c. search rules)  -- slice-copy-out-cosine
-    (λ c κs. search rules)  -- rotate-middle-requires
-    (λ c. search rules)  -- slice-set-from-first
-    (λ c. search rules)  -- mul-value
-    (λ c. simp length-set (omega arith))  -- slice-set-from-value
-    (λ c. search rules)  -- add-t17
+    (λ c. search rules)  -- offset_bounds-w-n
+    (λ c. search rules)  -- slice_copy_out-first
+    (λ c. search rules)  -- overflow_add-cosine
+    (λ c. search rules)  -- offset_bounds-w-n-2
+    (λ c. search rules)  -- slice_copy_out-cosine
+    (λ c κs. search rules)  -- rotate_middle-middle-requires
+    (λ c. search rules)  -- bounds-w-0
+    (λ c. search rules)  -- offset_bounds-w-h
+    (λ c. simp length-set (omega arith))  -- bounds-w-h
+    (λ c. search rules)  -- overflow_add-result
     (λ c κs. search rules)  -- larger-requires
-    (λ c. search rules)  -- same-length
+    (λ c. search rules)  -- shape_of-w
     returns)

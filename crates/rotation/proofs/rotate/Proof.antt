@@ -7,33 +7,33 @@ use Rattle.rotation.proofs.Rotating.{Run, none_made, place, pair_ready, pair_mor
 use Rattle.rotation.proofs.rotate.Statement.{statement}
 use Rattle.rotation.proofs.rotate.Tie as tie
 
-abbrev invariant-loop : tie.invariant-loop
+abbrev invariant-loop : tie.invariant-loop-k
 invariant-loop wave w₀ n h step tally₀ k₀ w tally k = ((1 ≤ k) × (k ≤ h)) × Run n w₀ tally₀ (k - 1) w tally
 
-abbrev decreases-loop : tie.decreases-loop
+abbrev decreases-loop : tie.decreases-loop-k
 decreases-loop wave w₀ n h step tally₀ k₀ w tally k = h - k
 
-put_pair-requires : tie.Need-put_pair-requires invariant-loop decreases-loop
+put_pair-requires : tie.Need-put_pair-tally-requires invariant-loop decreases-loop
 put_pair-requires c κs =
     let l = c.before.before in
     let s = l.before.requires in
-    (s.0, place s.1 _ (omega arith), pair_ready s.1 l.loop.invariant.1 (omega arith))
+    (s.0, place s.1 _ (omega arith), pair_ready s.1 l.loop-k.invariant.1 (omega arith))
 
-loop_again : tie.Need-loop-preserved invariant-loop decreases-loop
+loop_again : tie.Need-loop-k-preserved invariant-loop decreases-loop
 loop_again c =
     let l = c.before.before.before.before in
-    (omega arith, pair_more l.before.requires.1 l.loop.invariant.1 (omega arith) refl c.before.put_pair.ensures)
+    (omega arith, pair_more l.before.requires.1 l.loop-k.invariant.1 (omega arith) refl c.before.put_pair-tally.ensures)
 
 put_single-requires : tie.Need-put_single-requires invariant-loop decreases-loop
 put_single-requires c κs =
     let l = c.before.before in
     let s = l.before.requires in
-    (s.0, single_ready s.1 l.loop.invariant.1 (omega arith))
+    (s.0, single_ready s.1 l.loop-k.invariant.1 (omega arith))
 
 returns : tie.Need-returns invariant-loop decreases-loop
 returns c =
     let l = c.before.before.before.before in
-    all_made l.before.requires.1 l.loop.invariant.1 (omega arith) c.before.put_single.ensures
+    all_made l.before.requires.1 l.loop-k.invariant.1 (omega arith) c.before.put_single.ensures
 
 pub rotate_spec : {M : Type 1} → statement M
 rotate_spec =
@@ -41,13 +41,13 @@ rotate_spec =
     (tie.spec
     invariant-loop
     decreases-loop
-    (λ c. search rules)  -- div-step
+    (λ c. search rules)  -- nonzero_div-step
     (λ c. (omega (arith, c.requires.1.some), none_made refl))  -- loop-holds
-    (λ c. let l = c.before.before in omega (arith, place l.before.requires.1 l.loop.k (omega arith)))  -- mul-put-pair
+    (λ c. let l = c.before.before in omega (arith, place l.before.requires.1 l.loop-k.k (omega arith)))  -- overflow_mul-step
     put_pair-requires
-    (λ c. search rules)  -- add-k
+    (λ c. search rules)  -- overflow_add-k
     (λ c. search rules)  -- loop-less
     loop_again
     put_single-requires
-    (λ c. search rules)  -- same-length
+    (λ c. search rules)  -- shape_of-w
     returns)

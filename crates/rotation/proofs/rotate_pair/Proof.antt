@@ -60,17 +60,17 @@ module _ (a : tie.Start) where
   second_is = let v = a.args in second.made ∙ second_form v.cosine v.sine v.c v.s
 
 -- their rests
-low_rest : (c : tie.After-struct_told) →
+low_rest : (c : tie.After-struct_told-1) →
     let v = c.before.before.before.args in
-    Word w64 (of_z w64 c.before.before.round.result.rest) (rest (v.c *ℤ v.cosine -ℤ v.s *ℤ v.sine))
-low_rest c = held c.struct_told.given.1.0.1 (c.before.before.round.ensures.1 ∙ ap rest (first_is c.before.before.before))
+    Word w64 (of_z w64 c.before.before.round-low.result.rest) (rest (v.c *ℤ v.cosine -ℤ v.s *ℤ v.sine))
+low_rest c = held c.struct_told-1.given.1.0.1 (c.before.before.round-low.ensures.1 ∙ ap rest (first_is c.before.before.before))
 
-high_rest : (c : tie.After-struct_told2) →
+high_rest : (c : tie.After-struct_told-2-1) →
     let v = c.before.before.before.before.before.args in
-    Word w64 (of_z w64 c.before.before.before.round2.result.rest) (rest (v.s *ℤ v.cosine +ℤ v.c *ℤ v.sine))
+    Word w64 (of_z w64 c.before.before.before.round-high.result.rest) (rest (v.s *ℤ v.cosine +ℤ v.c *ℤ v.sine))
 high_rest c =
     let two = c.before.before.before in
-    held c.struct_told2.given.1.0.1 (two.round2.ensures.1 ∙ ap rest (second_is two.before.before))
+    held c.struct_told-2-1.given.1.0.1 (two.round-high.ensures.1 ∙ ap rest (second_is two.before.before))
 
 returns : tie.Need-returns
 returns c =
@@ -79,36 +79,36 @@ returns c =
     let one = two.before.before in
     let a = one.before.before.before in
     record {
-      low = (held c.before.struct_told3.given.0.1 one.before.before.round.ensures.0).is ∙ ap round (first_is a);
-      high = (held c.struct_told4.given.0.1 one.before.round2.ensures.0).is ∙ ap round (second_is a);
+      low = (held c.before.struct_told-3-1.given.0.1 one.before.before.round-low.ensures.0).is ∙ ap round (first_is a);
+      high = (held c.struct_told-4-1.given.0.1 one.before.round-high.ensures.0).is ∙ ap round (second_is a);
       three_products = refl;
       three_sums = refl;
       larger_rest = l.larger.ensures ∙ ap₂ max
           (two.before.type_size.ensures ∙ ap nat_abs (low_rest one).is)
-          (l.before.size_of2.ensures ∙ ap nat_abs (high_rest two).is);
+          (l.before.size_of-2.ensures ∙ ap nat_abs (high_rest two).is);
     }
 
 pub rotate_pair_spec : {M : Type 1} → statement M
 rotate_pair_spec =
     tie.close
     (tie.spec
-    (λ c. search (rules, fits c))  -- add-s1
-    (λ c. search rules)  -- add-sums
-    (λ c. search (rules, fits c, m1 c))  -- mul-m1
-    (λ c. search rules)  -- add-products
-    (λ c. search (rules, fits c))  -- add-m2
-    (λ c. search (rules, fits c, m2 c))  -- mul-m2
-    (λ c. search rules)  -- add-products-2
-    (λ c. search (rules, fits c))  -- sub-m3
-    (λ c. search (rules, fits c, m3 c))  -- mul-m3
-    (λ c. search rules)  -- add-products-3
-    (λ c. (first c).asked)  -- sub-round
-    (λ c κs. rw (first c).made (within_size (within_sub (fits c).m1 (fits c).m2)))  -- round-requires
-    (λ c. search rules)  -- add-sums-2
-    (λ c. (second c.before).asked)  -- add-round
-    (λ c κs. rw (second c.before).made (within_size (within_add (fits c.before).m1 (fits c.before).m3)))  -- round-requires-2
-    (λ c. search rules)  -- add-sums-3
-    (λ c κs. rw (low_rest c).is (le_trans (rest_size_lem _) (lit≤ tt)))  -- size-of-requires
-    (λ c κs. rw (high_rest c).is (le_trans (rest_size_lem _) (lit≤ tt)))  -- size-of-requires-2
+    (λ c. search (rules, fits c))  -- overflow_add-s1
+    (λ c. search rules)  -- overflow_add-sums
+    (λ c. search (rules, fits c, m1 c))  -- overflow_mul-m1
+    (λ c. search rules)  -- overflow_add-products
+    (λ c. search (rules, fits c))  -- overflow_add-m2
+    (λ c. search (rules, fits c, m2 c))  -- overflow_mul-m2
+    (λ c. search rules)  -- overflow_add-products-2
+    (λ c. search (rules, fits c))  -- overflow_sub-m3
+    (λ c. search (rules, fits c, m3 c))  -- overflow_mul-m3
+    (λ c. search rules)  -- overflow_add-products-3
+    (λ c. (first c).asked)  -- overflow_sub-m1
+    (λ c κs. rw (first c).made (within_size (within_sub (fits c).m1 (fits c).m2)))  -- round-low-requires
+    (λ c. search rules)  -- overflow_add-sums-2
+    (λ c. (second c.before).asked)  -- overflow_add-m1
+    (λ c κs. rw (second c.before).made (within_size (within_add (fits c.before).m1 (fits c.before).m3)))  -- round-high-requires
+    (λ c. search rules)  -- overflow_add-sums-3
+    (λ c κs. rw (low_rest c).is (le_trans (rest_size_lem _) (lit≤ tt)))  -- size_of-requires
+    (λ c κs. rw (high_rest c).is (le_trans (rest_size_lem _) (lit≤ tt)))  -- size_of-requires-2
     (λ c κs. search rules)  -- larger-requires
     returns)

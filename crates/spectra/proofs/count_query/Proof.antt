@@ -9,15 +9,15 @@ use Rattle.refusals.proofs.Promises.{not_both}
 use Rattle.spectra.proofs.count_query.Statement.{statement}
 use Rattle.spectra.proofs.count_query.Tie as tie
 
-returns : tie.Need-returns
+returns : tie.Need-returns-then-not-is_length
 returns c =
-    let no = sym c.before.is_length.ensures ∙ not-true _ c.if1.true in
+    let no = sym c.before.is_length.ensures ∙ not-true _ c.if-not-is_length.true-raw in
     record { verdict = rw no; counted = λ e. absurd (not_both e) }
 
-accepted : (c : tie.Else1) → is_length c.before.before.args.length ≡ true
-accepted c = sym c.before.is_length.ensures ∙ not-false _ c.if1.false
+accepted : (c : tie.Else-not-is_length) → is_length c.before.before.args.length ≡ true
+accepted c = sym c.before.is_length.ensures ∙ not-false _ c.if-not-is_length.false-raw
 
-returns-2 : tie.Need-returns-2
+returns-2 : tie.Need-returns
 returns-2 c =
     let yes = accepted c.before in
     let six = c.Counts-of.ensures in

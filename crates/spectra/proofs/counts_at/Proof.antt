@@ -11,8 +11,8 @@ unfolding is_length
 counts_at_spec =
     tie.close
     (tie.spec
-    (λ c κs. search rules)  -- is-length-requires
-    (λ c κs. sym c.before.is_length.ensures ∙ c.if1.true)  -- counts-of-requires
-    (λ c κs. refl)  -- counts-of-requires-2
-    (λ c. search rules)  -- returns
-    (λ c yes. absurd (false≢true (sym c.before.if1.false ∙ c.before.before.is_length.ensures ∙ yes))))  -- returns-2
+    (λ c κs. search rules)  -- is_length-requires
+    (λ c κs. sym c.before.is_length.ensures ∙ c.if-is_length.true)  -- counts_of-requires
+    (λ c κs. refl)  -- counts_of-requires-else-is_length
+    (λ c. search rules)  -- returns-then-is_length
+    (λ c yes. absurd (false≢true (sym c.before.if-is_length.false ∙ c.before.before.is_length.ensures ∙ yes))))  -- returns-else-is_length

@@ -11,7 +11,7 @@ returns c =
     let a = c.before.before.args in
     let call = cosine_call a.recording.now a.start a.length a.allowance a.coefficients.now a.scratch.now in
     record {
-      verdict = by_first call refl _ _ _ (λ n. refl) (λ n. refl) (λ ok. (c.before.counts_at.ensures ok).of_dct.products _)
+      verdict = by_first call refl _ _ _ (λ n. refl) (λ n. refl) (λ ok. (c.before.counts_at-counts.ensures ok).of_dct.products _)
           c.test.ensures;
     }
 

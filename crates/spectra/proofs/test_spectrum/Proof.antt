@@ -13,8 +13,8 @@ returns c =
     let lent = buffers a.cosine.now a.sine.now a.scratch.now in
     let call = spectrum_call a.recording.now a.start a.length a.allowance lent in
     record {
-      verdict = by_first call refl _ _ _ (λ n. refl) (two_below _ _ c.before.shorter.ensures)
-          (λ ok. ((c.before.before.counts_at.ensures ok).of_spectrum _).0) c.test.ensures;
+      verdict = by_first call refl _ _ _ (λ n. refl) (two_below _ _ c.before.shorter-room.ensures)
+          (λ ok. ((c.before.before.counts_at-counts.ensures ok).of_spectrum _).0) c.test.ensures;
     }
 
 pub test_spectrum_spec : {M : Type 1} → statement M

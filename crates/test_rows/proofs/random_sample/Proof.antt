@@ -10,9 +10,9 @@ pub random_sample_spec : {M : Type 1} → statement M
 random_sample_spec =
     tie.close
     (tie.spec
-    (λ c. search rules)  -- sub-result
-    (λ c. search rules)  -- cast-result
-    (λ c. search rules)  -- cast-result-2
+    (λ c. search rules)  -- overflow_sub-result
+    (λ c. search rules)  -- overflow_cast-result
+    (λ c. search rules)  -- overflow_cast-result-else-n-lt1000000
     (λ c. let n = c.before.args.state % 2000001 in
     simp (le-ltb (4294967295 - (999999 - n)) (2 ^ 31) (omega arith)) (omega arith))  -- returns
     (λ c. let n = c.before.args.state % 2000001 in

@@ -8,12 +8,12 @@ pub put_decimal_spec : {M : Type 1} → statement M
 put_decimal_spec =
     tie.close
     (tie.spec
-    (λ c κs. search rules)  -- size-of-small-requires
+    (λ c κs. search rules)  -- size_of_small-size-requires
     (λ c. search rules)  -- slice-aggregate-put
-    (λ c κs. search (rules, sign_ready))  -- put-requires
-    (λ c κs. search (rules, size_ready))  -- put-number-requires
-    (λ c. search rules)  -- same-length
-    (λ c. search (rules, negative_put))  -- returns
-    (λ c κs. search (rules, natural_ready))  -- put-number-requires-2
-    (λ c. search rules)  -- same-length-2
-    (λ c. search (rules, natural_put)))  -- returns-2
+    (λ c κs. search (rules, sign_ready))  -- put-behind-requires
+    (λ c κs. search (rules, size_ready))  -- put_number-requires
+    (λ c. search rules)  -- shape_of-page-then-x-lt0
+    (λ c. search (rules, negative_put))  -- returns-then-x-lt0
+    (λ c κs. search (rules, natural_ready))  -- put_number-requires-2
+    (λ c. search rules)  -- shape_of-page
+    (λ c. search (rules, natural_put)))  -- returns

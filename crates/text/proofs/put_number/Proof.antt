@@ -8,10 +8,10 @@ pub put_number_spec : {M : Type 1} → statement M
 put_number_spec =
     tie.close
     (tie.spec
-    (λ c κs. search rules)  -- decimal-requires
-    (λ c. search rules)  -- array-share-prefix-digits
-    (λ c. search rules)  -- slice-aggregate-put
-    (λ c κs. search (rules, digits_ready))  -- put-requires
-    (λ c κs. search (rules, end_ready))  -- put-requires-2
-    (λ c. search rules)  -- same-length
+    (λ c κs. search rules)  -- decimal-count-requires
+    (λ c. search rules)  -- slice_bounds-digits-end
+    (λ c. search rules)  -- slice_bounds-put-end
+    (λ c κs. search (rules, digits_ready))  -- put-behind-requires
+    (λ c κs. search (rules, end_ready))  -- put-requires
+    (λ c. search rules)  -- shape_of-page
     (λ c. search (rules, number_put)))  -- returns

@@ -61,7 +61,7 @@ pub round_spec : {M : Type 1} → statement M
 round_spec =
     tie.close
     (tie.spec
-    (λ c. asked ◌+ℤ◌ (word c.ranges.v) half (sum_fits c))  -- add-value
-    (λ c. asked ◌*ℤ◌ (power c) (value c) (multiple_fits c))  -- mul-t3
-    (λ c. asked ◌-ℤ◌ (word c.ranges.v) (multiple c) (rest_fits c))  -- sub-t4
+    (λ c. asked ◌+ℤ◌ (word c.ranges.v) half (sum_fits c))  -- overflow_add-value
+    (λ c. asked ◌*ℤ◌ (power c) (value c) (multiple_fits c))  -- overflow_mul-result
+    (λ c. asked ◌-ℤ◌ (word c.ranges.v) (multiple c) (rest_fits c))  -- overflow_sub-result
     returns)

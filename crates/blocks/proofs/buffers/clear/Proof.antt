@@ -9,10 +9,10 @@ use Rattle.words.proofs.Writing.{Ends, ends_none, ends_front, ends_all}
 use Rattle.blocks.proofs.buffers.clear.Statement.{statement}
 use Rattle.blocks.proofs.buffers.clear.Tie as tie
 
-abbrev invariant-loop : tie.invariant-loop
+abbrev invariant-loop : tie.invariant-loop-i
 invariant-loop w₀ i₀ w i = (i ≤ length w₀) × Ends (pos 0) 0 i 0 (length w₀) (λ k. pos 0) w₀ w
 
-abbrev decreases-loop : tie.decreases-loop
+abbrev decreases-loop : tie.decreases-loop-i
 decreases-loop w₀ i₀ w i = length w₀ - i
 
 pub clear_spec : {M : Type 1} → statement M
@@ -22,10 +22,10 @@ clear_spec =
     invariant-loop
     decreases-loop
     (λ c. search (rules, ends_none))  -- loop-holds
-    (λ c. search rules)  -- mul-w
-    (λ c. search rules)  -- slice-set-of-w
-    (λ c. search rules)  -- add-i
+    (λ c. search rules)  -- offset_bounds-w-i
+    (λ c. search rules)  -- slice_set_of-w
+    (λ c. search rules)  -- overflow_add-i
     (λ c. search rules)  -- loop-less
-    (λ c. (search rules, ends_front c.before.loop.invariant.1 (omega arith) refl))  -- loop-again
-    (λ c. search rules)  -- same-length
-    (λ c. ends_all c.before.loop.invariant.1 (omega arith)))  -- returns
+    (λ c. (search rules, ends_front c.before.loop-i.invariant.1 (omega arith) refl))  -- loop-again
+    (λ c. search rules)  -- shape_of-w
+    (λ c. ends_all c.before.loop-i.invariant.1 (omega arith)))  -- returns

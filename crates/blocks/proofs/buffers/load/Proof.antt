@@ -10,10 +10,10 @@ use Rattle.whole.proofs.Words.{read_widens, read_widened}
 use Rattle.blocks.proofs.buffers.load.Statement.{statement}
 use Rattle.blocks.proofs.buffers.load.Tie as tie
 
-abbrev invariant-loop : tie.invariant-loop
+abbrev invariant-loop : tie.invariant-loop-i
 invariant-loop block w₀ i₀ w i = (i ≤ length block) × Ends (pos 0) 0 i 0 (length block) (word block) w₀ w
 
-abbrev decreases-loop : tie.decreases-loop
+abbrev decreases-loop : tie.decreases-loop-i
 decreases-loop block w₀ i₀ w i = length block - i
 
 pub load_spec : {M : Type 1} → statement M
@@ -23,13 +23,13 @@ load_spec =
     invariant-loop
     decreases-loop
     (λ c. search (rules, ends_none))  -- loop-holds
-    (λ c. search rules)  -- mul-x
-    (λ c. search rules)  -- shared-slice-copy-out-x
-    (λ c. search (rules, read_widens))  -- cast-x
-    (λ c. search rules)  -- mul-x-2
-    (λ c. search rules)  -- slice-set-from-x
-    (λ c. search rules)  -- add-i
+    (λ c. search rules)  -- offset_bounds-block-i
+    (λ c. search rules)  -- bounds-block-i
+    (λ c. search (rules, read_widens))  -- overflow_cast-x
+    (λ c. search rules)  -- offset_bounds-w-i
+    (λ c. search rules)  -- bounds-w-i
+    (λ c. search rules)  -- overflow_add-i
     (λ c. search rules)  -- loop-less
-    (λ c. (search rules, ends_front c.before.before.loop.invariant.1 (omega arith) (read_widened _ c.x.given).is))  -- loop-again
-    (λ c. search rules)  -- same-length
-    (λ c. ends_all c.before.loop.invariant.1 (omega arith)))  -- returns
+    (λ c. (search rules, ends_front c.before.before.loop-i.invariant.1 (omega arith) (read_widened _ c.x-1.given).is))  -- loop-again
+    (λ c. search rules)  -- shape_of-w
+    (λ c. ends_all c.before.loop-i.invariant.1 (omega arith)))  -- returns

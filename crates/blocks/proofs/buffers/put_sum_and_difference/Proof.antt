@@ -27,19 +27,19 @@ pub put_sum_and_difference_spec : {M : Type 1} → statement M
 put_sum_and_difference_spec =
     tie.close
     (tie.spec
-    (λ c. search rules)  -- mul-x
-    (λ c. search rules)  -- shared-slice-copy-out-x
-    (λ c. search rules)  -- mul-y
-    (λ c. search rules)  -- shared-slice-copy-out-y
-    (λ c. (sum c.before.before).asks)  -- add-sum
-    (λ c. (sum c.before.before).narrow)  -- cast-sum
-    (λ c. search rules)  -- add-sums
-    (λ c. (difference c.before.before).asks)  -- sub-difference
-    (λ c. (difference c.before.before).narrow)  -- cast-difference
-    (λ c. search rules)  -- add-sums-2
-    (λ c. search rules)  -- mul-sum
-    (λ c. search rules)  -- slice-set-from-sum
-    (λ c. search rules)  -- mul-difference
-    (λ c. simp length-set (omega arith))  -- slice-set-from-difference
-    (λ c. search rules)  -- same-length
+    (λ c. search rules)  -- offset_bounds-w-c
+    (λ c. search rules)  -- bounds-w-c
+    (λ c. search rules)  -- offset_bounds-w-s
+    (λ c. search rules)  -- bounds-w-s
+    (λ c. (sum c.before.before).asks)  -- overflow_add-sum
+    (λ c. (sum c.before.before).narrow)  -- overflow_cast-sum
+    (λ c. search rules)  -- overflow_add-sums
+    (λ c. (difference c.before.before).asks)  -- overflow_sub-difference
+    (λ c. (difference c.before.before).narrow)  -- overflow_cast-difference
+    (λ c. search rules)  -- overflow_add-sums-2
+    (λ c. search rules)  -- offset_bounds-out-i
+    (λ c. search rules)  -- bounds-out-i
+    (λ c. search rules)  -- offset_bounds-out-j
+    (λ c. simp length-set (omega arith))  -- bounds-out-j
+    (λ c. search rules)  -- shape_of-out
     returns)

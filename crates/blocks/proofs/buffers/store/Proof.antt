@@ -9,16 +9,16 @@ use Rattle.blocks.proofs.Casting.{coefficient_narrows, coefficient_narrowed}
 use Rattle.blocks.proofs.buffers.store.Statement.{statement}
 use Rattle.blocks.proofs.buffers.store.Tie as tie
 
-abbrev invariant-loop : tie.invariant-loop
+abbrev invariant-loop : tie.invariant-loop-k
 invariant-loop w at out₀ m k₀ out k = (k ≤ m) × Ends (pos 0) 0 k 0 m (words_from w at) out₀ out
 
-abbrev decreases-loop : tie.decreases-loop
+abbrev decreases-loop : tie.decreases-loop-k
 decreases-loop w at out₀ m k₀ out k = m - k
 
-loop_again : tie.Need-loop-preserved invariant-loop decreases-loop
+loop_again : tie.Need-loop-k-preserved invariant-loop decreases-loop
 loop_again c =
     let l = c.before.before in
-    (search rules, ends_front l.loop.invariant.1 (omega arith) (coefficient_narrowed _ (l.before.requires.1 l.loop.k (omega arith))))
+    (search rules, ends_front l.loop-k.invariant.1 (omega arith) (coefficient_narrowed _ (l.before.requires.1 l.loop-k.k (omega arith))))
 
 pub store_spec : {M : Type 1} → statement M
 store_spec =
@@ -27,14 +27,14 @@ store_spec =
     invariant-loop
     decreases-loop
     (λ c. search (rules, ends_none))  -- loop-holds
-    (λ c. search rules)  -- add-y
-    (λ c. search rules)  -- mul-y
-    (λ c. search rules)  -- shared-slice-copy-out-y
-    (λ c. search (rules, coefficient_narrows, c.before.before.before.requires.1))  -- cast-y
-    (λ c. search rules)  -- mul-y-2
-    (λ c. search rules)  -- slice-set-from-y
-    (λ c. search rules)  -- add-k
+    (λ c. search rules)  -- overflow_add-y
+    (λ c. search rules)  -- offset_bounds-w-at
+    (λ c. search rules)  -- bounds-w-at
+    (λ c. search (rules, coefficient_narrows, c.before.before.before.requires.1))  -- overflow_cast-y
+    (λ c. search rules)  -- offset_bounds-out-k
+    (λ c. search rules)  -- bounds-out-k
+    (λ c. search rules)  -- overflow_add-k
     (λ c. search rules)  -- loop-less
     loop_again
-    (λ c. search rules)  -- same-length
-    (λ c. ends_all c.before.loop.invariant.1 (omega arith)))  -- returns
+    (λ c. search rules)  -- shape_of-out
+    (λ c. ends_all c.before.loop-k.invariant.1 (omega arith)))  -- returns

@@ -31,15 +31,15 @@ pub store_ends_spec : {M : Type 1} → statement M
 store_ends_spec =
     tie.close
     (tie.spec
-    (λ c. search rules)  -- mul-x
-    (λ c. search rules)  -- shared-slice-copy-out-x
-    (λ c. search (rules, coefficient_narrows, first))  -- cast-x
-    (λ c. search rules)  -- add-y
-    (λ c. search rules)  -- mul-y
-    (λ c. search rules)  -- shared-slice-copy-out-y
-    (λ c. search (rules, coefficient_narrows, half))  -- cast-y
-    (λ c. search rules)  -- slice-set-from-x
-    (λ c. search rules)  -- mul-y-2
-    (λ c. simp length-set (omega arith))  -- slice-set-from-y
-    (λ c. search rules)  -- same-length
+    (λ c. search rules)  -- offset_bounds-w-at
+    (λ c. search rules)  -- bounds-w-at
+    (λ c. search (rules, coefficient_narrows, first))  -- overflow_cast-x
+    (λ c. search rules)  -- overflow_add-y
+    (λ c. search rules)  -- offset_bounds-w-at-2
+    (λ c. search rules)  -- bounds-w-at-2
+    (λ c. search (rules, coefficient_narrows, half))  -- overflow_cast-y
+    (λ c. search rules)  -- bounds-out-0
+    (λ c. search rules)  -- offset_bounds-out-n
+    (λ c. simp length-set (omega arith))  -- bounds-out-n
+    (λ c. search rules)  -- shape_of-out
     returns)

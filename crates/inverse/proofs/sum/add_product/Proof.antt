@@ -75,9 +75,9 @@ pub add_product_spec : {M : Type 1} → statement M
 add_product_spec =
     tie.close
     (tie.spec
-    (λ c. asked ◌*ℤ◌ (word c.ranges.x) (word c.ranges.y) (within_fits (small c) (lit< tt)))  -- mul-product
-    (λ c. let a = c.before.before in asked ◌+ℤ◌ (high_word a.requires.sum_ok (lit< tt)) (floor a) (high_fits a))  -- add-t6
-    (λ c. let a = c.before.before in asked ◌*ℤ◌ (floor a) unit_word (scaled_fits a))  -- mul-t7
-    (λ c. let a = c.before.before in asked ◌-ℤ◌ (product a) (scaled a) (rest_fits a))  -- sub-t8
-    (λ c. let a = c.before.before.before.before in asked ◌+ℤ◌ (low_word a.requires.sum_ok (lit< tt)) (rest a) (low_fits a))  -- add-t9
+    (λ c. asked ◌*ℤ◌ (word c.ranges.x) (word c.ranges.y) (within_fits (small c) (lit< tt)))  -- overflow_mul-product
+    (λ c. let a = c.before.before in asked ◌+ℤ◌ (high_word a.requires.sum_ok (lit< tt)) (floor a) (high_fits a))  -- overflow_add-result
+    (λ c. let a = c.before.before in asked ◌*ℤ◌ (floor a) unit_word (scaled_fits a))  -- overflow_mul-result
+    (λ c. let a = c.before.before in asked ◌-ℤ◌ (product a) (scaled a) (rest_fits a))  -- overflow_sub-result
+    (λ c. let a = c.before.before.before.before in asked ◌+ℤ◌ (low_word a.requires.sum_ok (lit< tt)) (rest a) (low_fits a))  -- overflow_add-result-2
     returns)

@@ -22,8 +22,8 @@ pub wave_on_circle_spec : {M : Type 1} → statement M
 wave_on_circle_spec =
     tie.close
     (tie.spec
-    (λ c κs. search rules)  -- wave-on-half-requires
-    (λ c. (held c.wave_on_half.type_inv c.wave_on_half.ensures).is ∙ sym (low _ (omega arith)))  -- returns
-    (λ c. search rules)  -- sub-wave-on-half
-    (λ c κs. search rules)  -- wave-on-half-requires-2
-    (λ c. (held c.wave_on_half2.type_inv c.wave_on_half2.ensures).is ∙ sym (high _ (omega arith) (omega arith))))  -- returns-2
+    (λ c κs. search rules)  -- wave_on_half-requires
+    (λ c. (held c.wave_on_half.type_inv c.wave_on_half.ensures).is ∙ sym (low _ (omega arith)))  -- returns-then-place-le2048
+    (λ c. search rules)  -- overflow_sub-place
+    (λ c κs. search rules)  -- wave_on_half-requires-2
+    (λ c. (held c.wave_on_half-2.type_inv c.wave_on_half-2.ensures).is ∙ sym (high _ (omega arith) (omega arith))))  -- returns

@@ -16,19 +16,19 @@ use Rattle.inverse.proofs.sum.wave_on_half.Statement.{statement}
 use Rattle.inverse.proofs.sum.wave_on_half.Tie as tie
 
 -- the entry beyond 1,024, and its negative
-entry : (c : tie.After-wave_at2) → Word w64 (of_z w64 c.wave_at2.result) (T (2048 - c.before.before.args.j))
-entry c = held c.wave_at2.type_inv c.wave_at2.ensures
+entry : (c : tie.After-wave_at-2) → Word w64 (of_z w64 c.wave_at-2.result) (T (2048 - c.before.before.args.j))
+entry c = held c.wave_at-2.type_inv c.wave_at-2.ensures
 
-fits : (c : tie.After-wave_at2) → SFits w64 (neg_ℤ (T (2048 - c.before.before.args.j)))
+fits : (c : tie.After-wave_at-2) → SFits w64 (neg_ℤ (T (2048 - c.before.before.args.j)))
 fits c = within_fits (within_neg (entry_within _ (omega arith))) (lit< tt)
 
 pub wave_on_half_spec : {M : Type 1} → statement M
 wave_on_half_spec =
     tie.close
     (tie.spec
-    (λ c κs. search rules)  -- wave-at-requires
-    (λ c. (held c.wave_at.type_inv c.wave_at.ensures).is ∙ sym (half_low T _ (omega arith)))  -- returns
-    (λ c. search rules)  -- sub-wave-at
-    (λ c κs. search rules)  -- wave-at-requires-2
-    (λ c. negates (entry c) (fits c))  -- sub-result
-    (λ c. (negated (entry c) (fits c)).is ∙ sym (half_high T _ (omega arith))))  -- returns-2
+    (λ c κs. search rules)  -- wave_at-requires
+    (λ c. (held c.wave_at.type_inv c.wave_at.ensures).is ∙ sym (half_low T _ (omega arith)))  -- returns-then-j-le1024
+    (λ c. search rules)  -- overflow_sub-j
+    (λ c κs. search rules)  -- wave_at-requires-2
+    (λ c. negates (entry c) (fits c))  -- overflow_sub-result
+    (λ c. (negated (entry c) (fits c)).is ∙ sym (half_high T _ (omega arith))))  -- returns

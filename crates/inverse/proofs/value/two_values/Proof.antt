@@ -15,7 +15,7 @@ use Rattle.inverse.proofs.ValueRuns.{turn_small, sums_ready, evens_small, odds_s
 use Rattle.inverse.proofs.value.two_values.Statement.{statement}
 use Rattle.inverse.proofs.value.two_values.Tie as tie
 
-module _ (c : tie.After-c) where
+module _ (c : tie.After-c-1) where
   abbrev start : tie.Start
   start = c.before.before.before
 
@@ -23,26 +23,26 @@ module _ (c : tie.After-c) where
   first = word start.args.coefficients.now 0
 
   first_is : Word w64 (of_z w64 (to_z w32 (of_z w32 first))) first
-  first_is = read_widened _ c.c.given
+  first_is = read_widened _ c.c-1.given
 
-  small : Small 512 c.before.before.every_other.result × Small 512 c.before.every_other2.result
+  small : Small 512 c.before.before.every_other-even.result × Small 512 c.before.every_other-odd.result
   small =
       let r = start.pre.1 in
-      let e = c.before.before.every_other.ensures in
-      let o = c.before.every_other2.ensures in
+      let e = c.before.before.every_other-even.ensures in
+      let o = c.before.every_other-odd.ensures in
       (evens_small r e o, odds_small r e o)
 
 near : (c : tie.After-add) → let a = (start c.before).args in
     value_of (held c.add.result) (first c.before) a.n ≡ inverse_dct a.n (word a.coefficients.now) a.i
 near c =
     let b = c.before in
-    near_value (start b).requires.1 b.before.before.every_other.ensures b.before.every_other2.ensures c.add.ensures
+    near_value (start b).requires.1 b.before.before.every_other-even.ensures b.before.every_other-odd.ensures c.add.ensures
 
 far : (c : tie.After-subtract) → let b = c.before.before.before in let a = (start b).args in
     value_of (held c.subtract.result) (first b) a.n ≡ inverse_dct a.n (word a.coefficients.now) (a.n - 1 - a.i)
 far c =
     let b = c.before.before.before in
-    far_value (start b).requires.1 b.before.before.every_other.ensures b.before.every_other2.ensures c.subtract.ensures
+    far_value (start b).requires.1 b.before.before.every_other-even.ensures b.before.every_other-odd.ensures c.subtract.ensures
 
 returns : tie.Need-returns
 returns c =
@@ -53,21 +53,21 @@ returns c =
     record {
       near_is = to_z-of_z (sfits_of v.value.type_inv) ∙ v.value.ensures
           ∙ ap (λ z. value_of (held v.before.add.result) z n) f ∙ near v.before;
-      far_is = to_z-of_z (sfits_of c.value2.type_inv) ∙ c.value2.ensures ∙ ap (λ z. value_of (held s.subtract.result) z n) f ∙ far s;
+      far_is = to_z-of_z (sfits_of c.value-2.type_inv) ∙ c.value-2.ensures ∙ ap (λ z. value_of (held s.subtract.result) z n) f ∙ far s;
     }
 
 pub two_values_spec : {M : Type 1} → statement M
 two_values_spec =
     tie.close
     (tie.spec
-    (λ c. search rules)  -- mul-turn
-    (λ c. search rules)  -- add-turn
-    (λ c. search rules)  -- div-turn
-    (λ c. record { fits = omega (arith, turn_small c.requires.1) })  -- mul-turn-2
-    (λ c κs. (c.requires.0, sums_ready c.requires.1 (omega arith)))  -- every-other-requires
-    (λ c κs. (c.before.requires.0, sums_ready c.before.requires.1 (omega arith)))  -- every-other-requires-2
-    (λ c. search rules)  -- shared-slice-copy-out-c
-    (λ c. search (rules, read_widens))  -- cast-c
+    (λ c. search rules)  -- overflow_mul-turn
+    (λ c. search rules)  -- overflow_add-turn
+    (λ c. search rules)  -- nonzero_div-turn
+    (λ c. record { fits = omega (arith, turn_small c.requires.1) })  -- overflow_mul-turn-2
+    (λ c κs. (c.requires.0, sums_ready c.requires.1 (omega arith)))  -- every_other-even-requires
+    (λ c κs. (c.before.requires.0, sums_ready c.before.requires.1 (omega arith)))  -- every_other-odd-requires
+    (λ c. search rules)  -- bounds-coefficients-0
+    (λ c. search (rules, read_widens))  -- overflow_cast-c
     (λ c κs. small c)  -- add-requires
     (λ c κs. let b = c.before in rw (first_is b).is
     (value_ready (start b).requires.1 c.add.ensures.size (omega (arith, (start b).requires.1.front)) (near c)))  -- value-requires

@@ -81,7 +81,7 @@ module _ (a : tie.Start) where
       (ap (shr_z (quotient a.args.sum a.args.c +ℤ int (a.args.n / halves))) power ∙ value_is a.pre (a.args.n / halves) even)
       (shifted (2 ^ zeros) sum)
 
-abbrev start : tie.After-struct_told2 → tie.Start
+abbrev start : tie.After-struct_told-2-1 → tie.Start
 start c = c.before.before.before.before
 
 pub value_spec : {M : Type 1} → statement M
@@ -92,10 +92,10 @@ value_spec =
     asked ◌*ℤ◌ (two a) (high_word a.requires.size (lit< tt)) (within_fits (twice_small a.requires) (lit< tt)))  -- mul-quotient
     (λ c. let a = c.before.before in
     asked ◌-ℤ◌ (twice a) (word a.ranges.c) (within_fits (less_small a.requires) (lit< tt)))  -- sub-quotient
-    (λ c. asked ◌+ℤ◌ (less (start c)) (low (start c)) (within_fits (quotient_small (start c).requires) (lit< tt)))  -- add-quotient
-    (λ c. search rules)  -- cast-result
-    (λ c. asked ◌+ℤ◌ (all (start c)) (half (start c)) (within_fits (sum_small (start c).requires _ (even (start c))) (lit< tt)))  -- add-result
-    (λ c. few_fits (start c))  -- cast-result-2
-    (λ c. omega (arith, few (start c)))  -- shr-result
-    (λ c. narrows (result (start c)) (start c).requires.fits)  -- cast-result-3
+    (λ c. asked ◌+ℤ◌ (less (start c)) (low (start c)) (within_fits (quotient_small (start c).requires) (lit< tt)))  -- overflow_add-quotient
+    (λ c. search rules)  -- overflow_cast-result
+    (λ c. asked ◌+ℤ◌ (all (start c)) (half (start c)) (within_fits (sum_small (start c).requires _ (even (start c))) (lit< tt)))  -- overflow_add-result
+    (λ c. few_fits (start c))  -- overflow_cast-result-2
+    (λ c. omega (arith, few (start c)))  -- overflow_shr-result
+    (λ c. narrows (result (start c)) (start c).requires.fits)  -- overflow_cast-result-3
     (λ c. narrowed (result (start c)) (start c).requires.fits))  -- returns

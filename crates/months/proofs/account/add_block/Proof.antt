@@ -11,8 +11,8 @@ use Rattle.months.proofs.Blocks.{BothAdded, both_added, number_fits, block_added
 use Rattle.months.proofs.account.add_block.Statement.{statement}
 use Rattle.months.proofs.account.add_block.Tie as tie
 
-module _ (c : tie.After-account3) where
-  abbrev second : tie.After-add_sums2
+module _ (c : tie.After-account-3-1) where
+  abbrev second : tie.After-add_sums-2
   second = c.before.before
 
   abbrev first : tie.After-add_sums
@@ -24,23 +24,23 @@ module _ (c : tie.After-account3) where
   -- the words with both rows of sums
   both : BothAdded start.args.length start.args.cosine.now start.args.sine.now
       start.args.account.now second.add_sums2.last.0
-  both = both_added start.pre.0 start.pre.1 first.add_sums.ensures second.add_sums2.ensures
+  both = both_added start.pre.0 start.pre.1 first.add_sums.ensures second.add_sums-2.ensures
 
   read : to_z w64 (of_z w64 (word second.add_sums2.last.0 0)) ≡ word second.add_sums2.last.0 0
-  read = to_z-of_z (sfits_of c.account3.given)
+  read = to_z-of_z (sfits_of c.account-3-1.given)
 
   fits : SFits w64 (word second.add_sums2.last.0 0 +ℤ pos 1)
-  fits = number_fits both c.account3.given start.pre.4
+  fits = number_fits both c.account-3-1.given start.pre.4
 
 pub add_block_spec : {M : Type 1} → statement M
 add_block_spec =
     tie.close
     (tie.spec
-    (λ c. search rules)  -- add-yields
-    (λ c κs. search rules)  -- add-sums-requires
-    (λ c κs. search rules)  -- add-sums-requires-2
-    (λ c. search rules)  -- slice-copy-out-account
-    (λ c. rw (read c) (fits c))  -- add-account
-    (λ c. search rules)  -- slice-set-from-account
-    (λ c. length-set (second c).add_sums2.new.0 0 _ ∙ (both c).len)  -- same-length
+    (λ c. search rules)  -- overflow_add-yields
+    (λ c κs. search rules)  -- add_sums-requires
+    (λ c κs. search rules)  -- add_sums-requires-2
+    (λ c. search rules)  -- slice_copy_out-account
+    (λ c. rw (read c) (fits c))  -- overflow_add-account
+    (λ c. search rules)  -- bounds-account-0
+    (λ c. length-set (second c).add_sums-2.new.account 0 _ ∙ (both c).len)  -- shape_of-account
     (λ c. block_added (both c) (rw (read c) (to_z-of_z (fits c)))))  -- returns

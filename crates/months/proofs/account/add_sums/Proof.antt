@@ -12,23 +12,23 @@ use Rattle.months.specs.Accounts.{plus}
 use Rattle.months.proofs.account.add_sums.Statement.{statement}
 use Rattle.months.proofs.account.add_sums.Tie as tie
 
-abbrev invariant-loop : tie.invariant-loop
+abbrev invariant-loop : tie.invariant-loop-k
 invariant-loop account₀ at coefficients n k₀ account k =
     (k ≤ n) × Ends (pos 0) at k 0 n (λ j. plus (word account₀ (at + j)) (word coefficients j)) account₀ account
 
-abbrev decreases-loop : tie.decreases-loop
+abbrev decreases-loop : tie.decreases-loop-k
 decreases-loop account₀ at coefficients n k₀ account k = n - k
 
-loop_again : tie.Need-loop-preserved invariant-loop decreases-loop
+loop_again : tie.Need-loop-k-preserved invariant-loop decreases-loop
 loop_again c =
     let a = c.before.before in
     let t = a.before.before in
-    let p = t.loop.invariant.1 in (
+    let p = t.loop-k.invariant.1 in (
       omega arith,
       ends_front p (omega arith)
           (held c.added.type_inv (c.added.ensures ∙ ap₂ plus
-          (to_z-of_z (sfits_of a.added-arg.given) ∙ p.between t.loop.k (omega arith) (omega arith))
-          (to_z-of_z (sfits_of c.before.added-arg2.given)))).is,
+          (to_z-of_z (sfits_of a.added-arg-1.given) ∙ p.between t.loop-k.k (omega arith) (omega arith))
+          (to_z-of_z (sfits_of c.before.added-arg-in-loop-k-1.given)))).is,
     )
 
 pub add_sums_spec : {M : Type 1} → statement M
@@ -38,17 +38,17 @@ add_sums_spec =
     invariant-loop
     decreases-loop
     (λ c. (omega arith, ends_none))  -- loop-holds
-    (λ c. search rules)  -- add-added
-    (λ c. search rules)  -- mul-added
-    (λ c. search rules)  -- shared-slice-copy-out-added
-    (λ c. search rules)  -- mul-added-2
-    (λ c. search rules)  -- shared-slice-copy-out-added
+    (λ c. search rules)  -- overflow_add-at
+    (λ c. search rules)  -- offset_bounds-account-at
+    (λ c. search rules)  -- bounds-coefficients-k
+    (λ c. search rules)  -- offset_bounds-coefficients-k
+    (λ c. search rules)  -- bounds-coefficients-k
     (λ c κs. search rules)  -- added-requires
     (λ c. search rules)  -- add-t16
     (λ c. search rules)  -- mul-t17
-    (λ c. search rules)  -- slice-set-from-account
-    (λ c. search rules)  -- add-k
+    (λ c. search rules)  -- bounds-account-at
+    (λ c. search rules)  -- overflow_step-k
     (λ c. search rules)  -- loop-less
     loop_again
-    (λ c. c.before.loop.invariant.1.len)  -- same-length
-    (λ c. ends_all c.before.loop.invariant.1 (omega arith)))  -- returns
+    (λ c. c.before.loop-k.invariant.1.len)  -- shape_of-account
+    (λ c. ends_all c.before.loop-k.invariant.1 (omega arith)))  -- returns

@@ -11,17 +11,17 @@ use Rattle.months.proofs.account.add_to.Statement.{statement}
 use Rattle.months.proofs.account.add_to.Tie as tie
 
 -- ---- the account's own test
-no_room : (c : tie.Then1) → full c.before.before.args.account.now ≡ true
-no_room c = rw (to_z-of_z (sfits_of c.before.if12.given)) at c.if1.true
+no_room : (c : tie.Then-account-ge-MOST_BLOCKS) → full c.before.before.args.account.now ≡ true
+no_room c = rw (to_z-of_z (sfits_of c.before.t11-1.given)) at c.if-account-ge-MOST_BLOCKS.true
 
-room : (c : tie.Else1) → full c.before.before.args.account.now ≡ false
-room c = rw (to_z-of_z (sfits_of c.before.if12.given)) at c.if1.false
+room : (c : tie.Else-account-ge-MOST_BLOCKS) → full c.before.before.args.account.now ≡ false
+room c = rw (to_z-of_z (sfits_of c.before.t11-1.given)) at c.if-account-ge-MOST_BLOCKS.false
 
 -- ---- behind Spectrum
-abbrev tested : tie.After-spectrum → tie.Else1
+abbrev tested : tie.After-spectrum-answer → tie.Else-account-ge-MOST_BLOCKS
 tested c = c.before.before.before.before
 
-abbrev start : tie.After-spectrum → tie.Start
+abbrev start : tie.After-spectrum-answer → tie.Start
 start c = (tested c).before.before
 
 abbrev asked : tie.Start → Given
@@ -32,27 +32,27 @@ pub add_to_spec : {M : Type 1} → statement M
 add_to_spec =
     tie.close
     (tie.spec
-    (λ c. search rules)  -- slice-copy-out-if1
-    (λ c. let s = c.before.before in is_full (asked s) s.args.account.now (no_room c))  -- returns
-    (λ c κs. search rules)  -- spectrum-requires
-    (λ c. search rules)  -- enum_told
-    (λ c. search rules)  -- enum-told-2
+    (λ c. search rules)  -- slice_copy_out-t-11
+    (λ c. let s = c.before.before in is_full (asked s) s.args.account.now (no_room c))  -- returns-then-account-ge-MOST_BLOCKS
+    (λ c κs. search rules)  -- spectrum-answer-requires
+    (λ c. search rules)  -- enum_told-1
+    (λ c. search rules)  -- enum_told-in-Done
     (λ c κs. let t = c.before.before.before in
     let s = t.before.before.before.before.before in
     let (short, cosines, sines) = add_ready (asked (start s)) (start s).args.account.now
-    (room (tested s)) s.spectrum.ensures t.enum_told2.given.1 in
+    (room (tested s)) s.spectrum-answer.ensures t.enum_told-in-Done-1.given.1 in
     ((start s).requires, short, cosines, sines, room (tested s)))  -- add-block-requires
-    (λ c. search rules)  -- same-length
-    (λ c. search rules)  -- same-length-2
-    (λ c. search rules)  -- same-length-3
+    (λ c. search rules)  -- shape_of-cosine-in-Refused
+    (λ c. search rules)  -- shape_of-sine-in-Refused
+    (λ c. search rules)  -- shape_of-scratch-in-Refused
     (λ c. let s = c.before.before.before.before.before in
     spectrum_refused (asked (start s)) (start s).args.account.now
-    (room (tested s)) s.spectrum.ensures c.enum_told.given.1)  -- returns-2
-    (λ c. search rules)  -- same-length-4
-    (λ c. search rules)  -- same-length-5
-    (λ c. search rules)  -- same-length-6
-    (λ c. search rules)  -- same-length-7
+    (room (tested s)) s.spectrum-answer.ensures c.enum_told-1.given.1)  -- returns-2
+    (λ c. search rules)  -- shape_of-account
+    (λ c. search rules)  -- shape_of-cosine-in-Done
+    (λ c. search rules)  -- shape_of-sine-in-Done
+    (λ c. search rules)  -- shape_of-scratch-in-Done
     (λ c. let t = c.before.before.before.before.before in
     let s = t.before.before.before.before.before in
     block_held (asked (start s)) (start s).args.account.now
-    (room (tested s)) s.spectrum.ensures t.enum_told2.given.1 c.before.add_block.ensures))  -- returns-3
+    (room (tested s)) s.spectrum-answer.ensures t.enum_told-in-Done-1.given.1 c.before.add_block.ensures))  -- returns-3

@@ -9,7 +9,7 @@ pub account_at_spec : {M : Type 1} → statement M
 account_at_spec =
     tie.close
     (tie.spec
-    (λ c. omega (arith, known c.args.party c.requires))  -- sub-result
-    (λ c. record { fits = omega (arith, known c.args.party c.requires) })  -- mul-result
-    (λ c. record { fits = omega (arith, known c.args.party c.requires) })  -- add-result
+    (λ c. omega (arith, known c.args.party c.requires))  -- overflow_sub-result
+    (λ c. record { fits = omega (arith, known c.args.party c.requires) })  -- overflow_mul-result
+    (λ c. record { fits = omega (arith, known c.args.party c.requires) })  -- overflow_add-result
     (λ c. search rules))  -- returns

@@ -16,18 +16,18 @@ pub add_for_spec : {M : Type 1} → statement M
 add_for_spec =
     tie.close
     (tie.spec
-    (λ c κs. search rules)  -- account-at-requires
-    (λ c. record { fits = omega (arith, account_fits c.before.args.party c.before.requires.1) })  -- add-to
-    (λ c. record { fits = omega (arith, account_fits c.before.args.party c.before.requires.1) })  -- mul-add-to
-    (λ c. search rules)  -- sub-add-to
-    (λ c. search rules)  -- part-add-to-start
-    (λ c. omega (arith, account_fits c.before.args.party c.before.requires.1))  -- part-add-to-end
-    (λ c κs. search rules)  -- add-to-requires
-    (λ c. search rules)  -- same-length
-    (λ c. search rules)  -- same-length-2
-    (λ c. search rules)  -- same-length-3
-    (λ c. search rules)  -- same-length-4
+    (λ c κs. search rules)  -- account_at-from-requires
+    (λ c. record { fits = omega (arith, account_fits c.before.args.party c.before.requires.1) })  -- overflow_add-to
+    (λ c. record { fits = omega (arith, account_fits c.before.args.party c.before.requires.1) })  -- offset_bounds-month-from
+    (λ c. search rules)  -- slice_bounds-add_to-count
+    (λ c. search rules)  -- slice_bounds-add_to-start
+    (λ c. omega (arith, account_fits c.before.args.party c.before.requires.1))  -- slice_bounds-add_to-end
+    (λ c κs. search rules)  -- add_to-requires
+    (λ c. search rules)  -- shape_of-month
+    (λ c. search rules)  -- shape_of-cosine
+    (λ c. search rules)  -- shape_of-sine
+    (λ c. search rules)  -- shape_of-scratch
     (λ c. let a = c.before.before.before.before in
     let s = a.before.before.before.before.before.before in
     for_party s.args.party (asked s) s.args.month.now _ _ _ s.requires.0 s.requires.1
-    a.before.before.before.before.before.account_at.ensures refl a.add-to.ensures))  -- returns
+    a.before.before.before.before.before.account_at-from.ensures refl a.add_to.ensures))  -- returns

@@ -10,19 +10,19 @@ use Rattle.months.proofs.Beginning.{mark_fits, begun, not_begun}
 use Rattle.months.proofs.record.begin_in.Statement.{statement}
 use Rattle.months.proofs.record.begin_in.Tie as tie
 
-bad : (c : tie.Then1) → is_length c.before.before.before.args.length ≡ false
-bad c = sym c.before.is_length.ensures ∙ not-true _ c.if1.true
+bad : (c : tie.Then-not-is_length) → is_length c.before.before.before.args.length ≡ false
+bad c = sym c.before.is_length.ensures ∙ not-true _ c.if-not-is_length.true-raw
 
-good : (c : tie.Else1) → is_length c.before.before.before.args.length ≡ true
-good c = sym c.before.is_length.ensures ∙ not-false _ c.if1.false
+good : (c : tie.Else-not-is_length) → is_length c.before.before.before.args.length ≡ true
+good c = sym c.before.is_length.ensures ∙ not-false _ c.if-not-is_length.false-raw
 
 pub begin_in_spec : {M : Type 1} → statement M
 begin_in_spec =
     tie.close
     (tie.spec
-    (λ c κs. search rules)  -- is-length-requires
-    (λ c. not_begun _ (bad c))  -- returns
-    (λ c. record { sfits = omega (arith, length_le _ (good c)) })  -- cast-month
-    (λ c. mark_fits _ (good c))  -- add-month
-    (λ c. search rules)  -- element-set-from-month
-    (λ c. begun _ (good c)))  -- returns-2
+    (λ c κs. search rules)  -- is_length-requires
+    (λ c. not_begun _ (bad c))  -- returns-then-not-is_length
+    (λ c. record { sfits = omega (arith, length_le _ (good c)) })  -- overflow_cast-month
+    (λ c. mark_fits _ (good c))  -- overflow_add-month
+    (λ c. search rules)  -- bounds-month-0
+    (λ c. begun _ (good c)))  -- returns

@@ -10,8 +10,8 @@ pub is_other_length_spec : {M : Type 1} → statement M
 is_other_length_spec =
     tie.close
     (tie.spec
-    (λ c κs. search rules)  -- length-of-requires
-    (λ c. let none = sym c.before.length_of.ensures ∙ c.if1.true in
+    (λ c κs. search rules)  -- length_of-own-requires
+    (λ c. let none = sym c.before.length_of-own.ensures ∙ c.if-own-eq0.true in
     rw (eq-eqb (length_of c.before.before.args.month.now) 0 none) refl)  -- returns
-    (λ c. let is = c.before.length_of.ensures in
-    rw (ne_eqb (length_of c.before.before.args.month.now) 0 (λ e. c.if1.false (is ∙ e)), is) refl))  -- returns-2
+    (λ c. let is = c.before.length_of-own.ensures in
+    rw (ne_eqb (length_of c.before.before.args.month.now) 0 (λ e. c.if-own-eq0.false (is ∙ e)), is) refl))  -- returns

@@ -8,5 +8,5 @@ pub is_unknown_spec : {M : Type 1} → statement M
 is_unknown_spec =
     tie.close
     (tie.spec
-    (λ c. rw (ne_eqb c.before.args.party 1 c.if1.true) refl)  -- returns
-    (λ c. rw (eq-eqb c.before.args.party 1 c.if1.false) refl))  -- returns-2
+    (λ c. rw (ne_eqb c.before.args.party 1 c.if-party-ne1.true) refl)  -- returns-then-party-ne1
+    (λ c. rw (eq-eqb c.before.args.party 1 c.if-party-ne1.false) refl))  -- returns-else-party-ne1

@@ -9,6 +9,6 @@ pub length_of_spec : {M : Type 1} → statement M
 length_of_spec =
     tie.close
     (tie.spec
-    (λ c. search rules)  -- element-copy-out-length-in
-    (λ c κs. search rules)  -- length-in-requires
-    (λ c. length_in_lem _ (rw (to_z-of_z (sfits_of c.before.length_in-arg.given)) at c.length_in_lem.ensures)))  -- returns
+    (λ c. search rules)  -- bounds-month-0
+    (λ c κs. search rules)  -- length_in-requires
+    (λ c. length_in_lem _ (rw (to_z-of_z (sfits_of c.before.length_in-arg-1.given)) at c.length_in.ensures)))  -- returns

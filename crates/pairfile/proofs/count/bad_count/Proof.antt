@@ -8,5 +8,5 @@ pub bad_count_spec : {M : Type 1} → statement M
 bad_count_spec =
     tie.close
     (tie.spec
-    (λ c. rw (eq-eqb c.before.args.m 0 (omega arith)))  -- returns
-    (λ c. rw (ne_eqb c.before.args.m 0 (λ e. omega arith))))  -- returns-2
+    (λ c. rw (eq-eqb c.before.args.m 0 (omega arith)))  -- returns-then-m-lt1
+    (λ c. rw (ne_eqb c.before.args.m 0 (λ e. omega arith))))  -- returns

@@ -9,10 +9,10 @@ use Rattle.pairfile.specs.File.{samples_at}
 use Rattle.pairfile.proofs.reader.fill.Statement.{statement}
 use Rattle.pairfile.proofs.reader.fill.Tie as tie
 
-abbrev invariant-loop : tie.invariant-loop
+abbrev invariant-loop : tie.invariant-loop-i
 invariant-loop file start m recording₀ i₀ recording i = (i ≤ m) × Ends (pos 0) 0 i 0 m (samples_at file start) recording₀ recording
 
-abbrev decreases-loop : tie.decreases-loop
+abbrev decreases-loop : tie.decreases-loop-i
 decreases-loop file start m recording₀ i₀ recording i = m - i
 
 pub fill_spec : {M : Type 1} → statement M
@@ -22,13 +22,13 @@ fill_spec =
     invariant-loop
     decreases-loop
     (λ c. search (rules, ends_none))  -- loop-holds
-    (λ c. search rules)  -- mul-signed-at
-    (λ c. search rules)  -- add-signed-at
-    (λ c κs. search rules)  -- signed-at-requires
-    (λ c. search rules)  -- mul-x
-    (λ c. search rules)  -- slice-set-from-x
-    (λ c. search rules)  -- add-i
+    (λ c. search rules)  -- overflow_mul-i
+    (λ c. search rules)  -- overflow_add-start
+    (λ c κs. search rules)  -- signed_at-x-requires
+    (λ c. search rules)  -- offset_bounds-recording-i
+    (λ c. search rules)  -- bounds-recording-i
+    (λ c. search rules)  -- overflow_add-i
     (λ c. search rules)  -- loop-less
-    (λ c. (search rules, ends_front c.before.before.loop.invariant.1 (omega arith) (search (rules, ◌∙◌))))  -- loop-again
-    (λ c. search rules)  -- same-length
-    (λ c. ends_all c.before.loop.invariant.1 (omega arith)))  -- returns
+    (λ c. (search rules, ends_front c.before.before.loop-i.invariant.1 (omega arith) (search (rules, ◌∙◌))))  -- loop-again
+    (λ c. search rules)  -- shape_of-recording
+    (λ c. ends_all c.before.loop-i.invariant.1 (omega arith)))  -- returns

@@ -11,16 +11,16 @@ use Rattle.pairfile.specs.File.{samples_at}
 use Rattle.pairfile.proofs.reader.first_out.Statement.{statement}
 use Rattle.pairfile.proofs.reader.first_out.Tie as tie
 
-abbrev invariant-loop : tie.invariant-loop
+abbrev invariant-loop : tie.invariant-loop-i
 invariant-loop file start m looks₀ i₀ looks i = (i ≤ m) × Looked largest_sample (samples_at file start) 0 i looks
 
-abbrev decreases-loop : tie.decreases-loop
+abbrev decreases-loop : tie.decreases-loop-i
 decreases-loop file start m looks₀ i₀ looks i = m - i
 
 -- what a turn's look tells of its sample
 looked : (c : tie.After-in_range invariant-loop decreases-loop) → let args = c.before.before.before.before.before.args in
-    c.in_range_lem.result ≡ in_range (samples_at args.file.now args.start c.before.before.before.loop.i)
-looked c = c.in_range_lem.ensures ∙ ap in_range (to_z-of_z (sfits_of c.before.signed_at.type_inv) ∙ c.before.signed_at.ensures)
+    c.in_range.result ≡ in_range (samples_at args.file.now args.start c.before.before.before.loop-i.i)
+looked c = c.in_range.ensures ∙ ap in_range (to_z-of_z (sfits_of c.before.signed_at-x.type_inv) ∙ c.before.signed_at-x.ensures)
 
 pub first_out_spec : {M : Type 1} → statement M
 first_out_spec =
@@ -29,15 +29,15 @@ first_out_spec =
     invariant-loop
     decreases-loop
     (λ c. search (rules, looked_none))  -- loop-holds
-    (λ c. search rules)  -- mul-signed-at
-    (λ c. search rules)  -- add-signed-at
-    (λ c κs. search rules)  -- signed-at-requires
-    (λ c. search rules)  -- add-looks
-    (λ c κs. search rules)  -- in-range-requires
+    (λ c. search rules)  -- overflow_mul-i
+    (λ c. search rules)  -- overflow_add-start
+    (λ c κs. search rules)  -- signed_at-x-requires
+    (λ c. search rules)  -- overflow_add-looks
+    (λ c κs. search rules)  -- in_range-requires
     (λ c. let l = c.before.before.before.before in
-    looked_out l.loop.invariant.1 (omega arith) (omega arith) (omega arith) (looked c.before) c.if1.true)  -- returns
-    (λ c. search rules)  -- add-i
+    looked_out l.loop-i.invariant.1 (omega arith) (omega arith) (omega arith) (looked c.before) c.if-not-in_range.true-raw)  -- returns
+    (λ c. search rules)  -- overflow_add-i
     (λ c. search rules)  -- loop-less
     (λ c. let l = c.before.before.before.before in
-    (omega arith, looked_on l.loop.invariant.1 (omega arith) (looked c.before) c.if1.false))  -- loop-again
-    (λ c. looked_all c.before.loop.invariant.1 (omega arith)))  -- returns-2
+    (omega arith, looked_on l.loop-i.invariant.1 (omega arith) (looked c.before) c.if-not-in_range.false-raw))  -- loop-again
+    (λ c. looked_all c.before.loop-i.invariant.1 (omega arith)))  -- returns

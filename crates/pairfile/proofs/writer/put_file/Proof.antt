@@ -8,11 +8,11 @@ pub put_file_spec : {M : Type 1} → statement M
 put_file_spec =
     tie.close
     (tie.spec
-    (λ c. search rules)  -- cast-put-unsigned
-    (λ c κs. search rules)  -- put-unsigned-requires
-    (λ c. search rules)  -- cast-put-unsigned-2
-    (λ c κs. search rules)  -- put-unsigned-requires-2
-    (λ c κs. search rules)  -- put-samples-requires
-    (λ c κs. search (rules, b_ready))  -- put-samples-requires-2
-    (λ c. search rules)  -- same-length
+    (λ c. search rules)  -- overflow_cast-a
+    (λ c κs. search rules)  -- put_unsigned-of_length-requires
+    (λ c. search rules)  -- overflow_cast-n
+    (λ c κs. search rules)  -- put_unsigned-of_a-requires
+    (λ c κs. search rules)  -- put_samples-of_b-requires
+    (λ c κs. search (rules, b_ready))  -- put_samples-requires
+    (λ c. search rules)  -- shape_of-file
     (λ c. search (rules, file_put)))  -- returns

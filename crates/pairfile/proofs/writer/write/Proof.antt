@@ -10,11 +10,11 @@ use Rattle.pairfile.proofs.writer.write.Statement.{statement}
 use Rattle.pairfile.proofs.writer.write.Tie as tie
 
 -- behind the test of the count it is from 1 to 4,096
-counted : (c : tie.Else1) → let m = length c.before.before.before.args.a.now in (1 ≤ m) × (m ≤ 4096)
-counted c = good_count _ (sym c.before.bad_count.ensures ∙ c.if1.false)
+counted : (c : tie.Else-bad_count) → let m = length c.before.before.before.args.a.now in (1 ≤ m) × (m ≤ 4096)
+counted c = good_count _ (sym c.before.bad_count.ensures ∙ c.if-bad_count.false)
 
 -- behind the last test, where less is at hand to search than behind the stores
-is_writable : (c : tie.Else4) →
+is_writable : (c : tie.Else-file-m) →
     let s = c.before.before.before.before.before.before.before.before.before.before.before.before.before.args in
     Writable s.a.now s.b.now s.length s.file.now
 is_writable c = search (rules, all_passed)
@@ -23,22 +23,22 @@ pub write_spec : {M : Type 1} → statement M
 write_spec =
     tie.close
     (tie.spec
-    (λ c κs. search rules)  -- bad-count-requires
-    (λ c. search (rules, count_bad))  -- returns
-    (λ c. search (rules, differ, c.if2.true))  -- returns-2
-    (λ c κs. search rules)  -- is-length-requires
-    (λ c. search (rules, bad_length))  -- returns-3
-    (λ c κs. search rules)  -- first-out-requires
+    (λ c κs. search rules)  -- bad_count-requires
+    (λ c. search (rules, count_bad))  -- returns-then-bad_count
+    (λ c. search (rules, differ, c.if-b-m.true))  -- returns-then-b-m
+    (λ c κs. search rules)  -- is_length-requires
+    (λ c. search (rules, bad_length))  -- returns-then-not-is_length
+    (λ c κs. search rules)  -- first_out-requires
     (λ c. search rules)  -- enum-known-first-out
-    (λ c. search (rules, a_out))  -- returns-4
-    (λ c. search rules)  -- enum-told
-    (λ c κs. search rules)  -- first-out-requires-2
+    (λ c. search (rules, a_out))  -- returns-in-At
+    (λ c. search rules)  -- enum_told-1
+    (λ c κs. search rules)  -- first_out-requires-2
     (λ c. search rules)  -- enum-known-first-out-2
-    (λ c. search (rules, b_out))  -- returns-5
-    (λ c. search rules)  -- enum-told-2
-    (λ c. record { fits = omega (arith, counted c.before.before.before.before.before.before.before.before.before) })  -- mul-if4
-    (λ c. record { fits = omega (arith, counted c.before.before.before.before.before.before.before.before.before) })  -- add-if4
-    (λ c. search (rules, too_short))  -- returns-6
-    (λ c κs. (is_writable c.before).ready)  -- put-file-requires
-    (λ c. search rules)  -- same-length
-    (λ c. (is_writable c.before.before.before.before).writes c.before.before.put_file.ensures))  -- returns-7
+    (λ c. search (rules, b_out))  -- returns-in-At-first_out
+    (λ c. search rules)  -- enum_told-in_default-first_out
+    (λ c. record { fits = omega (arith, counted c.before.before.before.before.before.before.before.before.before) })  -- overflow_mul-m
+    (λ c. record { fits = omega (arith, counted c.before.before.before.before.before.before.before.before.before) })  -- overflow_add-m
+    (λ c. search (rules, too_short))  -- returns-then-file-m
+    (λ c κs. (is_writable c.before).ready)  -- put_file-requires
+    (λ c. search rules)  -- shape_of-file
+    (λ c. (is_writable c.before.before.before.before).writes c.before.before.put_file.ensures))  -- returns

@@ -48,27 +48,27 @@ module _ (x : Samples) (m s N a r y w p : ℕ) (rest : Verdict) (ok : is_length 
         past_6 e = past_5 ∙ found_none 6 rest found e
 
 -- ---- what the code has tested
-passed_1 : (c : tie.Else1) → is_length c.before.before.args.length ≡ true
-passed_1 c = sym c.before.is_length.ensures ∙ not-false _ c.if1.false
+passed_1 : (c : tie.Else-not-is_length) → is_length c.before.before.args.length ≡ true
+passed_1 c = sym c.before.is_length.ensures ∙ not-false _ c.if-not-is_length.false-raw
 
-passed_2 : (c : tie.Else2) → let a = c.before.before.before.before.args in a.start + a.length ≤ a.shortest
-passed_2 c = ltb-false _ _ (sym c.before.reaches_beyond.ensures ∙ c.if2.false)
+passed_2 : (c : tie.Else-reaches_beyond) → let a = c.before.before.before.before.args in a.start + a.length ≤ a.shortest
+passed_2 c = ltb-false _ _ (sym c.before.reaches_beyond.ensures ∙ c.if-reaches_beyond.false)
 
 pub test_spec : {M : Type 1} → statement M
 unfolding tests
 test_spec =
     tie.close
     (tie.spec
-    (λ c κs. search rules)  -- is-length-requires
-    (λ c. record { verdict = λ rest. rw (← c.before.is_length.ensures, c.if1.true) })  -- returns
-    (λ c κs. search rules)  -- reaches-beyond-requires
-    (λ c. record { verdict = λ rest. rw (passed_1 c.before.before, ← c.before.reaches_beyond.ensures, c.if2.true) })  -- returns-2
-    (λ c. record { verdict = λ rest. search (rules, refused_3, passed_1, passed_2) })  -- returns-3
-    (λ c κs. length_le _ (passed_1 c.before.before.before))  -- scratch-words-requires
-    (λ c. record { verdict = λ rest. search (rules, refused_4, passed_1, passed_2) })  -- returns-4
-    (λ c. record { verdict = λ rest. search (rules, refused_5, passed_1, passed_2) })  -- returns-5
-    (λ c κs. omega (arith, passed_2 c.before.before.before.before))  -- first-out-requires
+    (λ c κs. search rules)  -- is_length-requires
+    (λ c. record { verdict = λ rest. rw (← c.before.is_length.ensures, c.if-not-is_length.true-raw) })  -- returns-then-not-is_length
+    (λ c κs. search rules)  -- reaches_beyond-requires
+    (λ c. record { verdict = λ rest. rw (passed_1 c.before.before, ← c.before.reaches_beyond.ensures, c.if-reaches_beyond.true) })  -- returns-then-reaches_beyond
+    (λ c. record { verdict = λ rest. search (rules, refused_3, passed_1, passed_2) })  -- returns-then-room-yields
+    (λ c κs. length_le _ (passed_1 c.before.before.before))  -- scratch_words-requires
+    (λ c. record { verdict = λ rest. search (rules, refused_4, passed_1, passed_2) })  -- returns-then-scratch-scratch_words
+    (λ c. record { verdict = λ rest. search (rules, refused_5, passed_1, passed_2) })  -- returns-then-allowance-products
+    (λ c κs. omega (arith, passed_2 c.before.before.before.before))  -- first_out-requires
     (λ c. search rules)  -- enum-known-first-out
-    (λ c. record { verdict = λ rest. search (rules, refused_6, passed_1, passed_2) })  -- returns-6
-    (λ c. search rules)  -- enum-told
-    (λ c. record { verdict = λ rest. search (rules, past_6, passed_1, passed_2) }))  -- returns-7
+    (λ c. record { verdict = λ rest. search (rules, refused_6, passed_1, passed_2) })  -- returns-in-At
+    (λ c. search rules)  -- enum_told-1
+    (λ c. record { verdict = λ rest. search (rules, past_6, passed_1, passed_2) }))  -- returns

@@ -20,5 +20,5 @@ pub reaches_beyond_spec : {M : Type 1} → statement M
 reaches_beyond_spec =
     tie.close
     (tie.spec
-    (λ c. let a = c.before.args in sym (lt-ltb a.len (a.start + a.n) (omega arith)))  -- returns
-    (λ c. let a = c.before.args in same_test a.start a.n a.len (omega arith)))  -- returns-2
+    (λ c. let a = c.before.args in sym (lt-ltb a.len (a.start + a.n) (omega arith)))  -- returns-then-len-n
+    (λ c. let a = c.before.args in same_test a.start a.n a.len (omega arith)))  -- returns

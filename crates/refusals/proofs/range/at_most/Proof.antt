@@ -23,18 +23,18 @@ module _ {m : ℕ} (l : m < 2 ^ 31) where
   unfolding int
   low_is = (negated (natural l) low).is
 
-returns : tie.Need-returns
+returns : tie.Need-returns-then-high-x
 unfolding int
 returns c =
     rw (to_z-of_z c.before.ranges.x, (natural c.before.requires).is)
     (high_decides c.before.args.limit c.before.args.x
-    (rw (to_z-of_z c.before.ranges.x, low_is c.before.requires) at c.if1.true))
+    (rw (to_z-of_z c.before.ranges.x, low_is c.before.requires) at c.if-high-x.true))
 
-returns-2 : tie.Need-returns-2
+returns-2 : tie.Need-returns-else-high-x
 returns-2 c =
-    c.if1.false
+    c.if-high-x.false
     ∙ too_low c.before.args.limit c.before.args.x
-    (rw (to_z-of_z c.before.ranges.x, low_is c.before.requires) at c.if1.false)
+    (rw (to_z-of_z c.before.ranges.x, low_is c.before.requires) at c.if-high-x.false)
 
 pub at_most_spec : {M : Type 1} → statement M
 at_most_spec = tie.close (tie.spec (λ c. search rules) (λ c. negates (natural c.requires) (low c.requires)) returns returns-2)

@@ -9,12 +9,12 @@ put_line_spec =
     tie.close
     (tie.spec
     (λ c. search rules)  -- slice-aggregate-put-number
-    (λ c κs. search (rules, block_ready))  -- put-number-requires
+    (λ c κs. search (rules, block_ready))  -- put_number-a-requires
     (λ c. search rules)  -- slice-aggregate-put-number-2
-    (λ c κs. search (rules, k_ready))  -- put-number-requires-2
+    (λ c κs. search (rules, k_ready))  -- put_number-b-requires
     (λ c. search rules)  -- slice-aggregate-put-decimal
-    (λ c κs. search (rules, re_ready))  -- put-decimal-requires
+    (λ c κs. search (rules, re_ready))  -- put_decimal-c-requires
     (λ c. search rules)  -- slice-aggregate-put-decimal-2
-    (λ c κs. search (rules, im_ready))  -- put-decimal-requires-2
-    (λ c. search rules)  -- same-length
+    (λ c κs. search (rules, im_ready))  -- put_decimal-requires
+    (λ c. search rules)  -- shape_of-page
     (λ c. search (rules, line_put)))  -- returns

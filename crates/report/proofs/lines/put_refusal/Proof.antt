@@ -9,8 +9,8 @@ put_refusal_spec =
     tie.close
     (tie.spec
     (λ c. search rules)  -- slice-aggregate-put
-    (λ c κs. search rules)  -- put-requires
+    (λ c κs. search rules)  -- put-behind-requires
     (λ c. search rules)  -- slice-aggregate-put-number
-    (λ c κs. search (rules, number_ready))  -- put-number-requires
-    (λ c. search rules)  -- same-length
+    (λ c κs. search (rules, number_ready))  -- put_number-requires
+    (λ c. search rules)  -- shape_of-page
     (λ c. search (rules, refusal_put)))  -- returns

@@ -8,8 +8,8 @@ pub all_within_spec : {M : Type 1} → statement M
 all_within_spec =
     tie.close
     (tie.spec
-    (λ c κs. search rules)  -- first-beyond-requires
-    (λ c. search rules)  -- enum_told
-    (λ c. search rules)  -- enum-told-2
-    (λ c. all_by _ _ c.before.before.first_beyond_lem.ensures c.enum_told.given.1)  -- returns
-    (λ c. not_all_by _ _ c.before.before.first_beyond_lem.ensures c.enum_told2.given.1))  -- returns-2
+    (λ c κs. search rules)  -- first_beyond-requires
+    (λ c. search rules)  -- enum_told-1
+    (λ c. search rules)  -- enum_told-in-At
+    (λ c. all_by _ _ c.before.before.first_beyond.ensures c.enum_told-1.given.1)  -- returns-in-None
+    (λ c. not_all_by _ _ c.before.before.first_beyond.ensures c.enum_told-in-At-1.given.1))  -- returns-in-At

@@ -8,6 +8,6 @@ pub is_clipped_spec : {M : Type 1} → statement M
 is_clipped_spec =
     tie.close
     (tie.spec
-    (λ c. search rules)  -- sub-all-within
-    (λ c κs. search rules)  -- all-within-requires
+    (λ c. search rules)  -- overflow_sub-level
+    (λ c κs. search rules)  -- all_within-requires
     (λ c. clipped_by _ _ _ c.before.args.recording.now c.before.requires.0 c.all_within.ensures))  -- returns

@@ -9,10 +9,10 @@ unfolding mark
 mark_by_spec =
     tie.close
     (tie.spec
-    (λ c κs. search rules)  -- is-flat-requires
-    (λ c. rw (← c.before.is_flat.ensures, c.if1.true))  -- returns
-    (λ c κs. search rules)  -- is-clipped-requires
+    (λ c κs. search rules)  -- is_flat-requires
+    (λ c. rw (← c.before.is_flat.ensures, c.if-is_flat.true))  -- returns-then-is_flat
+    (λ c κs. search rules)  -- is_clipped-requires
     (λ c. let e = c.before.before in
-    rw (← e.before.is_flat.ensures, e.if1.false, ← c.before.is_clipped.ensures, c.if2.true))  -- returns-2
+    rw (← e.before.is_flat.ensures, e.if-is_flat.false, ← c.before.is_clipped.ensures, c.if-is_clipped.true))  -- returns-2
     (λ c. let e = c.before.before in
-    rw (← e.before.is_flat.ensures, e.if1.false, ← c.before.is_clipped.ensures, c.if2.false)))  -- returns-3
+    rw (← e.before.is_flat.ensures, e.if-is_flat.false, ← c.before.is_clipped.ensures, c.if-is_clipped.false)))  -- returns-3

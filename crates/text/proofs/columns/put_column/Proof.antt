@@ -8,12 +8,12 @@ pub put_column_spec : {M : Type 1} → statement M
 put_column_spec =
     tie.close
     (tie.spec
-    (λ c. search rules)  -- slice-aggregate-put-decimal
+    (λ c. search rules)  -- slice_bounds-put_decimal-end-2
     (λ c. search rules)  -- slice-aggregate-put-decimal-2
-    (λ c κs. search (rules, digits_ready))  -- put-decimal-requires
-    (λ c. search rules)  -- array-share-prefix-digits
-    (λ c. search rules)  -- slice-aggregate-put-right
-    (λ c κs. (search (rules, column_ready), search rules, search rules))  -- put-right-requires
+    (λ c κs. search (rules, digits_ready))  -- put_decimal-count-requires
+    (λ c. search rules)  -- slice_bounds-digits-end
+    (λ c. search rules)  -- slice_bounds-put_right-end
+    (λ c κs. (search (rules, column_ready), search rules, search rules))  -- put_right-behind-requires
     (λ c κs. search (rules, end_ready))  -- put-requires
-    (λ c. search rules)  -- same-length
+    (λ c. search rules)  -- shape_of-page
     (λ c. search (rules, column_put)))  -- returns

@@ -8,10 +8,10 @@ pub put_right_spec : {M : Type 1} → statement M
 put_right_spec =
     tie.close
     (tie.spec
-    (λ c. search rules)  -- sub-spaces
-    (λ c. search rules)  -- array-share-prefix-spaces
+    (λ c. search rules)  -- slice_bounds-spaces-count
+    (λ c. search rules)  -- slice_bounds-spaces-end
     (λ c. search (rules, spaces_count))  -- slice-aggregate-put
-    (λ c κs. search (rules, spaces_ready))  -- put-requires
-    (λ c κs. search (rules, text_ready))  -- put-requires-2
-    (λ c. search rules)  -- same-length
+    (λ c κs. search (rules, spaces_ready))  -- put-behind-requires
+    (λ c κs. search (rules, text_ready))  -- put-requires
+    (λ c. search rules)  -- shape_of-page
     (λ c. search (rules, right_put)))  -- returns

@@ -13,7 +13,7 @@ use Rattle.ffct.proofs.Sizes.{subtracted}
 use Rattle.transforms.proofs.fold.put_difference.Statement.{statement}
 use Rattle.transforms.proofs.fold.put_difference.Tie as tie
 
-difference : (c : tie.After-second) →
+difference : (c : tie.After-second-1) →
     let s = c.before.before in
     let w = s.args.w.now in
     let x = word w s.args.x in
@@ -21,19 +21,19 @@ difference : (c : tie.After-second) →
     Computes ◌-ℤ◌ (of_z w64 x) (of_z w64 y) x y
 difference c =
     let p = c.before.before.requires in
-    subtracted (held c.before.first.given refl) (held c.second.given refl) (omega (arith, p.x_small)) (omega (arith, p.y_small))
+    subtracted (held c.before.first-1.given refl) (held c.second-1.given refl) (omega (arith, p.x_small)) (omega (arith, p.y_small))
 
 pub put_difference_spec : {M : Type 1} → statement M
 put_difference_spec =
     tie.close
     (tie.spec
-    (λ c. search rules)  -- mul-first
-    (λ c. search rules)  -- slice-copy-out-first
-    (λ c. search rules)  -- mul-second
-    (λ c. search rules)  -- slice-copy-out-second
-    (λ c. (difference c).asked)  -- sub-w
-    (λ c. search rules)  -- mul-t8
-    (λ c. search rules)  -- slice-set-from-w
-    (λ c. search rules)  -- add-t13
-    (λ c. search rules)  -- same-length
+    (λ c. search rules)  -- offset_bounds-w-x
+    (λ c. search rules)  -- slice_copy_out-first
+    (λ c. search rules)  -- offset_bounds-w-y
+    (λ c. search rules)  -- slice_copy_out-second
+    (λ c. (difference c).asked)  -- overflow_sub-w
+    (λ c. search rules)  -- offset_bounds-w-place
+    (λ c. search rules)  -- bounds-w-place
+    (λ c. search rules)  -- overflow_add-result
+    (λ c. search rules)  -- shape_of-w
     (λ c. record { words = written_one (omega arith) (difference c.before).made; tallied = search rules }))  -- returns

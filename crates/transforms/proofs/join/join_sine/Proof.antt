@@ -14,15 +14,15 @@ use Rattle.transforms.proofs.Joining.{sine_first, sine_front, sine_back, sine_mi
 use Rattle.transforms.proofs.join.join_sine.Statement.{statement}
 use Rattle.transforms.proofs.join.join_sine.Tie as tie
 
-abbrev invariant-loop : tie.invariant-loop
+abbrev invariant-loop : tie.invariant-loop-k
 invariant-loop w₀ n at spent q h b sums₀ k₀ w sums k =
     ((1 ≤ k) × (k ≤ n / 4) × (sums ≡ spent.sums + 2 * (k - 1)))
     × Ends (pos 0) at k (k - 1) (n / 2) (sine_join n (even_at at w₀) (odd_at n at w₀)) w₀ w
 
-abbrev decreases-loop : tie.decreases-loop
+abbrev decreases-loop : tie.decreases-loop-k
 decreases-loop w₀ n at spent q h b sums₀ k₀ w sums k = n / 4 - k
 
-loop_holds : tie.Need-loop-init invariant-loop decreases-loop
+loop_holds : tie.Need-loop-k-init invariant-loop decreases-loop
 loop_holds c =
     let w = c.args.w.now in
     let r = c.requires.0 in (
@@ -32,25 +32,25 @@ loop_holds c =
     )
 
 -- what a turn makes of E(k) and D(n / 4 - k)
-turn : (c : tie.After-d invariant-loop decreases-loop) →
+turn : (c : tie.After-d-1 invariant-loop decreases-loop) →
     let l = c.before.before.before in
     let n = l.before.args.n in
-    JoinTurn n l.before.args.at l.loop.k (n / 4 - l.loop.k) l.before.args.w.now l.loop.w
+    JoinTurn n l.before.args.at l.loop-k.k (n / 4 - l.loop-k.k) l.before.args.w.now l.loop-k.w
 turn c =
     let l = c.before.before.before in
-    join_turn l.before.requires.0 l.loop.invariant.1 _ _ (omega arith) c.before.e.given c.d.given
+    join_turn l.before.requires.0 l.loop-k.invariant.1 _ _ (omega arith) c.before.e-1.given c.d-1.given
 
-loop_again : tie.Need-loop-preserved invariant-loop decreases-loop
+loop_again : tie.Need-loop-k-preserved invariant-loop decreases-loop
 loop_again c =
     let l = c.before.before.before in
     let n = l.before.args.n in
     let w = l.before.args.w.now in
     let E = even_at l.before.args.at w in
     let D = odd_at n l.before.args.at w in
-    let k = l.loop.k in
+    let k = l.loop-k.k in
     let q = l.before.requires.0.quarters in (
       omega arith,
-      ends_turn l.loop.invariant.1 (n / 2 - k) (omega (arith, l.before.requires.0.fits))
+      ends_turn l.loop-k.invariant.1 (n / 2 - k) (omega (arith, l.before.requires.0.fits))
           ((turn c).sum.made ∙ sine_front n q E D k (omega arith) (omega arith))
           ((turn c).reversed.made ∙ sine_back n q E D k (omega arith) (omega arith)),
     )
@@ -64,14 +64,14 @@ returns c =
     let r = s.requires.0 in
     let E = even_at at w in
     let D = odd_at n at w in
-    let middle : c.before.before.loop.k ≡ n / 4 = omega arith in
-    let run : Ends (pos 0) at (n / 4) (n / 4 - 1) (n / 2) (sine_join n E D) w c.before.before.loop.w =
-    rw middle at c.before.before.loop.invariant.1 in
+    let middle : c.before.before.loop-k.k ≡ n / 4 = omega arith in
+    let run : Ends (pos 0) at (n / 4) (n / 4 - 1) (n / 2) (sine_join n E D) w c.before.before.loop-k.w =
+    rw middle at c.before.before.loop-k.invariant.1 in
     let zeroth : at + n / 2 + 1 + 0 ≡ at + n / 2 + 1 = omega arith in
     let d = rw zeroth at (sine_middle n r.quarters E D s.requires.2 r.some) in
     record {
       words = written_more
-          (ends_all (ends_front run (omega (arith, r.fits)) ((held c.d2.given (run.high _ (omega arith))).is ∙ d))
+          (ends_all (ends_front run (omega (arith, r.fits)) ((held c.d-2-1.given (run.high _ (omega arith))).is ∙ d))
           (omega (arith, r.quarters, r.some)))
           (omega (arith, r.fits)) (sine_last n r.quarters E D s.requires.1 r.some);
       tallied = omega (arith, r.quarters, r.some);
@@ -83,37 +83,37 @@ join_sine_spec =
     (tie.spec
     invariant-loop
     decreases-loop
-    (λ c. search rules)  -- add-b
-    (λ c. search rules)  -- add-b-2
+    (λ c. search rules)  -- overflow_add-b
+    (λ c. search rules)  -- overflow_add-b-2
     loop_holds
-    (λ c. search rules)  -- add-e
-    (λ c. search rules)  -- mul-e
-    (λ c. search rules)  -- slice-copy-out-e
-    (λ c. search rules)  -- sub-d
-    (λ c. search rules)  -- add-d
-    (λ c. search rules)  -- mul-d
-    (λ c. search rules)  -- slice-copy-out-d
-    (λ c. (turn c).sum.asked)  -- add-w
-    (λ c. search rules)  -- add-w-2
-    (λ c. search rules)  -- mul-w
-    (λ c. search rules)  -- slice-set-from-w
-    (λ c. search rules)  -- add-sums
-    (λ c. (turn c).reversed.asked)  -- sub-w
-    (λ c. search rules)  -- sub-t16
-    (λ c. search rules)  -- add-t15
-    (λ c. search rules)  -- mul-t19
-    (λ c. simp length-set (omega arith))  -- slice-set-from-w-2
-    (λ c. search rules)  -- add-sums-2
-    (λ c. search rules)  -- add-k
+    (λ c. search rules)  -- overflow_add-e
+    (λ c. search rules)  -- offset_bounds-w-at
+    (λ c. search rules)  -- slice_copy_out-e
+    (λ c. search rules)  -- overflow_sub-d
+    (λ c. search rules)  -- overflow_add-d
+    (λ c. search rules)  -- offset_bounds-w-b
+    (λ c. search rules)  -- slice_copy_out-d
+    (λ c. (turn c).sum.asked)  -- overflow_add-w
+    (λ c. search rules)  -- overflow_add-w-in-loop-k
+    (λ c. search rules)  -- offset_bounds-w-at-in-loop-k
+    (λ c. search rules)  -- bounds-w-at
+    (λ c. search rules)  -- overflow_add-sums
+    (λ c. (turn c).reversed.asked)  -- overflow_sub-w
+    (λ c. search rules)  -- overflow_sub-h
+    (λ c. search rules)  -- overflow_add-at
+    (λ c. search rules)  -- offset_bounds-w-at-in-loop-k-2
+    (λ c. simp length-set (omega arith))  -- bounds-w-at-in-loop-k
+    (λ c. search rules)  -- overflow_add-sums-in-loop-k
+    (λ c. search rules)  -- overflow_add-k
     (λ c. search rules)  -- loop-less
     loop_again
-    (λ c. search rules)  -- mul-d-2
-    (λ c. search rules)  -- slice-copy-out-d-2
-    (λ c. search rules)  -- add-d-2
-    (λ c. search rules)  -- mul-d-3
-    (λ c. search rules)  -- slice-set-from-d
-    (λ c. search rules)  -- add-w-3
-    (λ c. search rules)  -- mul-w-2
-    (λ c. simp length-set (omega arith))  -- slice-set-of-w
-    (λ c. search rules)  -- same-length
+    (λ c. search rules)  -- offset_bounds-w-b-2
+    (λ c. search rules)  -- slice_copy_out-d-2
+    (λ c. search rules)  -- overflow_add-d-2
+    (λ c. search rules)  -- offset_bounds-w-at-2
+    (λ c. search rules)  -- bounds-w-at-2
+    (λ c. search rules)  -- overflow_add-w-2
+    (λ c. search rules)  -- offset_bounds-w-at-3
+    (λ c. simp length-set (omega arith))  -- slice_set_of-w
+    (λ c. search rules)  -- shape_of-w
     returns)

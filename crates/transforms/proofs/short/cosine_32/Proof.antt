@@ -8,16 +8,16 @@ pub cosine_32_spec : {M : Type 1} → statement M
 cosine_32_spec =
     tie.close
     (tie.spec
-    (λ c. search rules)  -- mul-cosine-16
-    (λ c κs. search (rules, even_ready cosine_kind {n = 32}))  -- cosine-16-requires
-    (λ c. search rules)  -- add-b
-    (λ c. search rules)  -- add-b-2
-    (λ c κs. search (rules, fold_ready cosine_kind {n = 32}))  -- put-folded-sums-requires
-    (λ c. search rules)  -- mul-dct-8
-    (λ c. search (rules, tail_starts cosine_kind {n = 32}))  -- sub-dct-8
-    (λ c. search (rules, tail_starts cosine_kind {n = 32}))  -- part-dct-8-start
-    (λ c. search rules)  -- part-dct-8-end
-    (λ c κs. search (rules, odd_ready cosine_kind {n = 32}))  -- dct-8-requires
-    (λ c κs. search (rules, lent_join_ready cosine_kind {n = 32}, c.before.before.dct_8.ensures))  -- join-cosine-requires
-    (λ c. search rules)  -- same-length
-    (λ c. search (rules, lent_ends cosine_kind {n = 32}, c.before.before.before.before.dct_8.ensures)))  -- returns
+    (λ c. search rules)  -- overflow_mul-stride
+    (λ c κs. search (rules, even_ready cosine_kind {n = 32}))  -- cosine_16-even-requires
+    (λ c. search rules)  -- overflow_add-b
+    (λ c. search rules)  -- overflow_add-b-2
+    (λ c κs. search (rules, fold_ready cosine_kind {n = 32}))  -- put_folded_sums-folded-requires
+    (λ c. search rules)  -- offset_bounds-w-b
+    (λ c. search (rules, tail_starts cosine_kind {n = 32}))  -- slice_bounds-dct_8-count
+    (λ c. search (rules, tail_starts cosine_kind {n = 32}))  -- slice_bounds-dct_8-start
+    (λ c. search rules)  -- slice_bounds-dct_8-end
+    (λ c κs. search (rules, odd_ready cosine_kind {n = 32}))  -- dct_8-odd-requires
+    (λ c κs. search (rules, lent_join_ready cosine_kind {n = 32}, c.before.before.dct_8-odd.ensures))  -- join_cosine-requires
+    (λ c. search rules)  -- shape_of-w
+    (λ c. search (rules, lent_ends cosine_kind {n = 32}, c.before.before.before.before.dct_8-odd.ensures)))  -- returns

@@ -9,13 +9,13 @@ pub cosine_4_spec : {M : Type 1} → statement M
 cosine_4_spec =
     tie.close
     (tie.spec
-    (λ c. search rules)  -- mul-cosine-2
-    (λ c κs. search (rules, even_ready cosine_kind {n = 4}))  -- cosine-2-requires
-    (λ c. search rules)  -- add-put-folded-sums
-    (λ c. search rules)  -- add-put-folded-sums-2
-    (λ c κs. search (rules, fold_ready cosine_kind {n = 4}))  -- put-folded-sums-requires
+    (λ c. search rules)  -- overflow_mul-stride
+    (λ c κs. search (rules, even_ready cosine_kind {n = 4}))  -- cosine_2-even-requires
+    (λ c. search rules)  -- overflow_add-at
+    (λ c. search rules)  -- overflow_add-at-2
+    (λ c κs. search (rules, fold_ready cosine_kind {n = 4}))  -- put_folded_sums-odd-requires
     (λ c κs. let f = c.before.before in
-    search (rules, join_ready cosine_kind {n = 4}, dct_single, f.put_folded_sums.ensures))  -- join-cosine-requires
-    (λ c. search rules)  -- same-length
+    search (rules, join_ready cosine_kind {n = 4}, dct_single, f.put_folded_sums-odd.ensures))  -- join-cosine-requires
+    (λ c. search rules)  -- shape_of-w
     (λ c. let f = c.before.before.before.before in
-    search (rules, dft_ends cosine_kind {n = 4}, dct_single, f.put_folded_sums.ensures)))  -- returns
+    search (rules, dft_ends cosine_kind {n = 4}, dct_single, f.put_folded_sums-odd.ensures)))  -- returns

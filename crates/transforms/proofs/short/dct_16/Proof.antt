@@ -8,8 +8,8 @@ pub dct_16_spec : {M : Type 1} → statement M
 dct_16_spec =
     tie.close
     (tie.spec
-    (λ c κs. search (rules, cosine_ready {n = 16}))  -- cosine-16-requires
-    (λ c κs. search (rules, sine_ready {n = 16}))  -- sine-16-requires
+    (λ c κs. search (rules, cosine_ready {n = 16}))  -- cosine_16-cosine-requires
+    (λ c κs. search (rules, sine_ready {n = 16}))  -- sine_16-sine-requires
     (λ c κs. search (rules, rotation_ready {n = 16}))  -- rotate-requires
-    (λ c. search rules)  -- same-length
+    (λ c. search rules)  -- shape_of-w
     (λ c. search (rules, dct_ends {n = 16})))  -- returns

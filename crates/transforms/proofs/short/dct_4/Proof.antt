@@ -8,8 +8,8 @@ pub dct_4_spec : {M : Type 1} → statement M
 dct_4_spec =
     tie.close
     (tie.spec
-    (λ c κs. search (rules, cosine_ready {n = 4}))  -- cosine-4-requires
-    (λ c κs. search (rules, sine_ready {n = 4}))  -- sine-4-requires
+    (λ c κs. search (rules, cosine_ready {n = 4}))  -- cosine_4-cosine-requires
+    (λ c κs. search (rules, sine_ready {n = 4}))  -- sine_4-sine-requires
     (λ c κs. search (rules, rotation_ready {n = 4}))  -- rotate-requires
-    (λ c. search rules)  -- same-length
+    (λ c. search rules)  -- shape_of-w
     (λ c. search (rules, dct_ends {n = 4})))  -- returns

@@ -8,8 +8,8 @@ pub dct_8_spec : {M : Type 1} → statement M
 dct_8_spec =
     tie.close
     (tie.spec
-    (λ c κs. search (rules, cosine_ready {n = 8}))  -- cosine-8-requires
-    (λ c κs. search (rules, sine_ready {n = 8}))  -- sine-8-requires
+    (λ c κs. search (rules, cosine_ready {n = 8}))  -- cosine_8-cosine-requires
+    (λ c κs. search (rules, sine_ready {n = 8}))  -- sine_8-sine-requires
     (λ c κs. search (rules, rotation_ready {n = 8}))  -- rotate-requires
-    (λ c. search rules)  -- same-length
+    (λ c. search rules)  -- shape_of-w
     (λ c. search (rules, dct_ends {n = 8})))  -- returns

@@ -8,16 +8,16 @@ pub sine_16_spec : {M : Type 1} → statement M
 sine_16_spec =
     tie.close
     (tie.spec
-    (λ c. search rules)  -- mul-sine-8
-    (λ c κs. search (rules, even_ready sine_kind {n = 16}))  -- sine-8-requires
-    (λ c. search rules)  -- add-b
-    (λ c. search rules)  -- add-b-2
-    (λ c κs. search (rules, fold_ready sine_kind {n = 16}))  -- put-folded-differences-requires
-    (λ c. search rules)  -- mul-dct-4
-    (λ c. search (rules, tail_starts sine_kind {n = 16}))  -- sub-dct-4
-    (λ c. search (rules, tail_starts sine_kind {n = 16}))  -- part-dct-4-start
-    (λ c. search rules)  -- part-dct-4-end
-    (λ c κs. search (rules, odd_ready sine_kind {n = 16}))  -- dct-4-requires
-    (λ c κs. search (rules, lent_sine_ready {n = 16}, c.before.before.dct_4.ensures))  -- join-sine-requires
-    (λ c. search rules)  -- same-length
-    (λ c. search (rules, lent_ends sine_kind {n = 16}, c.before.before.before.before.dct_4.ensures)))  -- returns
+    (λ c. search rules)  -- overflow_mul-stride
+    (λ c κs. search (rules, even_ready sine_kind {n = 16}))  -- sine_8-even-requires
+    (λ c. search rules)  -- overflow_add-b
+    (λ c. search rules)  -- overflow_add-b-2
+    (λ c κs. search (rules, fold_ready sine_kind {n = 16}))  -- put_folded_differences-folded-requires
+    (λ c. search rules)  -- offset_bounds-w-b
+    (λ c. search (rules, tail_starts sine_kind {n = 16}))  -- slice_bounds-dct_4-count
+    (λ c. search (rules, tail_starts sine_kind {n = 16}))  -- slice_bounds-dct_4-start
+    (λ c. search rules)  -- slice_bounds-dct_4-end
+    (λ c κs. search (rules, odd_ready sine_kind {n = 16}))  -- dct_4-odd-requires
+    (λ c κs. search (rules, lent_sine_ready {n = 16}, c.before.before.dct_4-odd.ensures))  -- join_sine-requires
+    (λ c. search rules)  -- shape_of-w
+    (λ c. search (rules, lent_ends sine_kind {n = 16}, c.before.before.before.before.dct_4-odd.ensures)))  -- returns

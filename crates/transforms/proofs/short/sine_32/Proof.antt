@@ -8,16 +8,16 @@ pub sine_32_spec : {M : Type 1} → statement M
 sine_32_spec =
     tie.close
     (tie.spec
-    (λ c. search rules)  -- mul-sine-16
-    (λ c κs. search (rules, even_ready sine_kind {n = 32}))  -- sine-16-requires
-    (λ c. search rules)  -- add-b
-    (λ c. search rules)  -- add-b-2
-    (λ c κs. search (rules, fold_ready sine_kind {n = 32}))  -- put-folded-differences-requires
-    (λ c. search rules)  -- mul-dct-8
-    (λ c. search (rules, tail_starts sine_kind {n = 32}))  -- sub-dct-8
-    (λ c. search (rules, tail_starts sine_kind {n = 32}))  -- part-dct-8-start
-    (λ c. search rules)  -- part-dct-8-end
-    (λ c κs. search (rules, odd_ready sine_kind {n = 32}))  -- dct-8-requires
-    (λ c κs. search (rules, lent_sine_ready {n = 32}, c.before.before.dct_8.ensures))  -- join-sine-requires
-    (λ c. search rules)  -- same-length
-    (λ c. search (rules, lent_ends sine_kind {n = 32}, c.before.before.before.before.dct_8.ensures)))  -- returns
+    (λ c. search rules)  -- overflow_mul-stride
+    (λ c κs. search (rules, even_ready sine_kind {n = 32}))  -- sine_16-even-requires
+    (λ c. search rules)  -- overflow_add-b
+    (λ c. search rules)  -- overflow_add-b-2
+    (λ c κs. search (rules, fold_ready sine_kind {n = 32}))  -- put_folded_differences-folded-requires
+    (λ c. search rules)  -- offset_bounds-w-b
+    (λ c. search (rules, tail_starts sine_kind {n = 32}))  -- slice_bounds-dct_8-count
+    (λ c. search (rules, tail_starts sine_kind {n = 32}))  -- slice_bounds-dct_8-start
+    (λ c. search rules)  -- slice_bounds-dct_8-end
+    (λ c κs. search (rules, odd_ready sine_kind {n = 32}))  -- dct_8-odd-requires
+    (λ c κs. search (rules, lent_sine_ready {n = 32}, c.before.before.dct_8-odd.ensures))  -- join_sine-requires
+    (λ c. search rules)  -- shape_of-w
+    (λ c. search (rules, lent_ends sine_kind {n = 32}, c.before.before.before.before.dct_8-odd.ensures)))  -- returns

@@ -12,18 +12,18 @@ use Rattle.transforms.proofs.short.sine_4.Tie as tie
 -- the sine-DFT of the two even samples
 even : (c : tie.After-put_zeros) →
     let s = c.before.before in
-    DftDone sine_dft 2 (2 * s.args.stride) s.args.at s.args.w.now c.put_zeros.new.0 s.args.spent s.args.spent
+    DftDone sine_dft 2 (2 * s.args.stride) s.args.at s.args.w.now c.put_zeros.new.w s.args.spent s.args.spent
 even c = sine_few (even_ready sine_kind c.before.before.requires (lit≤ tt)) (lit≤ tt) c.put_zeros.ensures
 
 -- the one folded difference
-folded : (c : tie.After-put_difference) →
+folded : (c : tie.After-put_difference-odd) →
     let e = c.before.before.before in
     let s = e.before.before in
-    Folded folded_differences 4 s.args.stride (s.args.at + 2 + 1) e.put_zeros.new.0 c.put_difference.new.0
-    s.args.spent c.put_difference.result
+    Folded folded_differences 4 s.args.stride (s.args.at + 2 + 1) e.put_zeros.new.w c.put_difference-odd.new.w
+    s.args.spent c.put_difference-odd.result
 folded c =
     let e = c.before.before.before in
-    four_folded (fold_ready sine_kind e.before.before.requires (lit≤ tt) (even e)) c.put_difference.ensures
+    four_folded (fold_ready sine_kind e.before.before.requires (lit≤ tt) (even e)) c.put_difference-odd.ensures
 
 join_sine-requires : tie.Need-join_sine-requires
 join_sine-requires c κs =
@@ -43,13 +43,13 @@ pub sine_4_spec : {M : Type 1} → statement M
 sine_4_spec =
     tie.close
     (tie.spec
-    (λ c κs. search rules)  -- put-zeros-requires
-    (λ c. search rules)  -- mul-put-difference
-    (λ c. search rules)  -- mul-put-difference-2
-    (λ c. search rules)  -- sub-put-difference
-    (λ c. search rules)  -- add-put-difference
-    (λ c. search rules)  -- add-put-difference-2
-    (λ c κs. search (rules, four_ready, fold_ready sine_kind {n = 4}, even c.before.before))  -- put-difference-requires
+    (λ c κs. search rules)  -- put_zeros-requires
+    (λ c. search rules)  -- overflow_mul-stride
+    (λ c. search rules)  -- overflow_mul-stride-2
+    (λ c. search rules)  -- overflow_sub-stride
+    (λ c. search rules)  -- overflow_add-at
+    (λ c. search rules)  -- overflow_add-at-2
+    (λ c κs. search (rules, four_ready, fold_ready sine_kind {n = 4}, even c.before.before))  -- put_difference-odd-requires
     join_sine-requires
-    (λ c. search rules)  -- same-length
+    (λ c. search rules)  -- shape_of-w
     returns)

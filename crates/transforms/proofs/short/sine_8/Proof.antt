@@ -8,16 +8,16 @@ pub sine_8_spec : {M : Type 1} → statement M
 sine_8_spec =
     tie.close
     (tie.spec
-    (λ c. search rules)  -- mul-sine-4
-    (λ c κs. search (rules, even_ready sine_kind {n = 8}))  -- sine-4-requires
-    (λ c. search rules)  -- add-b
-    (λ c. search rules)  -- add-b-2
-    (λ c κs. search (rules, fold_ready sine_kind {n = 8}))  -- put-folded-differences-requires
-    (λ c. search rules)  -- mul-dct-2
-    (λ c. search (rules, tail_starts sine_kind {n = 8}))  -- sub-dct-2
-    (λ c. search (rules, tail_starts sine_kind {n = 8}))  -- part-dct-2-start
-    (λ c. search rules)  -- part-dct-2-end
-    (λ c κs. search (rules, odd_ready sine_kind {n = 8}))  -- dct-2-requires
-    (λ c κs. search (rules, lent_sine_ready {n = 8}, c.before.before.dct_2.ensures))  -- join-sine-requires
-    (λ c. search rules)  -- same-length
-    (λ c. search (rules, lent_ends sine_kind {n = 8}, c.before.before.before.before.dct_2.ensures)))  -- returns
+    (λ c. search rules)  -- overflow_mul-stride
+    (λ c κs. search (rules, even_ready sine_kind {n = 8}))  -- sine_4-even-requires
+    (λ c. search rules)  -- overflow_add-b
+    (λ c. search rules)  -- overflow_add-b-2
+    (λ c κs. search (rules, fold_ready sine_kind {n = 8}))  -- put_folded_differences-folded-requires
+    (λ c. search rules)  -- offset_bounds-w-b
+    (λ c. search (rules, tail_starts sine_kind {n = 8}))  -- slice_bounds-dct_2-count
+    (λ c. search (rules, tail_starts sine_kind {n = 8}))  -- slice_bounds-dct_2-start
+    (λ c. search rules)  -- slice_bounds-dct_2-end
+    (λ c κs. search (rules, odd_ready sine_kind {n = 8}))  -- dct_2-odd-requires
+    (λ c κs. search (rules, lent_sine_ready {n = 8}, c.before.before.dct_2-odd.ensures))  -- join_sine-requires
+    (λ c. search rules)  -- shape_of-w
+    (λ c. search (rules, lent_ends sine_kind {n = 8}, c.before.before.before.before.dct_2-odd.ensures)))  -- returns
