@@ -17,6 +17,8 @@ import sys
 SHARED = {"largestRest", "blockNumber", "allSmall", "noneBelow", "otherLength"}
 # lemmas that have the name of what they speak of
 LEMMAS = {"all_small": "all_small_lem", "none_below": "none_below_lem", "other_length": "other_length_lem"}
+# a field that has the name of a lemma of a crate below
+FIELDS = {"crates/rotation/specs/": {"rest-size": "size_of_rest"}}
 # names that are only bound, in a definition's or a lemma's own text
 BOUND = "clipLevel flatLimit oddDifferences oddSums publishedProducts publishedSums spectrumOf".split()
 TOKEN = re.compile(r"[^\s(){}\[\],;.|\"`⌜⌝λ]+")
@@ -120,13 +122,14 @@ def main():
         if any(a in tokens[p] and turn[a] in tokens[p] for p in paths):
             print(f"left: {a} (it would fall together in {', '.join(sorted(left[a]))})")
             del turn[a]
-    turn |= LEMMAS
+    turn |= LEMMAS | {"flat-limit": "flat_limit", "clip-level": "clip_level"}
     if "--list" in sys.argv:
         for a, b in sorted(turn.items()):
             print(a, b)
         return
     for p in paths:
-        new = turned(texts[p], turn, "//" if p.endswith(".rt") else "--")
+        own = [it for folder, it in FIELDS.items() if p.startswith(folder)]
+        new = turned(texts[p], turn | (own[0] if own else {}), "//" if p.endswith(".rt") else "--")
         if new != texts[p]:
             with open(p, "w", encoding="utf-8") as f:
                 f.write(new)

@@ -21,7 +21,7 @@ pub record PairRotated (c s C S first second : ℤ) (products sums larger : ℕ)
 pub record MiddleRotated (C value : ℤ) (products size : ℕ) : Type 0 where
   pub middle : value ≡ round (T 512 *ℤ C)
   pub one_product : products ≡ 1
-  pub rest_size_lem : size ≡ rest_size (T 512 *ℤ C)
+  pub size_of_rest : size ≡ rest_size (T 512 *ℤ C)
 
 -- ---- on words: the cosine-DFT C stands at n .. n + n/2, the sine-DFT S behind it; the DCT goes to the front
 abbrev pub cosine_at : ℕ → List ℤ → ℕ → ℤ

@@ -23,7 +23,7 @@ mealbis_mark_spec =
     (λ c. let w = c.before.before.before.before in
     let m = w.before.before.before.before.before in
     let figures = m.before.before.before.before.ranges in
-    told (rw (to_z-of_z figures.flat_limit_lem, to_z-of_z figures.clip_level_lem) at m.mark_block-answer.ensures)
+    told (rw (to_z-of_z figures.flat_limit, to_z-of_z figures.clip_level) at m.mark_block-answer.ensures)
     w.answer-1.given.1 c.number_of.ensures (rw c.before.before.place_of.ensures))  -- returns
     (λ c. search rules)  -- shape_of-cosine-in-Marked
     (λ c. search rules)  -- shape_of-sine-in-Marked
@@ -31,5 +31,5 @@ mealbis_mark_spec =
     (λ c. let w = c.before.before.before in
     let m = w.before.before.before.before.before in
     let figures = m.before.before.before.before.ranges in
-    told (rw (to_z-of_z figures.flat_limit_lem, to_z-of_z figures.clip_level_lem) at m.mark_block-answer.ensures)
+    told (rw (to_z-of_z figures.flat_limit, to_z-of_z figures.clip_level) at m.mark_block-answer.ensures)
     w.answer-in-Marked-1.given.1 refl (rw c.before.number_of_mark.ensures)))  -- returns-2

@@ -19,13 +19,13 @@ put_lines-requires : tie.Need-put_lines-requires
 put_lines-requires c κs =
     let p = c.before.before.before.before.before.before in
     let s = start p in
-    let k = s.pre.0 in
+    let k = s.requires.0 in
     let done = pair_done s.args.block p.pair.result k (allowed p).pair_products-allowance.ensures p.pair.ensures in (
       omega (arith, few_blocks s.args.block s.args.n _ k.length_ok k.most),
       length_le s.args.n k.length_ok,
       omega (arith, done.real_words.len, k.real_words),
       omega (arith, done.imaginary_words.len, k.imaginary_words),
-      s.pre.1,
+      s.requires.1,
     )
 
 returns : tie.Need-returns
@@ -33,7 +33,7 @@ returns c =
     let l = c.before.before in
     let p = l.before.before.before.before.before.before.before in
     let s = start p in
-    let done = pair_done s.args.block p.pair.result s.pre.0 (allowed p).pair_products-allowance.ensures p.pair.ensures in
+    let done = pair_done s.args.block p.pair.result s.requires.0 (allowed p).pair_products-allowance.ensures p.pair.ensures in
     let r = l.put_lines.ensures in
     record {
       put = rw (lines_same s.args.block _ _ _ _ s.args.n (front done.real_words) (front done.imaginary_words)) at r.0;

@@ -27,10 +27,10 @@ module _ (c : tie.After-y-1) where
   sine = (held c.y-1.given refl).is
 
   entry : to_z w64 (of_z w64 c.before.before.before.wave_at-c.result) ≡ T start.args.j
-  entry = let v = c.before.before.before.wave_at in (held v.type_inv v.ensures).is
+  entry = let v = c.before.before.before.wave_at-c in (held v.type_inv v.ensures).is
 
   mirror : to_z w64 (of_z w64 c.before.before.wave_at-s.result) ≡ T (1024 - start.args.j)
-  mirror = let v = c.before.before.wave_at2 in (held v.type_inv v.ensures).is
+  mirror = let v = c.before.before.wave_at-s in (held v.type_inv v.ensures).is
 
 rotate_pair-requires : tie.Need-rotate_pair-r-requires
 rotate_pair-requires c κs =

@@ -33,19 +33,19 @@ module _ (c : tie.After-put_pair-one invariant-loop decreases-loop) where
   abbrev start : tie.Start invariant-loop decreases-loop
   start = head.before
 
-  one : let a = start.args in Run a.n a.w.now a.spent head.loop-k.k c.put_pair-one.new.w.0 c.put_pair-one.result
-  one = pair_more start.pre.1 head.loop-k.inv.1 (omega arith) head.loop-k.inv.0.2 c.put_pair-one.ensures
+  one : let a = start.args in Run a.n a.w.now a.spent head.loop-k.k c.put_pair-one.new.w c.put_pair-one.result
+  one = pair_more start.requires.1 head.loop-k.invariant.1 (omega arith) head.loop-k.invariant.0.2 c.put_pair-one.ensures
 
   place_two : head.loop-k.j + 1024 / start.args.n ≡ 1024 / start.args.n * (head.loop-k.k + 1)
-  place_two = (next _ _ head.loop-k.inv.0.2).0
+  place_two = (next _ _ head.loop-k.invariant.0.2).0
 
 -- the table's place where the next turn begins
 turn_place : (c : tie.After-put_pair-one invariant-loop decreases-loop) → (head c).loop-k.j + 2 * (1024 / (start c).args.n) ≤ 1024
 turn_place c =
     let l = (head c).loop-k in
     let s = (start c).requires in
-    let more = follows _ _ s.2 l.inv.0.0 (omega arith) in
-    omega (arith, next _ _ l.inv.0.2, place s.1 (l.k + 2) (omega (arith, more)))
+    let more = follows _ _ s.2 l.invariant.0.0 (omega arith) in
+    omega (arith, next _ _ l.invariant.0.2, place s.1 (l.k + 2) (omega (arith, more)))
 
 put_pair-requires : tie.Need-put_pair-one-requires invariant-loop decreases-loop
 put_pair-requires c κs =
@@ -87,7 +87,7 @@ put_pair-requires-3 c κs =
 last : (c : tie.After-put_pair-pairs invariant-loop decreases-loop) →
     let l = c.before.before.before in
     let a = l.before.args in
-    Run a.n a.w.now a.spent l.loop-k.k c.put_pair-pairs.new.w.0 c.put_pair-pairs.result
+    Run a.n a.w.now a.spent l.loop-k.k c.put_pair-pairs.new.w c.put_pair-pairs.result
 last c =
     let l = c.before.before.before in
     pair_more l.before.requires.1 l.loop-k.invariant.1 (omega arith) l.loop-k.invariant.0.2 c.put_pair-pairs.ensures

@@ -36,7 +36,7 @@ returns c =
     record {
       middle = (held c.struct_told-2-1.given.0.1 one.before.round-rounded.ensures.0).is ∙ ap round (product one.before.before).made;
       one_product = search rules;
-      rest_size_lem = c.before.type_size.ensures ∙ ap nat_abs (middle_rest one).is;
+      size_of_rest = c.before.size_of.ensures ∙ ap nat_abs (middle_rest one).is;
     }
 
 pub rotate_middle_spec : {M : Type 1} → statement M

@@ -34,15 +34,15 @@ module _ (a : tie.Start) where
   bits3 = let v = a.args in done ◌*ℤ◌ (of_z w64 v.cosine) (done ◌-ℤ◌ (of_z w64 v.s) (of_z w64 v.c))
 
   m1 : let v = a.args in Word w64 bits1 ((v.cosine +ℤ v.sine) *ℤ v.c)
-  m1 = made ◌*ℤ◌ (made ◌+ℤ◌ (word a.fits.cosine) (word a.fits.sine) fits.sum) (word a.fits.c)
+  m1 = made ◌*ℤ◌ (made ◌+ℤ◌ (word a.ranges.cosine) (word a.ranges.sine) fits.sum) (word a.ranges.c)
       (within_fits fits.m1 (lit< tt))
 
   m2 : let v = a.args in Word w64 bits2 (v.sine *ℤ (v.c +ℤ v.s))
-  m2 = made ◌*ℤ◌ (word a.fits.sine) (made ◌+ℤ◌ (word a.fits.c) (word a.fits.s) fits.entries)
+  m2 = made ◌*ℤ◌ (word a.ranges.sine) (made ◌+ℤ◌ (word a.ranges.c) (word a.ranges.s) fits.entries)
       (within_fits fits.m2 (lit< tt))
 
   m3 : let v = a.args in Word w64 bits3 (v.cosine *ℤ (v.s -ℤ v.c))
-  m3 = made ◌*ℤ◌ (word a.fits.cosine) (made ◌-ℤ◌ (word a.fits.s) (word a.fits.c) fits.difference)
+  m3 = made ◌*ℤ◌ (word a.ranges.cosine) (made ◌-ℤ◌ (word a.ranges.s) (word a.ranges.c) fits.difference)
       (within_fits fits.m3 (lit< tt))
 
   -- what is rounded
@@ -84,7 +84,7 @@ returns c =
       three_products = refl;
       three_sums = refl;
       larger_rest = l.larger.ensures ∙ ap₂ max
-          (two.before.type_size.ensures ∙ ap nat_abs (low_rest one).is)
+          (two.before.size_of.ensures ∙ ap nat_abs (low_rest one).is)
           (l.before.size_of-2.ensures ∙ ap nat_abs (high_rest two).is);
     }
 

@@ -29,10 +29,10 @@ module _ (a : tie.Start) where
 
   -- the sizes
   small : p within 2 ^ 60
-  small = product_small a.pre
+  small = product_small a.requires
 
   high_fits : SFits w64 (a.args.sum.high +ℤ q)
-  high_fits = within_fits (within_add (size_within a.args.sum.high a.pre.sum_ok.high_ok) (floor_small p small)) (lit< tt)
+  high_fits = within_fits (within_add (size_within a.args.sum.high a.requires.sum_ok.high_ok) (floor_small p small)) (lit< tt)
 
   scaled_fits : SFits w64 (q *ℤ int unit)
   scaled_fits = within_fits (within_mul (floor_small p small) (within_int unit)) (lit< tt)
@@ -41,7 +41,7 @@ module _ (a : tie.Start) where
   rest_fits = within_fits (rest_small p small) (lit< tt)
 
   low_fits : SFits w64 (a.args.sum.low +ℤ (p -ℤ q *ℤ int unit))
-  low_fits = within_fits (within_add (size_within a.args.sum.low a.pre.sum_ok.low_ok) (rest_small p small)) (lit< tt)
+  low_fits = within_fits (within_add (size_within a.args.sum.low a.requires.sum_ok.low_ok) (rest_small p small)) (lit< tt)
 
   -- the words
   abbrev product_bits : ℕ
@@ -51,7 +51,7 @@ module _ (a : tie.Start) where
   floor_bits = of_z w64 (shr_z (to_z w64 product_bits) unit)
 
   product : Word w64 product_bits p
-  product = made ◌*ℤ◌ (word a.fits.x) (word a.fits.y) (within_fits small (lit< tt))
+  product = made ◌*ℤ◌ (word a.ranges.x) (word a.ranges.y) (within_fits small (lit< tt))
 
   floor : Word w64 floor_bits q
   floor = shifted unit product

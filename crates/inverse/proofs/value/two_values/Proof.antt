@@ -27,7 +27,7 @@ module _ (c : tie.After-c-1) where
 
   small : Small 512 c.before.before.every_other-even.result × Small 512 c.before.every_other-odd.result
   small =
-      let r = start.pre.1 in
+      let r = start.requires.1 in
       let e = c.before.before.every_other-even.ensures in
       let o = c.before.every_other-odd.ensures in
       (evens_small r e o, odds_small r e o)

@@ -30,14 +30,14 @@ module _ (a : tie.Start) where
   zeros = count_trailing_zeros 64 a.args.n
 
   few : zeros ≤ 10
-  few = omega (arith, trailing _ a.pre.length_ok, level_le _ a.pre.length_ok)
+  few = omega (arith, trailing _ a.requires.length_ok, level_le _ a.requires.length_ok)
 
   few_fits : SFits w64 (pos zeros)
   unfolding int
   few_fits = (natural {w = w64} {n = zeros} (omega (arith, few))).fits
 
   power : 2 ^ zeros ≡ a.args.n
-  power = ap (λ t. 2 ^ t) (trailing _ a.pre.length_ok) ∙ sym (is_power _ a.pre.length_ok)
+  power = ap (λ t. 2 ^ t) (trailing _ a.requires.length_ok) ∙ sym (is_power _ a.requires.length_ok)
 
   abbrev twice_bits : ℕ
   twice_bits = done ◌*ℤ◌ 2 (of_z w64 a.args.sum.high)
@@ -52,33 +52,33 @@ module _ (a : tie.Start) where
   sum_bits = done ◌+ℤ◌ (done ◌+ℤ◌ less_bits low_bits) (a.args.n / halves)
 
   even : 2 * (a.args.n / halves) ≡ a.args.n
-  even = omega (arith, twice_half _ a.pre.length_ok a.pre.two)
+  even = omega (arith, twice_half _ a.requires.length_ok a.requires.two)
 
   two : Word w64 2 (int 2)
   two = natural (lit< tt)
 
   half : Word w64 (a.args.n / halves) (int (a.args.n / halves))
-  half = natural (omega (arith, length_le _ a.pre.length_ok))
+  half = natural (omega (arith, length_le _ a.requires.length_ok))
 
   low : Word w64 low_bits (shr_z a.args.sum.low (2 ^ 29))
-  low = shifted _ (low_word a.pre.size (lit< tt))
+  low = shifted _ (low_word a.requires.size (lit< tt))
 
   twice : Word w64 twice_bits (int 2 *ℤ a.args.sum.high)
-  twice = made ◌*ℤ◌ two (high_word a.pre.size (lit< tt)) (within_fits (twice_small a.pre) (lit< tt))
+  twice = made ◌*ℤ◌ two (high_word a.requires.size (lit< tt)) (within_fits (twice_small a.requires) (lit< tt))
 
   less : Word w64 less_bits (int 2 *ℤ a.args.sum.high -ℤ a.args.c)
-  less = made ◌-ℤ◌ twice (word a.fits.c) (within_fits (less_small a.pre) (lit< tt))
+  less = made ◌-ℤ◌ twice (word a.ranges.c) (within_fits (less_small a.requires) (lit< tt))
 
   all : Word w64 (done ◌+ℤ◌ less_bits low_bits) (quotient a.args.sum a.args.c)
-  all = made ◌+ℤ◌ less low (within_fits (quotient_small a.pre) (lit< tt))
+  all = made ◌+ℤ◌ less low (within_fits (quotient_small a.requires) (lit< tt))
 
   sum : Word w64 sum_bits (quotient a.args.sum a.args.c +ℤ int (a.args.n / halves))
-  sum = made ◌+ℤ◌ all half (within_fits (sum_small a.pre _ even) (lit< tt))
+  sum = made ◌+ℤ◌ all half (within_fits (sum_small a.requires _ even) (lit< tt))
 
   result : Word w64 (of_z w64 (shr_z (to_z w64 sum_bits) (2 ^ zeros)))
       (value_of (held a.args.sum) a.args.c a.args.n)
   result = subst (λ v. Word w64 (of_z w64 (shr_z (to_z w64 sum_bits) (2 ^ zeros))) v)
-      (ap (shr_z (quotient a.args.sum a.args.c +ℤ int (a.args.n / halves))) power ∙ value_is a.pre (a.args.n / halves) even)
+      (ap (shr_z (quotient a.args.sum a.args.c +ℤ int (a.args.n / halves))) power ∙ value_is a.requires (a.args.n / halves) even)
       (shifted (2 ^ zeros) sum)
 
 abbrev start : tie.After-struct_told-2-1 → tie.Start

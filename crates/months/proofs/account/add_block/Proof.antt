@@ -24,13 +24,13 @@ module _ (c : tie.After-account-3-1) where
   -- the words with both rows of sums
   both : BothAdded start.args.length start.args.cosine.now start.args.sine.now
       start.args.account.now second.add_sums2.last.0
-  both = both_added start.pre.0 start.pre.1 first.add_sums.ensures second.add_sums-2.ensures
+  both = both_added start.requires.0 start.requires.1 first.add_sums.ensures second.add_sums-2.ensures
 
   read : to_z w64 (of_z w64 (word second.add_sums2.last.0 0)) ≡ word second.add_sums2.last.0 0
   read = to_z-of_z (sfits_of c.account-3-1.given)
 
   fits : SFits w64 (word second.add_sums2.last.0 0 +ℤ pos 1)
-  fits = number_fits both c.account-3-1.given start.pre.4
+  fits = number_fits both c.account-3-1.given start.requires.4
 
 pub add_block_spec : {M : Type 1} → statement M
 add_block_spec =

@@ -15,17 +15,17 @@ use Rattle.spectra.proofs.marks.mark_block.Statement.{statement}
 use Rattle.spectra.proofs.marks.mark_block.Tie as tie
 
 -- ---- the figures
-bad : (c : tie.Then-bad_figures) → let a = c.before.before.args in bad_figures a.flat_limit_lem a.clip_level_lem ≡ true
+bad : (c : tie.Then-bad_figures) → let a = c.before.before.args in bad_figures a.flat_limit a.clip_level ≡ true
 bad c =
     let f = c.before.before.ranges in
-    sym (rw (to_z-of_z f.flat_limit_lem, to_z-of_z f.clip_level_lem) at c.before.bad_figures.ensures) ∙ c.if-bad_figures.true
+    sym (rw (to_z-of_z f.flat_limit, to_z-of_z f.clip_level) at c.before.bad_figures.ensures) ∙ c.if-bad_figures.true
 
-good : (c : tie.Else-bad_figures) → let a = c.before.before.args in bad_figures a.flat_limit_lem a.clip_level_lem ≡ false
+good : (c : tie.Else-bad_figures) → let a = c.before.before.args in bad_figures a.flat_limit a.clip_level ≡ false
 good c =
     let f = c.before.before.ranges in
-    sym (rw (to_z-of_z f.flat_limit_lem, to_z-of_z f.clip_level_lem) at c.before.bad_figures.ensures) ∙ c.if-bad_figures.false
+    sym (rw (to_z-of_z f.flat_limit, to_z-of_z f.clip_level) at c.before.bad_figures.ensures) ∙ c.if-bad_figures.false
 
-accepted : (c : tie.Else-bad_figures) → let a = c.before.before.args in Figures a.flat_limit_lem a.clip_level_lem
+accepted : (c : tie.Else-bad_figures) → let a = c.before.before.args in Figures a.flat_limit a.clip_level
 accepted c = figures _ _ (good c)
 
 natural_word : {z : ℤ} → SFits w32 z → Natural z → T (non_neg (to_z w32 (of_z w32 z))) × Fits w32 (nat_abs (to_z w32 (of_z w32 z)))
@@ -59,14 +59,14 @@ mark_block_spec =
     (λ c. search rules)  -- enum_known-answer
     (λ c. search rules)  -- enum_known-answer-in-Done-1
     (λ c. let t = tested c.before.before.before.before.before.before in
-    natural_word t.before.before.fits.flat_limit_lem (accepted t).flat_limit_lem)  -- cast-limit
+    natural_word t.before.before.ranges.flat_limit (accepted t).flat_limit)  -- cast-limit
     (λ c. let t = tested c.before.before.before.before.before.before in
-    natural_word t.before.before.fits.clip_level_lem (accepted t).clip_level_lem)  -- cast-level
+    natural_word t.before.before.ranges.clip_level (accepted t).clip_level)  -- cast-level
     (λ c κs. let s = c.before.before.before.before.before.before.before.before in
     let e = (tested s).before.before in
-    rw (to_z-of_z e.fits.flat_limit_lem, to_z-of_z e.fits.clip_level_lem)
+    rw (to_z-of_z e.ranges.flat_limit, to_z-of_z e.ranges.clip_level)
     (spectrum_ready e.args.recording.now _ _ _ _ _ _ (good (tested s)) s.spectrum-answer.ensures
-    e.fits.flat_limit_lem e.fits.clip_level_lem c.before.before.before.answer-in-Done-1.given.1))  -- mark-by-requires
+    e.ranges.flat_limit e.ranges.clip_level c.before.before.before.answer-in-Done-1.given.1))  -- mark-by-requires
     (λ c. search rules)  -- shape_of-cosine-in-Refused-answer
     (λ c. search rules)  -- shape_of-sine-in-Refused-answer
     (λ c. search rules)  -- shape_of-scratch-in-Refused-answer
@@ -80,4 +80,4 @@ mark_block_spec =
     let e = (tested s).before.before in
     spectrum_marked e.args.recording.now _ _ _ _ _ _ (good (tested s)) s.spectrum-answer.ensures
     c.before.before.before.before.answer-in-Done-1.given.1
-    (rw (to_z-of_z e.fits.flat_limit_lem, to_z-of_z e.fits.clip_level_lem) at c.mark_by-mark.ensures)))  -- returns-4
+    (rw (to_z-of_z e.ranges.flat_limit, to_z-of_z e.ranges.clip_level) at c.mark_by-mark.ensures)))  -- returns-4

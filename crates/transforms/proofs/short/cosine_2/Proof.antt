@@ -21,7 +21,7 @@ module _ (c : tie.After-y-1) where
 
   sum : let z = word s.args.w.now in let j = 2 * s.args.stride - 1 in Computes ◌+ℤ◌ (of_z w64 (z 0)) (of_z w64 (z j)) (z 0) (z j)
   sum =
-      let b = dft_pair_small s.pre in
+      let b = dft_pair_small s.requires in
       added (held c.before.x-1.given refl) (held c.y-1.given refl) (omega (arith, b)) (omega (arith, b))
 
   difference :
@@ -29,7 +29,7 @@ module _ (c : tie.After-y-1) where
       let j = 2 * s.args.stride - 1 in
       Computes ◌-ℤ◌ (of_z w64 (z 0)) (of_z w64 (z j)) (z 0) (z j)
   difference =
-      let b = dft_pair_small s.pre in
+      let b = dft_pair_small s.requires in
       subtracted (held c.before.x-1.given refl) (held c.y-1.given refl) (omega (arith, b)) (omega (arith, b))
 
 pub cosine_2_spec : {M : Type 1} → statement M

@@ -22,12 +22,12 @@ module _ (c : tie.After-y-1) where
 
   sum : let z = word s.args.w.now in Computes ◌+ℤ◌ (of_z w64 (z 0)) (of_z w64 (z 1)) (z 0) (z 1)
   sum =
-      let b = dct_pair_small s.pre.1 in
+      let b = dct_pair_small s.requires.1 in
       added (held c.before.x-1.given refl) (held c.y-1.given refl) (omega (arith, b)) (omega (arith, b))
 
   difference : let z = word s.args.w.now in Computes ◌-ℤ◌ (of_z w64 (z 0)) (of_z w64 (z 1)) (z 0) (z 1)
   difference =
-      let b = dct_pair_small s.pre.1 in
+      let b = dct_pair_small s.requires.1 in
       subtracted (held c.before.x-1.given refl) (held c.y-1.given refl) (omega (arith, b)) (omega (arith, b))
 
 returns : tie.Need-returns
