@@ -148,7 +148,7 @@ fn write_buffers(
     write_words(rt, first)?;
     write_words(rt, second)?;
     write_scratch(rt, scratch)?;
-    println!(rt; "")
+    println!(rt)
 }
 
 // Cosine has one result, so nothing of the second is written.
@@ -229,7 +229,7 @@ fn run_query(rt: &impl Print, length: usize) -> io::Result<()> {
             write_counts(rt, counts.pair.products, counts.pair.sums)?;
         }
     }
-    println!(rt; "")
+    println!(rt)
 }
 
 fn at_most(most: usize, n: usize) -> usize
