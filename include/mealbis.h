@@ -1,8 +1,8 @@
 /*
  * mealbis.h: spectra of strain blocks, for C.
  *
- * Link with libmealbis.a, which `rt staticlib mealbis` builds:
- *     cc -Iinclude program.c target/staticlib/libmealbis.a
+ * Link with libmealbis.a, which `rt lib --cpu x86-64` builds in the folder crates/mealbis:
+ *     cc -Iinclude program.c crates/mealbis/out/libmealbis.a
  * The archive is for x86-64 Linux: ELF, the System V calling convention, position-independent, SSE2
  * and no later instructions. The kit builds for no other target, also where it runs on an Arm
  * machine: not for ARM, not for 32 bits, not for Windows or macOS.
