@@ -44,16 +44,16 @@ natural (pos m) n e = (record { sign = tt; is = refl; fits = λ f. f.sfits }, lt
 natural (negsuc m) n e = absurd (true≢false e)
 
 pub record Figures (flat_limit clip_level : ℤ) : Type 0 where
-  pub flat_limit : Natural flat_limit
-  pub clip_level : Natural clip_level
+  pub flat_natural : Natural flat_limit
+  pub clip_natural : Natural clip_level
   pub clip_some : 1 ≤ nat_abs clip_level
 
 pub figures : (flat_limit clip_level : ℤ) → bad_figures flat_limit clip_level ≡ false → Figures flat_limit clip_level
 figures f c e =
     let (not_negative, of-clip) = none_of (lt_z f (pos 0)) _ e in
     let (some, _) = none_of (lt_z c (pos 1)) (lt_z (pos 1000000) c) of-clip in
-    let (clip_level, clip_some) = natural c 1 some in
-    record { flat_limit = (natural f 0 not_negative).0; clip_level = clip_level; clip_some = clip_some }
+    let (clip_natural, clip_some) = natural c 1 some in
+    record { flat_natural = (natural f 0 not_negative).0; clip_natural = clip_natural; clip_some = clip_some }
 
 -- ---- a run
 module _ (r : List ℤ) (start N allowance : ℕ) (flat_limit clip_level : ℤ) (lent : Buffers) where
@@ -91,9 +91,9 @@ module _ (r : List ℤ) (start N allowance : ℕ) (flat_limit clip_level : ℤ) 
           let passed = passes call (sym q.verdict) in
           let done = q.done refl in
           let figures = figures flat_limit clip_level good in (
-            figures.flat_limit.fits flat-fits,
+            figures.flat_natural.fits flat-fits,
             figures.clip_some,
-            figures.clip_level.fits clip-fits,
+            figures.clip_natural.fits clip-fits,
             passed.recordings.0,
             omega (arith, passed.results.0, done.cosine_words.len),
             omega (arith, passed.results.1.0, done.sine_words.len),
@@ -109,6 +109,6 @@ module _ (r : List ℤ) (start N allowance : ℕ) (flat_limit clip_level : ℤ) 
           carried_out refl (as_spectrum ∙ sym q.verdict) (record {
             spectrum = done;
             marked = ap (λ m. Marked m tally)
-                (rw (← figures.flat_limit.is, ← figures.clip_level.is) at is
+                (rw (← figures.flat_natural.is, ← figures.clip_natural.is) at is
                 ∙ mark_same flat_limit clip_level N (block r start) (front done.cosine_words) (front done.sine_words));
           })

@@ -1,6 +1,6 @@
 -- What the calls promise, for every input: the verdict, what stays after a refusal, and all that an accepted call leaves behind.
 -- N is the length, x the samples of the block, x(0) being the sample at the start. What a buffer holds after the call is marked '.
-use Rattle.std.specs.Prelude.{not, cond, List, [], ◌∷◌, ◌≡◌, ℕ, ◌+◌, ◌/◌, ◌≤◌, ◌<◌, ℤ, pos, length}
+use Rattle.std.specs.Prelude.{not, cond, List, [], ◌∷◌, ◌≡◌, ℕ, ◌/◌, ◌≤◌, ◌<◌, ℤ, pos, length}
 use Rattle.words.specs.Words.{Samples, word, Written}
 use Rattle.lengths.specs.Block.{AcceptedBlock, is_length, level, spectrum_yields}
 use Rattle.ffct.specs.Exact.{exact_cosine, exact_sine, exact_dct, exact_real, exact_imaginary, eighth, quarter_of_next, quarter, Within}

@@ -8,20 +8,15 @@ use Rattle.blocks.proofs.pair_of.Tie as tie
 
 join_parts-requires : tie.Need-join_parts-spent-requires
 join_parts-requires c κs =
-    let f = c.before.before.before.before in
-    let d = f.before.before.before.before in
-    let (a, b, real, imaginary) = d.before.before.before.before.requires in
-    parts_ready a.block_ok b.block_ok a.room d.both_dfts-of_a.ensures f.both_dfts-of_b.ensures
+    let (a, b, real, imaginary) = c.requires in
+    parts_ready a.block_ok b.block_ok a.room c.both_dfts-of_a.ensures c.both_dfts-of_b.ensures
     (omega (arith, real, imaginary))
 
 returns : tie.Need-returns
 returns c =
-    let j = c.before.before.before.before.before in
-    let f = j.before.before.before.before.before in
-    let d = f.before.before.before.before in
-    let (a, b, _, _) = d.before.before.before.before.requires in
-    pair_made a.block_ok b.block_ok a.room d.both_dfts-of_a.ensures f.both_dfts-of_b.ensures j.join_parts-spent.ensures
-    c.before.clear.ensures
+    let (a, b, _, _) = c.requires in
+    pair_made a.block_ok b.block_ok a.room c.both_dfts-of_a.ensures c.both_dfts-of_b.ensures c.join_parts-spent.ensures
+    c.clear.ensures
 
 pub pair_of_spec : {M : Type 1} → statement M
 pair_of_spec =

@@ -110,32 +110,32 @@ cosine_join t c κs =
     let d = c.before.before in
     let f = d.before.before.before in
     let e = f.before.before.before in
-    lent_join_ready cosine_kind e.before.before.before.requires.1.1 (omega arith) e.cosine_dft.ensures f.put_folded_sums.ensures
-    d.dct.ensures
+    lent_join_ready cosine_kind e.before.before.before.requires.1.1 (omega arith) e.cosine_dft-even.ensures f.put_folded_sums-folded.ensures
+    d.dct-odd.ensures
 
-cosine_ends : (t : ℕ) → cosine-dft-lts.Need-returns-2 (cosine_dft_calls t) (cosine_dft_at t) cosine-dft.Post
+cosine_ends : (t : ℕ) → cosine-dft-lts.Need-returns (cosine_dft_calls t) (cosine_dft_at t) cosine-dft.Post
 cosine_ends t c =
     let d = c.before.before.before.before in
     let f = d.before.before.before in
     let e = f.before.before.before in
-    lent_ends cosine_kind e.before.before.before.requires.1.1 (omega arith) e.cosine_dft.ensures f.put_folded_sums.ensures
-    d.dct.ensures c.before.join_cosine.ensures
+    lent_ends cosine_kind e.before.before.before.requires.1.1 (omega arith) e.cosine_dft-even.ensures f.put_folded_sums-folded.ensures
+    d.dct-odd.ensures c.before.join_cosine.ensures
 
 sine_join : (t : ℕ) → sine-dft-lts.Need-join_sine-requires (sine_dft_calls t) (sine_dft_at t) sine-dft.Post
 sine_join t c κs =
     let d = c.before.before in
     let f = d.before.before.before in
     let e = f.before.before.before in
-    lent_sine_ready e.before.before.before.requires.1.1 (omega arith) e.sine_dft.ensures f.put_folded_differences.ensures
-    d.dct.ensures
+    lent_sine_ready e.before.before.before.requires.1.1 (omega arith) e.sine_dft-even.ensures f.put_folded_differences-folded.ensures
+    d.dct-odd.ensures
 
-sine_ends : (t : ℕ) → sine-dft-lts.Need-returns-2 (sine_dft_calls t) (sine_dft_at t) sine-dft.Post
+sine_ends : (t : ℕ) → sine-dft-lts.Need-returns (sine_dft_calls t) (sine_dft_at t) sine-dft.Post
 sine_ends t c =
     let d = c.before.before.before.before in
     let f = d.before.before.before in
     let e = f.before.before.before in
-    lent_ends sine_kind e.before.before.before.requires.1.1 (omega arith) e.sine_dft.ensures f.put_folded_differences.ensures
-    d.dct.ensures c.before.join_sine.ensures
+    lent_ends sine_kind e.before.before.before.requires.1.1 (omega arith) e.sine_dft-even.ensures f.put_folded_differences-folded.ensures
+    d.dct-odd.ensures c.before.join_sine.ensures
 
 pub +cosine_dft_dct_sine_dft_spec : {M : Type 1} → statement M
 +cosine_dft_dct_sine_dft_spec = close μ-cosine-dft μ-dct μ-sine-dft (λ t. cosine-dft-lts.spec (cosine_dft_calls t)
