@@ -13,7 +13,6 @@ use Rattle.words.specs.Put.{Put}
 use Rattle.words.proofs.Putting.{◌then◌}
 use Rattle.text.specs.Decimal.{decimal}
 use Rattle.text.specs.Alignment.{spaces, right_aligned}
-use Rattle.text.proofs.Spelling.{decimal_length}
 use Rattle.text.proofs.Runs.{held}
 
 spaces_length : (n : ℕ) → length (spaces n) ≡ n
@@ -57,9 +56,6 @@ module _ (width at : ℕ) (text page : List ℕ) (short : length text ≤ width)
 
 -- ---- a number in a column: its digits in a buffer of their own, then the column, and what ends it
 module _ (x : ℤ) (f : SFits w32 x) where
-  pub digits_ready : 0 + length (decimal (held x) ++ []) ≤ 12
-  digits_ready = rw (to_z-of_z f, append-nil) (omega (arith, decimal_length x f))
-
   module _ (n : ℕ) (buffer digits : List ℕ) (put : Put buffer 0 (decimal (held x) ++ []) n digits) where
     are_digits : take n digits ≡ decimal x
     are_digits = put.front ∙ rw (to_z-of_z f) (append-nil (decimal x))
