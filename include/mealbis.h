@@ -1,11 +1,11 @@
 /*
  * mealbis.h: spectra of strain blocks, for C.
  *
- * Link with libmealbis.a, which `rt staticlib mealbis` builds:
- *     cc -Iinclude program.c target/staticlib/libmealbis.a
+ * Link with libmealbis.a, which `rt lib --cpu x86-64` builds in the folder crates/mealbis:
+ *     cc -Iinclude program.c crates/mealbis/out/libmealbis.a
  * The archive is for x86-64 Linux: ELF, the System V calling convention, position-independent, SSE2
- * and no later instructions. The kit builds for no other target, also where it runs on an Arm
- * machine: not for ARM, not for 32 bits, not for Windows or macOS.
+ * and no later instructions. It is built for no other target: not for ARM, not for 32 bits, not for
+ * Windows or macOS.
  * The library needs `memset` and `memcpy` and nothing else of the C library. It is written in Rattle
  * and proved: for every input that keeps the section "Buffers" each function answers as said here,
  * writes nothing else, and ends. "Document 01" is docs/01-scope.md; the promises themselves are in

@@ -51,7 +51,7 @@ def rattle_functions(text, aliases):
     """The exported functions, as a caller from outside has to declare them."""
     found = {}
     text = re.sub(r"//.*", "", text)
-    for mangled, name, parameters, result in re.findall(r'(#\[no_mangle\]\s+)?pub extern "C" fn (\w+)\(([^)]*)\)\s*(?:->\s*(\w+))?', text):
+    for mangled, name, parameters, result in re.findall(r'(#\[unsafe\(no_mangle\)\]\s+)?pub extern "C" fn (\w+)\(([^)]*)\)\s*(?:->\s*(\w+))?', text):
         assert mangled, "%s is exported under another name" % name
         given = []
         for parameter in filter(None, re.split(r",\s*(?![^\[]*\])", parameters.strip().rstrip(","))):
@@ -385,7 +385,7 @@ def rattle_edits(text):
     yield from replaced(text, r'pub extern "C" fn mealbis_\w+\([^)]*\)( -> \w+)?', r"\b(i32|u64|u32|usize|i64|u8)\b", ("i32", "i64", "u64"))
     yield from replaced(text, r'pub extern "C" fn mealbis_\w+\([^)]*\)', r"(?<=; )\d", ("7",))
     yield from replaced(text, r'pub extern "C" fn mealbis_\w+\([^)]*\)', r"&mut |&(?=\[)", ("&", "&mut "))
-    yield "a function more", text + '\n#[no_mangle]\npub extern "C" fn mealbis_other(length: usize) -> u32 {\n'
+    yield "a function more", text + '\n#[unsafe(no_mangle)]\npub extern "C" fn mealbis_other(length: usize) -> u32 {\n'
 
 
 def check_edits(texts):

@@ -13,9 +13,9 @@ Names. `crate/specs/File: `name`` says that the file declares the name; `Other: 
 the file named last in its column. A name in brackets after another stands somewhere in that file. In the column of functions a name is declared
 in the code of the crate named before it, `crate: `name``, or of any. In the column of edits, `crate: name` is crates/crate/must-fail/name.edit; a
 name without a crate is of the crate named last in the column; a cell without an edit says `none meant: ` and why. Files that a document names
-exist; a name behind one, as in MAP, is declared in it in GUARANTEES. What stands between backticks in DECISIONS, CALLS, GUARANTEES and READING
-and begins with a name, as `name`, `name()`, `name x y` or `crate::name`, is a crate, or the name stands in the code, the definitions or the proofs of
-a crate, or in a header or a binding, outside of comments, or is an example's.
+exist, but for what is built, in crates/NAME/out; a name behind one, as in MAP, is declared in it in GUARANTEES. What stands between backticks in
+DECISIONS, CALLS, GUARANTEES and READING and begins with a name, as `name`, `name()`, `name x y` or `crate::name`, is a crate, or the name stands in
+the code, the definitions or the proofs of a crate, or in a header or a binding, outside of comments, or is an example's.
 
 Links. `[..](file#heading)` leads to a file and to a heading in it.
 
@@ -34,6 +34,7 @@ README_LINES = 150
 SENTENCE_END = re.compile(r"(?<=[^.][.?!])\s+(?=[^a-z.])")
 FILE = re.compile(r"[\w+]+(?:/[\w+.-]+)+")
 NAMED_FILE = re.compile(r"(?<![\w/.])(?!target/)(?:\w+/(?:specs|proofs|src|must-fail)|(?:bench|bindings|crates|docs|examples|include|tests))/[\w+./-]+")
+BUILT = re.compile(r"crates/\w+/out/")
 WORD = r"[\w'′₀-₉-]"  # a letter of a name in specs/ and proofs/
 NAME = re.compile(r"(?<!%s)[^\W\d_]%s*" % (WORD, WORD))
 # what the archive calls; what bench/run puts before names, and what names of tests begin with; commands and their words; what is printed
@@ -108,6 +109,11 @@ def check_sentences(results, path, quotations):
 
 
 # --- names ---------------------------------------------------------------------
+
+def sources(*kinds):
+    """The files of crates/ with these endings, but for what is built there."""
+    return [path for kind in kinds for path in (ROOT / "crates").rglob("*" + kind) if path.relative_to(ROOT / "crates").parts[1] != "out"]
+
 
 def without_comments(path):
     marks = r"//.*" if path.suffix == ".rt" else r"--.*|^use .*"
@@ -221,7 +227,7 @@ def check_edits(results, crates, where, cell, last):
 
 def check_text(results, crates, where, text, files):
     """A line outside of tables: the files that it names are there, and the names are declared somewhere."""
-    everywhere = [path for kind in ("*.rt", "*.antt") for path in (ROOT / "crates").rglob(kind)]
+    everywhere = sources(".rt", ".antt")
     for kind, word in tokens(re.sub(r"\[[^]]*\]\([^)]*\)", "", text)):
         if is_place(kind, word, files):
             files = check_place(results, crates, where, kind, word, files)
@@ -270,16 +276,15 @@ def check_files(results):
         for number, line in enumerate(path.read_text().splitlines(), 1):
             for word in NAMED_FILE.findall(line):
                 word = word.rstrip(".-")
-                results.add("NAME" in word or crates.files(word), "%s:%d: no file %s" % (path.relative_to(ROOT), number, word))
+                results.add("NAME" in word or BUILT.match(word) or crates.files(word), "%s:%d: no file %s" % (path.relative_to(ROOT), number, word))
 
 
 def check_names(results):
     """The names between backticks in the documents of NAMING."""
     crates = Crates()
     known = set(crates.names) | OUTSIDE | {program.stem for program in (ROOT / "examples").rglob("*.*")}
-    for kind in ("*.rt", "*.antt"):
-        for source in (ROOT / "crates").rglob(kind):
-            known.update(NAME.findall(without_comments(source)))
+    for source in sources(".rt", ".antt"):
+        known.update(NAME.findall(without_comments(source)))
     for header in (ROOT / "include").glob("*.h"):
         known.update(NAME.findall(re.sub(r"(?s)/\*.*?\*/", "", header.read_text())))
     for binding, comments in (("rust/mealbis.rs", r"//.*"), ("python/mealbis.py", r'(?s)""".*?"""|#[^\n]*')):
@@ -323,14 +328,14 @@ def check_readme(results):
     text = (ROOT / "README.md").read_text()
     lines = len(text.splitlines())
     results.add(lines <= README_LINES, "README.md: %d lines, and at most %d are wanted" % (lines, README_LINES))
-    for name in re.findall(r"^(\w+):", (ROOT / "crates.txt").read_text(), re.M):
+    for name in re.findall(r"^(\w+)(?: staticlib)?:", (ROOT / "crates.txt").read_text(), re.M):
         results.add(re.search(r"^ *%s  +\S" % name, text, re.M), "README.md: no line for the crate %s" % name)
 
 
 def check_widths(results):
     """The lines of the documents, outside of tables, and of the files of crates/."""
     documents = [path for path in DOCUMENTS if not re.match(r"\d\d-", path.name)]
-    for path in documents + sorted(p for p in (ROOT / "crates").rglob("*") if p.suffix in (".rt", ".antt")):
+    for path in documents + sorted(sources(".rt", ".antt")):
         wide = [
             (number, len(line))
             for number, line in enumerate(path.read_text().splitlines(), 1)

@@ -6,7 +6,7 @@
 A fence marked `console` holds commands, each on a line that begins with `$ `, and below a command what it writes to standard output; a line `..`
 stands for any number of lines left out. Each command is run by sh at the top of the repository and must end with status 0; one with nothing
 below it is not run. A fence marked `c` is a whole program, which is compiled without a warning (CC, else cc), linked with
-target/staticlib/libmealbis.a and run in the same way; the fence marked `text` that comes next is what it writes. The last line is
+crates/mealbis/out/libmealbis.a and run in the same way; the fence marked `text` that comes next is what it writes. The last line is
 'N passed, M failed'.
 """
 import os
@@ -19,7 +19,7 @@ from pathlib import Path
 ROOT = Path(__file__).resolve().parent.parent
 PROGRAM = "target/samples/program"
 COMPILED = ("mkdir -p target/samples && printf %%s %s > %s.c && "
-            '"${CC:-cc}" -O2 -std=c99 -Wall -Wextra -Wconversion -Werror -Iinclude %s.c target/staticlib/libmealbis.a -o %s && %s')
+            '"${CC:-cc}" -O2 -std=c99 -Wall -Wextra -Wconversion -Werror -Iinclude %s.c crates/mealbis/out/libmealbis.a -o %s && %s')
 
 
 def documents():

@@ -30,16 +30,16 @@ PAGE = 4096
 MOST_SHOWN = 20                     # failures
 
 
-def build(*words):
-    done = subprocess.run(words, cwd=ROOT, stdin=subprocess.DEVNULL, stdout=subprocess.PIPE, stderr=subprocess.STDOUT, text=True)
+def build(*words, within=ROOT):
+    done = subprocess.run(words, cwd=within, stdin=subprocess.DEVNULL, stdout=subprocess.PIPE, stderr=subprocess.STDOUT, text=True)
     if done.returncode:
         sys.exit("%s\n0 passed, 1 failed" % done.stdout)
 
 
 def static_library():
     """The library as it is built now."""
-    build("rt", "staticlib", "mealbis")
-    return ROOT / "target/staticlib/libmealbis.a"
+    build("rt", "lib", "--cpu", "x86-64", within=ROOT / "crates/mealbis")
+    return ROOT / "crates/mealbis/out/libmealbis.a"
 
 
 def shared_library():

@@ -21,7 +21,7 @@ EXAMPLES = "binder_pages logger months sort_blocks write_crossing".split()
 
 # builds the file behind -o; where the file `broken` has the name of its source it fails, as rt does where it has `rt`
 STAND_IN = """#!/bin/sh
-case $0 in */rt) ! grep -qx rt broken; exit ;; esac
+case $0 in */rt) ! grep -qx rt ../../broken; exit ;; esac
 for word; do
     case $word in *.c | *.rs) grep -qx "${word##*/}" broken && echo 'error' && exit 1 ;; esac
     [ "$before" = -o ] && { echo '#!/bin/sh'; echo "# $(cat by)"; } > "$word" && chmod +x "$word"
@@ -47,7 +47,7 @@ class Copy:
 
     def __init__(self, folder):
         self.top, self.tools = folder / "the repository", folder / "tools"
-        for made in (self.top / "examples", self.tools):
+        for made in (self.top / "examples", self.top / "crates/mealbis", self.tools):
             made.mkdir(parents=True)
         shutil.copy(SCRIPT, self.top / "examples/build")
         for tool in TOOLS:

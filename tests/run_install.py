@@ -55,13 +55,13 @@ def check_missing(results, folder):
         (tools / tool).symlink_to(shutil.which(tool))
     results.add("without rt", run("./install", folder / "none", PATH=str(tools), CC="cc"),
                 (2, "install: rt is not on the PATH. It is part of the Rattle kit; README.md says which version\n"))
-    (tools / "rt").write_text("#!/bin/sh\necho 'rt: words NOT PROVED (exit 1, 0 s)'\nexit 1\n")
+    (tools / "rt").write_text("#!/bin/sh\necho 'rt: the library words did not build, so nothing above it was checked'\nexit 1\n")
     (tools / "rt").chmod(0o755)
     results.add("without a compiler", run("./install", folder / "none", PATH=str(tools), CC="cc"),
                 (2, "install: there is no C compiler, cc, to make the shared library with (CC may name another)\n"))
     (tools / "cc").symlink_to("rt")
     status, said = run("./install", folder / "none", PATH=str(tools), CC="cc")
-    results.add("not proved", (status, "words NOT PROVED" in said, said.splitlines()[-1]), (2, True, "install: not built"))
+    results.add("not proved", (status, "words did not build" in said, said.splitlines()[-1]), (2, True, "install: not built"))
     results.add("no file is put", put(folder / "none"), [])
 
 

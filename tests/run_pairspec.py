@@ -15,7 +15,7 @@ import time
 
 from reference import LENGTHS, LARGEST_SAMPLE, MOST_FILE_SAMPLES, pairspec
 
-PROGRAM = "target/bin/pairspec"
+PROGRAM = "crates/pairspec/out/pairspec"
 LARGEST = 2 ** 31 - 1
 SMALLEST = -2 ** 31
 

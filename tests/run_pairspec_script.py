@@ -25,12 +25,15 @@ HEADER = ROOT / "include/mealbis.h"
 TOOLS = "awk cat cp cut dirname find flock grep head ls mkdir mkfifo mktemp mv readlink rm sed setsid sh sha256sum sleep sort tail tee tr wc".split()
 NOBODY = 65534
 
-# says what rt says of two crates and a program, and notes that it was called. It takes the sources as they are when it begins. As rt does, it goes by
-# a stamp and does not look for the program. Its call number N lasts as long as there is a file hold.N, and notes its process and one that it started.
+# says what rt says of two crates and a program, runs the program, and notes that it was called. It takes the sources as they are when it begins. As rt
+# does, it says nothing of a library that is built, and goes by a stamp, of the sources and the program. Its call number N lasts as long as there is a
+# file hold.N, and notes its process and one that it started.
 RT = """#!/bin/sh
-echo "$*" >> calls
+folder=${PWD##*/}
+cd ../.. || exit 2
+echo "$* $folder" >> calls
 number=$(wc -l < calls)
-[ -e broken ] && echo 'rt: whole NOT PROVED (exit 1, 0 s)' && exit 1
+[ -e broken ] && echo 'rt: the library whole did not build, so nothing above it was checked' >&2 && exit 1
 made=$(cat crates/words/src/lib.rt 2> /dev/null)
 sum=$(cat crates.txt crates/*/src/* | sha256sum)
 if [ -e "hold.$number" ]; then
@@ -39,19 +42,25 @@ if [ -e "hold.$number" ]; then
     while [ -e "hold.$number" ]; do sleep 0.02; done
     kill $!
 fi
-mkdir -p target/bin target/stamp
-if [ "$(cat target/stamp/pairspec 2> /dev/null)" = "$sum" ]; then
-    echo 'rt: ok, 3 crates proved'
-    exit
+out=crates/pairspec/out
+mkdir -p $out
+if [ "$(cat $out/pairspec.stamp 2> /dev/null)" = "$sum $(cat $out/pairspec 2> /dev/null | sha256sum)" ]; then
+    echo 'rt: nothing has changed since the last proved build, by out/pairspec.stamp, so nothing is checked now' >&2
+else
+    {
+        echo 'rt: chose --jobs 2 for words'
+        echo 'fn words::word: proved'
+        echo 'logic=proved functions=1 sum=dac8208d650f15bf'
+        echo 'rt: chose --jobs 2 for pairspec'
+        echo 'fn pairspec::main: proved'
+        echo 'logic=proved functions=1 axioms=2 sum=dac8208d650f15bf'
+    } >&2
+    { echo '#!/bin/sh'; echo "made='$made'"; cat program; } > $out/pairspec
+    chmod +x $out/pairspec
+    echo "$sum $(sha256sum < $out/pairspec)" > $out/pairspec.stamp
 fi
-echo 'fn whole::round: proved'
-echo 'rt: whole proved (unchanged since it was last proved)'
-echo 'rt: words proved (3 s)'
-echo 'rt: pairspec proved (17 s)'
-echo 'rt: ok, 3 crates proved'
-{ echo '#!/bin/sh'; echo "made='$made'"; cat program; } > target/bin/pairspec
-chmod +x target/bin/pairspec
-echo "$sum" > target/stamp/pairspec
+echo 'rt: running out/pairspec; to give it other input, run that file yourself' >&2
+exec $out/pairspec
 """
 # writes its input; after a first line `made from` also what it was made from. `ends` ends it
 PROGRAM = """read -r first && echo "$first" && cat
@@ -149,7 +158,7 @@ class Copy:
 
     def builds(self):
         calls = self.top / "calls"
-        return calls.read_text().count("check pairspec\n") if calls.exists() else 0
+        return calls.read_text().count("run pairspec\n") if calls.exists() else 0
 
     def hold(self, call):
         """Has this build, counted from now on, last until the file is removed."""
@@ -184,12 +193,12 @@ def check_builds(results, copy):
     copy.source.unlink()
     results.add("a source less", (copy.run()[:2], copy.builds()), (GOOD, 3))
     shutil.rmtree(copy.top / "target/pairspec", ignore_errors=True)
-    (copy.top / "target/bin/pairspec").unlink()
+    (copy.top / "crates/pairspec/out/pairspec").unlink()
     results.add("no program", (copy.run()[:2], copy.builds()), (GOOD, 4))
     (copy.top / "broken").write_text("")
     copy.source.write_text("// words, wrong\n")
     status, out, said = copy.run()
-    results.add("not proved", (status, out, "whole NOT PROVED" in said, copy.builds()), (2, b"", True, 5))
+    results.add("not proved", (status, out, "whole did not build" in said, copy.builds()), (2, b"", True, 5))
     results.add("still not proved", (copy.run()[:2], copy.builds()), ((2, b""), 6))
     (copy.top / "broken").unlink()
     results.add("proved again", (copy.run()[:2], copy.builds()), (GOOD, 7))
@@ -210,11 +219,12 @@ def check_content(results, copy):
     results.add("files that it is not made of", (copy.run(), copy.builds()), ((*GOOD, ""), before))
     text = copy.source.read_text()
     copy.source.write_text("// words, tried\n")
-    subprocess.run(["rt", "check", "pairspec"], cwd=copy.top, env=copy.environment, stdout=subprocess.DEVNULL, check=True)
+    subprocess.run(["rt", "run"], cwd=copy.top / "crates/pairspec", env=copy.environment, stdin=subprocess.DEVNULL, stdout=subprocess.DEVNULL,
+                   stderr=subprocess.DEVNULL, check=True)
     copy.source.write_text(text)
     os.utime(copy.source, (10 ** 9, 10 ** 9))
     results.add("rt was run on others", copy.made_from(), text)
-    for path in (copy.top / "target/bin/pairspec", *copy.top.glob("target/pairspec/program.*")):
+    for path in (copy.top / "crates/pairspec/out/pairspec", *copy.top.glob("target/pairspec/program.*")):
         path.unlink()
     results.add("no program, and a stamp", copy.run()[:2], GOOD)
 
@@ -422,7 +432,7 @@ def check_itself(results):
     example = EXAMPLE.read_bytes()
     run(example)
     wrote = run(example)
-    program = subprocess.run([ROOT / "target/bin/pairspec"], input=example, stdout=subprocess.PIPE)
+    program = subprocess.run([ROOT / "crates/pairspec/out/pairspec"], input=example, stdout=subprocess.PIPE)
     results.add("the example", wrote, (0, program.stdout, ""))
     def file(samples, length, first):
         return struct.pack("<IIi", samples, length, first) + bytes(8 * samples - 4)

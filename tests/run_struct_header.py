@@ -18,7 +18,7 @@ from pathlib import Path
 ROOT = Path(__file__).resolve().parent.parent
 SOURCE = ROOT / "tests/c/struct_header.c"
 HEADER = ROOT / "include/mealbis_struct.h"
-ARCHIVE = ROOT / "target/staticlib/libmealbis.a"
+ARCHIVE = ROOT / "crates/mealbis/out/libmealbis.a"
 CC, CXX = os.environ.get("CC", "cc"), os.environ.get("CXX", "c++")
 WARNINGS = ["-Wall", "-Wextra", "-Wconversion", "-pedantic", "-Werror"]
 
@@ -45,8 +45,8 @@ MISTAKES = [
 ]
 
 
-def run(*words):
-    done = subprocess.run([str(word) for word in words], cwd=ROOT, stdin=subprocess.DEVNULL, stdout=subprocess.PIPE, stderr=subprocess.STDOUT, text=True)
+def run(*words, within=ROOT):
+    done = subprocess.run([str(word) for word in words], cwd=within, stdin=subprocess.DEVNULL, stdout=subprocess.PIPE, stderr=subprocess.STDOUT, text=True)
     return done.returncode, done.stdout
 
 
@@ -72,7 +72,7 @@ def built_and_run(folder, words, include):
 
 def main():
     results = Results()
-    status, said = run("rt", "staticlib", "mealbis")
+    status, said = run("rt", "lib", "--cpu", "x86-64", within=ROOT / "crates/mealbis")
     if status:
         sys.exit("%s\n0 passed, 1 failed" % said)
     ways = [[CC, "-std=c99", level, *WARNINGS] for level in ("-O0", "-O2")]

@@ -14,7 +14,7 @@ use record::{NumberAnswer, Record, SumsAnswer};
 use refusals::refusal::Outcome;
 use spectra::Answer;
 
-#[derive(Drop)]
+#[derive(Clone, Copy)]
 pub struct Month {
     words: Record,
 }

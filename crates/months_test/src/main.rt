@@ -8,70 +8,71 @@ ghost use Rattle.std.specs.Prelude.{◌≡◌, ◌^◌, ◌≤◌, ◌<◌, nat_
 ghost use Rattle.months.specs.Promises.{Held};
 ghost use Rattle.refusals.specs.Refusals.{scratch_words};
 
-use libc::STDOUT_FILENO;
 use months::record::{NumberAnswer, SumsAnswer};
 use months::{Month, add, begin, block_number, length_of, sums_at};
 use refusals::length::MOST_SCRATCH;
+use std::io;
 use test_rows::{random_sample, write_count};
 use whole::size_of;
 
 // ---- what is written
 
-fn write_sum(sum: i64)
+fn write_sum(rt: &impl Print, sum: i64) -> io::Result<()>
     requires { nat_abs sum ≤ 2 ^ 62 }
 {
+    let size = size_of(sum);
     if sum < 0 {
-        io::write_all(STDOUT_FILENO, b" -");
+        print!(rt; " -{size}")
     } else {
-        io::write_all(STDOUT_FILENO, b" ");
+        print!(rt; " {size}")
     }
-    io::print_decimal(STDOUT_FILENO, size_of(sum));
 }
 
 // A line for k: the party's sums, or nothing behind it where Spectrum does not yield it.
-fn write_k(month: Month, party: usize, k: usize)
+fn write_k(rt: &impl Print, month: Month, party: usize, k: usize) -> io::Result<()>
     requires { Held month }
 {
-    write_count(k as u64);
+    write_count(rt, k as u64)?;
     if let SumsAnswer::Yielded(sums) = sums_at(month, party, k) {
-        write_sum(sums.cosine);
-        write_sum(sums.sine);
+        write_sum(rt, sums.cosine)?;
+        write_sum(rt, sums.sine)?;
     }
-    io::write_all(STDOUT_FILENO, b"\n");
+    println!(rt)
 }
 
 // A party and its block number.
-fn write_party(month: Month, party: usize)
+fn write_party(rt: &impl Print, month: Month, party: usize) -> io::Result<()>
     requires { Held month }
 {
-    io::write_all(STDOUT_FILENO, b"party");
-    write_count(party as u64);
+    print!(rt; "party")?;
+    write_count(rt, party as u64)?;
     if let NumberAnswer::Blocks(blocks) = block_number(month, party) {
-        write_sum(blocks);
+        write_sum(rt, blocks)?;
     }
-    io::write_all(STDOUT_FILENO, b"\n");
+    println!(rt)
 }
 
 // A party's account: its block number, then a line for each k up to one more than Spectrum yields.
-fn write_account(month: Month, party: usize)
+fn write_account(rt: &impl Print, month: Month, party: usize) -> io::Result<()>
     requires { Held month }
 {
-    write_party(month, party);
+    write_party(rt, month, party)?;
     let length = length_of(month);
     for k in 0..length / 2 + 2 {
-        write_k(month, party, k);
+        write_k(rt, month, party, k)?;
     }
+    Ok(())
 }
 
 // A month: its length and both accounts.
-fn write_month(month: Month)
+fn write_month(rt: &impl Print, month: Month) -> io::Result<()>
     requires { Held month }
 {
-    io::write_all(STDOUT_FILENO, b"month");
-    write_count(length_of(month) as u64);
-    io::write_all(STDOUT_FILENO, b"\n");
-    write_account(month, 1);
-    write_account(month, 2);
+    print!(rt; "month")?;
+    write_count(rt, length_of(month) as u64)?;
+    println!(rt)?;
+    write_account(rt, month, 1)?;
+    write_account(rt, month, 2)
 }
 
 // ---- blocks
@@ -112,7 +113,7 @@ fn recording() -> [i32; 2100]
 // ---- calls
 
 // Who calls in which turn: both owners, at random; one of them, in the turns that are its own then; one party in every turn.
-#[derive(Drop)]
+#[derive(Clone, Copy)]
 enum Turns {
     Both,
     Only(usize),
@@ -182,46 +183,48 @@ fn begun_and_filled(turns: Turns, recording: &[i32], length: usize) -> Month
 // ---- runs
 
 // Both owners' blocks, of which some are refused; then some of another length, and some of a party that is none.
-fn run_length(recording: &[i32], length: usize, other: usize) {
+fn run_length(rt: &impl Print, recording: &[i32], length: usize, other: usize) -> io::Result<()> {
     let month = begun_and_filled(Turns::Both, recording, length);
     let then = filled(month, Turns::Every(1), 5, recording, other);
-    write_month(filled(then, Turns::Every(3), 5, recording, length));
+    write_month(rt, filled(then, Turns::Every(3), 5, recording, length))
 }
 
 // Both owners at random, and each alone: the same accounts.
-fn run_alone(recording: &[i32], length: usize) {
+fn run_alone(rt: &impl Print, recording: &[i32], length: usize) -> io::Result<()> {
     let both = begun_and_filled(Turns::Both, recording, length);
-    write_account(both, 1);
-    write_account(both, 2);
-    write_account(begun_and_filled(Turns::Only(1), recording, length), 1);
-    write_account(begun_and_filled(Turns::Only(2), recording, length), 2);
+    write_account(rt, both, 1)?;
+    write_account(rt, both, 2)?;
+    write_account(rt, begun_and_filled(Turns::Only(1), recording, length), 1)?;
+    write_account(rt, begun_and_filled(Turns::Only(2), recording, length), 2)
 }
 
 // As many blocks of one party as it may add, and one more, with every sample the same; then some of the other party.
-fn run_full(value: i32, length: usize) {
+fn run_full(rt: &impl Print, value: i32, length: usize) -> io::Result<()> {
     let samples = row(value);
     let begun = begin(length);
     let month = filled(begun.month, Turns::Every(1), 50001, &samples, length);
-    write_month(filled(month, Turns::Every(2), 3, &samples, length));
+    write_month(rt, filled(month, Turns::Every(2), 3, &samples, length))
 }
 
-fn run_lengths(recording: &[i32]) {
+fn run_lengths(rt: &impl Print, recording: &[i32]) -> io::Result<()> {
     for level in 0..11usize {
-        run_length(recording, 1 << level, 2 << level);
+        run_length(rt, recording, 1 << level, 2 << level)?;
     }
+    Ok(())
 }
 
-fn main() {
+fn main(rt: HostRuntime) -> io::Result<()> {
+    let rt = &rt;
     let samples = recording();
-    run_lengths(&samples);
-    run_length(&samples, 3, 3);
-    run_length(&samples, 0, 0);
-    run_length(&samples, 2048, 1024);
-    run_alone(&samples, 1);
-    run_alone(&samples, 8);
-    run_alone(&samples, 64);
-    run_alone(&samples, 1024);
-    run_full(1000000, 1);
-    run_full(-1000000, 2);
-    run_full(1000000, 4);
+    run_lengths(rt, &samples)?;
+    run_length(rt, &samples, 3, 3)?;
+    run_length(rt, &samples, 0, 0)?;
+    run_length(rt, &samples, 2048, 1024)?;
+    run_alone(rt, &samples, 1)?;
+    run_alone(rt, &samples, 8)?;
+    run_alone(rt, &samples, 64)?;
+    run_alone(rt, &samples, 1024)?;
+    run_full(rt, 1000000, 1)?;
+    run_full(rt, -1000000, 2)?;
+    run_full(rt, 1000000, 4)
 }

@@ -2,22 +2,20 @@
 
 // Writes the stored quarter wave, an entry to a line. The file stdout beside src/ was made by tests/expect_quarter_wave.py, which
 // shares nothing with the product.
-use libc::STDOUT_FILENO;
+use std::io;
 
-fn write_entry(value: i64) {
+fn write_entry(rt: &impl Print, value: i64) -> io::Result<()> {
     if value < 0 {
-        io::write_all(STDOUT_FILENO, b"negative\n");
+        println!(rt; "negative")
     } else {
-        io::print_decimal(STDOUT_FILENO, value as u64);
-        io::write_all(STDOUT_FILENO, b"\n");
+        println!(rt; "{value}")
     }
 }
 
-fn main() {
+fn main(rt: HostRuntime) -> io::Result<()> {
     let wave = circle::quarter_wave();
-    let mut j: usize = 0;
-    while j < 1025 {
-        write_entry(circle::wave_at(&wave, j));
-        j += 1;
+    for j in 0..1025 {
+        write_entry(&rt, circle::wave_at(&wave, j))?;
     }
+    Ok(())
 }

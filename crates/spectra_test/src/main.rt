@@ -6,38 +6,39 @@ ghost use Rattle.std.specs.Prelude.{◌≡◌, ◌+◌, ◌≤◌, length};
 ghost use Rattle.refusals.specs.Refusals.{scratch_words};
 
 use counts::tally::Tally;
-use libc::STDOUT_FILENO;
 use refusals::length::{MOST_SCRATCH, scratch_words};
 use refusals::refusal::{Refusal, number_of};
 use spectra::{Answer, CountsAnswer, cosine, count_query, pair, spectrum};
+use std::io;
 use test_rows::{digested, random_sample, write_count, write_words};
 
 // ---- what is written
 
-fn write_counts(products: u64, sums: u64) {
-    write_count(products);
-    write_count(sums);
+fn write_counts(rt: &impl Print, products: u64, sums: u64) -> io::Result<()> {
+    write_count(rt, products)?;
+    write_count(rt, sums)
 }
 
-fn write_tally(tally: Tally) {
-    write_counts(tally.products, tally.sums);
-    write_count(tally.largest_rest);
+fn write_tally(rt: &impl Print, tally: Tally) -> io::Result<()> {
+    write_counts(rt, tally.products, tally.sums)?;
+    write_count(rt, tally.largest_rest)
 }
 
 // The number; the place behind it for 6, the one refusal of these calls that has one.
-fn write_refusal(refusal: Refusal) {
-    write_count(number_of(refusal) as u64);
+fn write_refusal(rt: &impl Print, refusal: Refusal) -> io::Result<()> {
+    write_count(rt, number_of(refusal) as u64)?;
     if let Refusal::OutOfRange(place) = refusal {
-        write_count(place as u64);
+        write_count(rt, place as u64)?;
     }
+    Ok(())
 }
 
-fn write_answer(answer: Answer) {
+fn write_answer(rt: &impl Print, answer: Answer) -> io::Result<()> {
     match answer {
-        Answer::Refused(refusal) => write_refusal(refusal),
+        Answer::Refused(refusal) => write_refusal(rt, refusal),
         Answer::Done(tally) => {
-            write_count(0);
-            write_tally(tally);
+            write_count(rt, 0)?;
+            write_tally(rt, tally)
         }
     }
 }
@@ -51,12 +52,12 @@ fn scratch_word(word: i64) -> i32 {
     }
 }
 
-fn write_scratch(words: &[i64]) {
+fn write_scratch(rt: &impl Print, words: &[i64]) -> io::Result<()> {
     let mut digest = 0;
     for i in 0..words.len() {
         digest = digested(digest, scratch_word(words[i]));
     }
-    write_count(digest);
+    write_count(rt, digest)
 }
 
 // ---- the recordings
@@ -104,7 +105,7 @@ fn recording(kind: usize, seed: u64) -> [i32; 1040]
 
 // ---- a case: where the block stands and what is lent
 
-#[derive(Drop)]
+#[derive(Clone, Copy)]
 struct Case {
     start: usize,
     length: usize,
@@ -114,7 +115,7 @@ struct Case {
     scratch: usize,
 }
 
-#[derive(Drop)]
+#[derive(Clone, Copy)]
 enum Call {
     Spectrum,
     Cosine,
@@ -138,15 +139,21 @@ fn scratch_row() -> [i64; MOST_LENT]
     [90; MOST_LENT]
 }
 
-fn write_buffers(first: &[i32], second: &[i32], scratch: &[i64]) {
-    write_words(first);
-    write_words(second);
-    write_scratch(scratch);
-    io::write_all(STDOUT_FILENO, b"\n");
+fn write_buffers(
+    rt: &impl Print,
+    first: &[i32],
+    second: &[i32],
+    scratch: &[i64],
+) -> io::Result<()> {
+    write_words(rt, first)?;
+    write_words(rt, second)?;
+    write_scratch(rt, scratch)?;
+    println!(rt)
 }
 
 // Cosine has one result, so nothing of the second is written.
 fn write_call(
+    rt: &impl Print,
     call: Call,
     a: &[i32],
     b: &[i32],
@@ -154,30 +161,36 @@ fn write_call(
     first: &mut [i32],
     second: &mut [i32],
     scratch: &mut [i64],
-) {
+) -> io::Result<()> {
     let start = case.start;
     let length = case.length;
     let allowance = case.allowance;
     match call {
         Call::Spectrum => {
-            io::write_all(STDOUT_FILENO, b"spectrum");
-            write_answer(spectrum(a, start, length, allowance, first, second, scratch));
-            write_buffers(first, second, scratch);
+            print!(rt; "spectrum")?;
+            write_answer(
+                rt,
+                spectrum(a, start, length, allowance, first, second, scratch),
+            )?;
+            write_buffers(rt, first, second, scratch)
         }
         Call::Cosine => {
-            io::write_all(STDOUT_FILENO, b"cosine");
-            write_answer(cosine(a, start, length, allowance, first, scratch));
-            write_buffers(first, &second[0..0], scratch);
+            print!(rt; "cosine")?;
+            write_answer(rt, cosine(a, start, length, allowance, first, scratch))?;
+            write_buffers(rt, first, &second[0..0], scratch)
         }
         Call::Pair => {
-            io::write_all(STDOUT_FILENO, b"pair");
-            write_answer(pair(a, b, start, length, allowance, first, second, scratch));
-            write_buffers(first, second, scratch);
+            print!(rt; "pair")?;
+            write_answer(
+                rt,
+                pair(a, b, start, length, allowance, first, second, scratch),
+            )?;
+            write_buffers(rt, first, second, scratch)
         }
     }
 }
 
-fn run_call(call: Call, a: &[i32], b: &[i32], case: Case)
+fn run_call(rt: &impl Print, call: Call, a: &[i32], b: &[i32], case: Case) -> io::Result<()>
     requires { (case.first ≤ 1040) × (case.second ≤ 1040) × (case.scratch ≤ scratch_words 1024 + 2) }
 {
     let mut firsts = row(70);
@@ -187,6 +200,7 @@ fn run_call(call: Call, a: &[i32], b: &[i32], case: Case)
     let second = case.second;
     let words = case.scratch;
     write_call(
+        rt,
         call,
         a,
         b,
@@ -194,28 +208,28 @@ fn run_call(call: Call, a: &[i32], b: &[i32], case: Case)
         &mut firsts[0..first],
         &mut seconds[0..second],
         &mut scratch[0..words],
-    );
+    )
 }
 
-fn run_calls(a: &[i32], b: &[i32], case: Case)
+fn run_calls(rt: &impl Print, a: &[i32], b: &[i32], case: Case) -> io::Result<()>
     requires { (case.first ≤ 1040) × (case.second ≤ 1040) × (case.scratch ≤ scratch_words 1024 + 2) }
 {
-    run_call(Call::Spectrum, a, b, case);
-    run_call(Call::Cosine, a, b, case);
-    run_call(Call::Pair, a, b, case);
+    run_call(rt, Call::Spectrum, a, b, case)?;
+    run_call(rt, Call::Cosine, a, b, case)?;
+    run_call(rt, Call::Pair, a, b, case)
 }
 
-fn run_query(length: usize) {
-    io::write_all(STDOUT_FILENO, b"counts");
+fn run_query(rt: &impl Print, length: usize) -> io::Result<()> {
+    print!(rt; "counts")?;
     match count_query(length) {
-        CountsAnswer::Refused(refusal) => write_count(number_of(refusal) as u64),
+        CountsAnswer::Refused(refusal) => write_count(rt, number_of(refusal) as u64)?,
         CountsAnswer::Counted(counts) => {
-            write_counts(counts.dct.products, counts.dct.sums);
-            write_counts(counts.spectrum.products, counts.spectrum.sums);
-            write_counts(counts.pair.products, counts.pair.sums);
+            write_counts(rt, counts.dct.products, counts.dct.sums)?;
+            write_counts(rt, counts.spectrum.products, counts.spectrum.sums)?;
+            write_counts(rt, counts.pair.products, counts.pair.sums)?;
         }
     }
-    io::write_all(STDOUT_FILENO, b"\n");
+    println!(rt)
 }
 
 fn at_most(most: usize, n: usize) -> usize
@@ -225,7 +239,14 @@ fn at_most(most: usize, n: usize) -> usize
 }
 
 // All three calls, with words to spare in every buffer.
-fn run_roomy(a: &[i32], b: &[i32], start: usize, length: usize, allowance: u64) {
+fn run_roomy(
+    rt: &impl Print,
+    a: &[i32],
+    b: &[i32],
+    start: usize,
+    length: usize,
+    allowance: u64,
+) -> io::Result<()> {
     let room = at_most(1024, length);
     let case = Case {
         start,
@@ -235,17 +256,17 @@ fn run_roomy(a: &[i32], b: &[i32], start: usize, length: usize, allowance: u64) 
         second: room + 3,
         scratch: scratch_words(room) + 2,
     };
-    run_calls(a, b, case);
+    run_calls(rt, a, b, case)
 }
 
 // ---- every length of every kind of block, from start 3
 
-fn run_kind(kind: usize, level: usize)
+fn run_kind(rt: &impl Print, kind: usize, level: usize) -> io::Result<()>
     requires { (kind ≤ 7) × (level ≤ 10) }
 {
     let a = recording(kind, 1);
     let b = recording(7 - kind, 2);
-    run_roomy(&a, &b, 3, 1 << level, 20000);
+    run_roomy(rt, &a, &b, 3, 1 << level, 20000)
 }
 
 // ---- every pair of refusals that can hold together, at 8 samples from start 2. The samples before the block are out of range
@@ -264,9 +285,9 @@ fn pick(condition: usize, i: usize, j: usize, good: usize, bad: usize) -> usize
 
 // 1: the length; 2, 3: recording a, b; 4, 5: the first, the second result; 6: scratch; 7: the allowance; 8, 9: a sample of a, of b;
 // 0: none. Each pair runs once.
-fn run_refusals(i: usize, j: usize) {
+fn run_refusals(rt: &impl Print, i: usize, j: usize) -> io::Result<()> {
     if i > j {
-        return;
+        return Ok(());
     }
     let x = if i == 8 || j == 8 { 1000005 } else { 5 };
     let y = if i == 9 || j == 9 { -1000001 } else { 6 };
@@ -283,73 +304,74 @@ fn run_refusals(i: usize, j: usize) {
         second: pick(5, i, j, 8, 3),
         scratch: pick(6, i, j, enough, enough - 25),
     };
-    run_calls(&a[0..lent_a], &b[0..lent_b], case);
+    run_calls(rt, &a[0..lent_a], &b[0..lent_b], case)
 }
 
 // ---- document 01's blocks to try, and blocks with a tie
 
-fn run_small(x0: i32, x1: i32, x2: i32, x3: i32, length: usize) {
+fn run_small(rt: &impl Print, x0: i32, x1: i32, x2: i32, x3: i32, length: usize) -> io::Result<()> {
     let a = [x0, x1, x2, x3];
     let b = [x3, x2, x1, x0];
-    run_roomy(&a, &b, 0, length, 20000);
+    run_roomy(rt, &a, &b, 0, length, 20000)
 }
 
 // A tie in the cosine-DFT alone, or in the sine-DFT alone.
-fn run_ties() {
+fn run_ties(rt: &impl Print) -> io::Result<()> {
     let silence = [0i32; 16];
     let cosine_tie = [0, 6863, 0, 0, 0, 5998, 0, 0, 0, 0, 0, 5998, 0, 0, 0, 6863];
     let sine_tie = [0, 6863, 0, 0, 0, 5998, 0, 0, 0, 0, 0, -5998, 0, 0, 0, -6863];
-    run_roomy(&cosine_tie, &silence, 0, 16, 20000);
-    run_roomy(&silence, &sine_tie, 0, 16, 20000);
-    run_roomy(&sine_tie, &cosine_tie, 0, 16, 20000);
+    run_roomy(rt, &cosine_tie, &silence, 0, 16, 20000)?;
+    run_roomy(rt, &silence, &sine_tie, 0, 16, 20000)?;
+    run_roomy(rt, &sine_tie, &cosine_tie, 0, 16, 20000)
 }
 
-fn run_blocks_to_try() {
-    run_small(7, 0, 0, 0, 1);
-    run_small(1, 2, 3, 4, 4);
-    run_small(3, 1, 0, 0, 2);
-    run_small(0, 1, 0, 0, 2);
-    run_small(-1, 1, 0, 0, 2);
-    run_small(13726, 0, 11996, 0, 4);
-    run_small(-13726, 0, -11996, 0, 4);
-    run_small(-11996, 0, 13726, 0, 4);
-    run_small(11996, 0, -13726, 0, 4);
-    run_ties();
+fn run_blocks_to_try(rt: &impl Print) -> io::Result<()> {
+    run_small(rt, 7, 0, 0, 0, 1)?;
+    run_small(rt, 1, 2, 3, 4, 4)?;
+    run_small(rt, 3, 1, 0, 0, 2)?;
+    run_small(rt, 0, 1, 0, 0, 2)?;
+    run_small(rt, -1, 1, 0, 0, 2)?;
+    run_small(rt, 13726, 0, 11996, 0, 4)?;
+    run_small(rt, -13726, 0, -11996, 0, 4)?;
+    run_small(rt, -11996, 0, 13726, 0, 4)?;
+    run_small(rt, 11996, 0, -13726, 0, 4)?;
+    run_ties(rt)?;
     let mut a = recording(3, 1);
     let b = recording(5, 2);
-    run_roomy(&a, &b, 4, 8, 12);
-    run_roomy(&a, &b, 4, 8, 11);
-    run_roomy(&a, &b, 3, 8, 20000);
+    run_roomy(rt, &a, &b, 4, 8, 12)?;
+    run_roomy(rt, &a, &b, 4, 8, 11)?;
+    run_roomy(rt, &a, &b, 3, 8, 20000)?;
     a[4] = 1000001;
-    run_roomy(&a, &b, 4, 8, 20000);
+    run_roomy(rt, &a, &b, 4, 8, 20000)
 }
 
 // ---- lengths, starts and recordings at the ends
 
-fn run_starts(length: usize) {
+fn run_starts(rt: &impl Print, length: usize) -> io::Result<()> {
     let a = [1i32; 8];
     let b = [2i32; 9];
-    run_roomy(&a, &b, 0, length, 20000);
-    run_roomy(&a, &b, 7, length, 20000);
-    run_roomy(&a, &b, 8, length, 0);
-    run_roomy(&a, &b, 18446744073709551615, length, 20000);
-    run_roomy(&a[0..0], &b, 0, length, 20000);
-    run_query(length);
+    run_roomy(rt, &a, &b, 0, length, 20000)?;
+    run_roomy(rt, &a, &b, 7, length, 20000)?;
+    run_roomy(rt, &a, &b, 8, length, 0)?;
+    run_roomy(rt, &a, &b, 18446744073709551615, length, 20000)?;
+    run_roomy(rt, &a[0..0], &b, 0, length, 20000)?;
+    run_query(rt, length)
 }
 
 // A length, and the lengths below it and above it.
-fn run_queries_near(length: usize) {
+fn run_queries_near(rt: &impl Print, length: usize) -> io::Result<()> {
     let near = at_most(4096, length);
     if near > 0 {
-        run_query(near - 1);
-        run_query(near);
-        run_query(near + 1);
+        run_query(rt, near - 1)?;
+        run_query(rt, near)?;
+        run_query(rt, near + 1)?;
     }
+    Ok(())
 }
 
 // ---- all of them, part by part and turn by turn
 
-#[derive(Drop)]
+#[derive(Clone, Copy)]
 enum Part {
     Kinds,
     Refusals,
@@ -358,28 +380,30 @@ enum Part {
 }
 
 // A kind and one of 11 lengths; two refusals; a length; a power of 2 up to 4096.
-fn run_turn(part: Part, n: usize) {
+fn run_turn(rt: &impl Print, part: Part, n: usize) -> io::Result<()> {
     match part {
-        Part::Kinds => run_kind(n / 11 % 8, n % 11),
-        Part::Refusals => run_refusals(n / 10, n % 10),
-        Part::Starts => run_starts(n),
-        Part::Queries => run_queries_near(1 << (n % 13)),
+        Part::Kinds => run_kind(rt, n / 11 % 8, n % 11),
+        Part::Refusals => run_refusals(rt, n / 10, n % 10),
+        Part::Starts => run_starts(rt, n),
+        Part::Queries => run_queries_near(rt, 1 << (n % 13)),
     }
 }
 
-fn run_part(part: Part, turns: usize) {
+fn run_part(rt: &impl Print, part: Part, turns: usize) -> io::Result<()> {
     for n in 0..turns {
-        run_turn(part, n);
+        run_turn(rt, part, n)?;
     }
+    Ok(())
 }
 
-fn main() {
-    run_part(Part::Kinds, 88);
-    run_part(Part::Refusals, 100);
-    run_blocks_to_try();
-    run_part(Part::Starts, 10);
-    run_starts(1024);
-    run_starts(2048);
-    run_starts(18446744073709551615);
-    run_part(Part::Queries, 13);
+fn main(rt: HostRuntime) -> io::Result<()> {
+    let rt = &rt;
+    run_part(rt, Part::Kinds, 88)?;
+    run_part(rt, Part::Refusals, 100)?;
+    run_blocks_to_try(rt)?;
+    run_part(rt, Part::Starts, 10)?;
+    run_starts(rt, 1024)?;
+    run_starts(rt, 2048)?;
+    run_starts(rt, 18446744073709551615)?;
+    run_part(rt, Part::Queries, 13)
 }

@@ -4,21 +4,15 @@
 ghost use Rattle.std.specs.Prelude.{◌≤◌, ◌<◌, nat_abs};
 ghost use Rattle.lengths.specs.Block.{largest_sample};
 
-use libc::STDOUT_FILENO;
+use std::io;
 use whole::size_of_small;
 
-pub fn write_count(value: u64) {
-    io::write_all(STDOUT_FILENO, b" ");
-    io::print_decimal(STDOUT_FILENO, value);
+pub fn write_count(rt: &impl Print, value: u64) -> io::Result<()> {
+    print!(rt; " {value}")
 }
 
-pub fn write_number(value: i32) {
-    if value < 0 {
-        io::write_all(STDOUT_FILENO, b" -");
-    } else {
-        io::write_all(STDOUT_FILENO, b" ");
-    }
-    io::print_decimal(STDOUT_FILENO, size_of_small(value));
+pub fn write_number(rt: &impl Print, value: i32) -> io::Result<()> {
+    print!(rt; " {value}")
 }
 
 const PRIME: u64 = 4294967291;
@@ -33,18 +27,19 @@ pub fn digested(digest: u64, word: i32) -> u64
 }
 
 // A short row word by word, a long one as a digest.
-pub fn write_words(words: &[i32]) {
+pub fn write_words(rt: &impl Print, words: &[i32]) -> io::Result<()> {
     let mut digest = 0;
     for i in 0..words.len() {
         let word = words[i];
         digest = digested(digest, word);
         if words.len() <= 20 {
-            write_number(word);
+            write_number(rt, word)?;
         }
     }
     if words.len() > 20 {
-        write_count(digest);
+        write_count(rt, digest)?;
     }
+    Ok(())
 }
 
 // A sample from a number: -1000000 to 1000000.

@@ -11,18 +11,18 @@ use Rattle.inverse.proofs.inverse_dct.Statement.{statement}
 use Rattle.inverse.proofs.inverse_dct.Tie as tie
 
 -- behind the tests of a stored block its length is at most 1,024, and so many coefficients are stored
-short : (c : tie.Else-values-length) → c.before.before.before.before.args.length ≤ 1024
+short : (c : tie.Else-values-length) → c.args.length ≤ 1024
 short c = length_le _ (search (rules, length_ok))
 
-reach : (c : tie.Else-values-length) → let a = c.before.before.before.before.args in a.length ≤ length a.coefficients.now
+reach : (c : tie.Else-values-length) → let a = c.args in a.length ≤ length a.coefficients.now
 reach c = search (rules, enough)
 
-limit_is : (c : tie.Else-values-length) → let n = c.before.before.before.before.args.length in n * 1000000 + n ≡ largest_coefficient n
+limit_is : (c : tie.Else-values-length) → let n = c.args.length in n * 1000000 + n ≡ largest_coefficient n
 limit_is c = omega arith
 
-is_accepted : (c : tie.In_default-first_beyond) → let a = c.before.before.before.before.before.before.before.args in
+is_accepted : (c : tie.In_default-first_beyond) → let a = c.args in
     Accepted a.coefficients.now a.values.now a.length
-is_accepted c = search (rules, all_within, limit_is c.before.before.before)
+is_accepted c = search (rules, all_within, limit_is c.before.before)
 
 pub inverse_dct_spec : {M : Type 1} → statement M
 inverse_dct_spec =
@@ -38,8 +38,8 @@ inverse_dct_spec =
     (λ c. record { fits = omega (arith, short c) })  -- overflow_cast-limit
     (λ c κs. omega (arith, short c, reach c))  -- first_beyond-requires
     (λ c. search rules)  -- enum-known-first-beyond
-    (λ c. search (rules, beyond_limit, limit_is c.before.before.before.before))  -- returns-in-At
+    (λ c. search (rules, beyond_limit, limit_is c.before.before))  -- returns-in-At
     (λ c. search rules)  -- enum_told-in_default-first_beyond
     (λ c κs. let a = is_accepted c.before in (a.stored, a.room))  -- put_values-requires
     (λ c. search rules)  -- shape_of-values
-    (λ c. (is_accepted c.before.before.before).writes c.before.put_values.ensures))  -- returns
+    (λ c. (is_accepted c.before.before.before).writes c.put_values.ensures))  -- returns

@@ -1,5 +1,6 @@
 -- `little_endian::signed_at` meets its contract. Assumes nothing.
 use mathlib.Core.Path.{◌∙◌, ap}
+use mir.Syntax.{w32}
 use mir.Facts.{to_z-of_z}
 use borrow.Author.Rules.{rules, sfits_of}
 use Rattle.little_endian.specs.Numbers.{signed}
@@ -12,4 +13,4 @@ signed_at_spec =
     (tie.spec
     (λ c κs. search rules)  -- unsigned_at-requires
     (λ c κs. search rules)  -- signed_of-requires
-    (λ c. to_z-of_z (sfits_of c.Signed-of.type_inv) ∙ c.Signed-of.ensures ∙ ap signed c.before.unsigned_at.ensures))  -- returns
+    (λ c. to_z-of_z {w = w32} (sfits_of c.signed_of.type_inv) ∙ c.signed_of.ensures ∙ ap signed c.before.unsigned_at.ensures))  -- returns

@@ -8,12 +8,10 @@ use Rattle.pages.proofs.fill_page.Statement.{statement}
 use Rattle.pages.proofs.fill_page.Tie as tie
 
 -- behind the tests of a stored spectrum
-enough_at : (c : tie.In_default) → let a = c.before.before.before.before.before.args in
+enough_at : (c : tie.In_default) → let a = c.args in
     (a.length / 2 + 1 ≤ 513) × (a.length / 2 + 1 ≤ length a.cosine.now) × (a.length / 2 + 1 ≤ length a.sine.now)
 enough_at c =
-    let t = c.before.before in
-    let a = t.before.before.before.args in
-    enough a.cosine.now a.sine.now _ _ t.before.shorter.ensures t.test_stored-tested.ensures c.enum_told-1.given.1
+    enough c.args.cosine.now c.args.sine.now _ _ c.shorter.ensures c.test_stored-tested.ensures c.in_default.is
 
 pub fill_page_spec : {M : Type 1} → statement M
 fill_page_spec =

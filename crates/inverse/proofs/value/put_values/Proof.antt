@@ -25,11 +25,11 @@ decreases-loop coefficients n values₀ wave i₀ values i = n / 2 - i
 -- the values that a turn stores
 near : (c : tie.After-struct_told-in-loop-i-1 invariant-loop decreases-loop) → let t = c.before.before in
     to_z w32 (of_z w32 t.two_values-two.result.near) ≡ t.two_values-two.result.near
-near c = to_z-of_z (sfits_of c.before.struct_told-1.given.0.1)
+near c = to_z-of_z {w = w32} (sfits_of c.before.struct_told-1.given.0.1)
 
 far : (c : tie.After-struct_told-in-loop-i-1 invariant-loop decreases-loop) → let t = c.before.before in
     to_z w32 (of_z w32 t.two_values-two.result.far) ≡ t.two_values-two.result.far
-far c = to_z-of_z (sfits_of c.struct_told-in-loop-i-1.given.1.0.1)
+far c = to_z-of_z {w = w32} (sfits_of c.struct_told-in-loop-i-1.given.1.0.1)
 
 loop_again : tie.Need-loop-i-preserved invariant-loop decreases-loop
 loop_again c =
@@ -50,7 +50,7 @@ put_values_spec =
     (λ c. search rules)  -- shared-slice-copy-out-values
     (λ c. search rules)  -- slice-set-from-values
     (λ c. search rules)  -- shape_of-values-then-n-eq1
-    (λ c. rw c.before.if-n-eq1.true (written_one (omega arith) (to_z-of_z (sfits_of c.c-1.given) ∙ sym (value_one _))))  -- returns-then-n-eq1
+    (λ c. rw c.before.if-n-eq1.true (written_one (omega arith) (to_z-of_z {w = w32} (sfits_of c.c-1.given) ∙ sym (value_one _))))  -- returns-then-n-eq1
     (λ c κs. search rules)  -- quarter_wave-wave-requires
     (λ c. search (rules, ends_none))  -- loop-holds
     (λ c κs. (

@@ -23,13 +23,13 @@ module _ (c : tie.After-account-3-1) where
 
   -- the words with both rows of sums
   both : BothAdded start.args.length start.args.cosine.now start.args.sine.now
-      start.args.account.now second.add_sums2.last.0
+      start.args.account.now second.add_sums-2.new.account
   both = both_added start.requires.0 start.requires.1 first.add_sums.ensures second.add_sums-2.ensures
 
-  read : to_z w64 (of_z w64 (word second.add_sums2.last.0 0)) ≡ word second.add_sums2.last.0 0
-  read = to_z-of_z (sfits_of c.account-3-1.given)
+  read : to_z w64 (of_z w64 (word second.add_sums-2.new.account 0)) ≡ word second.add_sums-2.new.account 0
+  read = to_z-of_z {w = w64} (sfits_of c.account-3-1.given)
 
-  fits : SFits w64 (word second.add_sums2.last.0 0 +ℤ pos 1)
+  fits : SFits w64 (word second.add_sums-2.new.account 0 +ℤ pos 1)
   fits = number_fits both c.account-3-1.given start.requires.4
 
 pub add_block_spec : {M : Type 1} → statement M
@@ -43,4 +43,4 @@ add_block_spec =
     (λ c. rw (read c) (fits c))  -- overflow_add-account
     (λ c. search rules)  -- bounds-account-0
     (λ c. length-set (second c).add_sums-2.new.account 0 _ ∙ (both c).len)  -- shape_of-account
-    (λ c. block_added (both c) (rw (read c) (to_z-of_z (fits c)))))  -- returns
+    (λ c. block_added (both c) (rw (read c) (to_z-of_z {w = w64} (fits c)))))  -- returns

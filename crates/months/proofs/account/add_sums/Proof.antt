@@ -3,6 +3,7 @@ use mathlib.Core.Path.{ap₂, ◌∙◌}
 use Prim.Native.Nat.{◌+◌, ◌-◌, ◌≤◌}
 use native.Mathlib.Omega.{arith}
 use lib.IntN.{pos}
+use mir.Syntax.{w32, w64}
 use mir.Facts.{to_z-of_z}
 use borrow.Author.Rules.{rules, sfits_of}
 use Rattle.whole.proofs.Words.{held}
@@ -27,8 +28,8 @@ loop_again c =
       omega arith,
       ends_front p (omega arith)
           (held c.added.type_inv (c.added.ensures ∙ ap₂ plus
-          (to_z-of_z (sfits_of a.added-arg-1.given) ∙ p.between t.loop-k.k (omega arith) (omega arith))
-          (to_z-of_z (sfits_of c.before.added-arg-in-loop-k-1.given)))).is,
+          (to_z-of_z {w = w64} (sfits_of a.added-arg-1.given) ∙ p.between t.loop-k.k (omega arith) (omega arith))
+          (to_z-of_z {w = w32} (sfits_of c.before.added-arg-in-loop-k-1.given)))).is,
     )
 
 pub add_sums_spec : {M : Type 1} → statement M

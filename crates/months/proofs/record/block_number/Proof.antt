@@ -23,9 +23,9 @@ block_number_spec =
     (tie.spec
     (λ c κs. search rules)  -- is_unknown-requires
     (λ c. no_number c.before.before.args.party _ (unknown c))  -- returns-then-is_unknown
-    (λ c κs. (c.account_of-arg-1.given.0, known c.before))  -- account_of-requires
+    (λ c κs. (c.account_of-arg-1.given, known c.before))  -- account_of-requires
     (λ c κs. let arg = c.before in
-    ap length c.account_of.ensures ∙ account_length _ _ arg.account_of-arg-1.given.0 (known arg.before))  -- block-number-requires
+    ap length c.account_of.ensures ∙ account_length _ _ arg.account_of-arg-1.given (known arg.before))  -- block-number-requires
     (λ c. let of = c.before in
     number_told (known of.before.before)
     (held c.block_number.type_inv (c.block_number.ensures ∙ ap block_number of.account_of.ensures)).is))  -- returns-2

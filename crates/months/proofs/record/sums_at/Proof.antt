@@ -38,9 +38,9 @@ sums_at_spec =
     (λ c. let e = c.before.before.before in
     beyond e.before.before.args.party _ _ (known e) (some c.before)
     (rw c.before.before.length_of-length.ensures at c.if-length-k.true))  -- returns-3
-    (λ c κs. (c.account_of-arg-1.given.0, known c.before.before.before.before))  -- account_of-requires
+    (λ c κs. (c.account_of-arg-1.given, known c.before.before.before.before))  -- account_of-requires
     (λ c κs. let arg = c.before in (
-      ap length c.account_of.ensures ∙ account_length _ _ arg.account_of-arg-1.given.0 (known arg.before.before.before.before),
+      ap length c.account_of.ensures ∙ account_length _ _ arg.account_of-arg-1.given (known arg.before.before.before.before),
       omega (arith, yielded arg.before, length_small arg.before.before.before.before.before.before.args.month.now),
     ))  -- sums_at-requires
     (λ c. let of = c.before in

@@ -2,6 +2,7 @@
 use mathlib.Core.Path.{◌≡◌, ap, ◌∙◌}
 use Prim.Native.Nat.{◌-◌, ◌≤◌}
 use native.Mathlib.Omega.{arith}
+use mir.Syntax.{w32}
 use mir.Facts.{to_z-of_z}
 use borrow.Author.Rules.{rules, sfits_of}
 use Rattle.lengths.specs.Block.{largest_sample}
@@ -20,7 +21,7 @@ decreases-loop file start m looks₀ i₀ looks i = m - i
 -- what a turn's look tells of its sample
 looked : (c : tie.After-in_range invariant-loop decreases-loop) → let args = c.before.before.before.before.before.args in
     c.in_range.result ≡ in_range (samples_at args.file.now args.start c.before.before.before.loop-i.i)
-looked c = c.in_range.ensures ∙ ap in_range (to_z-of_z (sfits_of c.before.signed_at-x.type_inv) ∙ c.before.signed_at-x.ensures)
+looked c = c.in_range.ensures ∙ ap in_range (to_z-of_z {w = w32} (sfits_of c.before.signed_at-x.type_inv) ∙ c.before.signed_at-x.ensures)
 
 pub first_out_spec : {M : Type 1} → statement M
 first_out_spec =

@@ -14,10 +14,7 @@ counted c = good_count _ (sym c.before.bad_count.ensures ∙ c.if-bad_count.fals
 
 -- behind the last test, where less is at hand to search than behind the stores
 is_accepted : (c : tie.In_default-first_out) →
-    let n = c.before.before.before.before.before.before.before.before.before.before in
-    let m = n.before.before.before.before in
-    let s = m.before.before.before.args in
-    Readable s.file.now s.a.now s.b.now m.unsigned_at-m.result n.unsigned_at-n.result
+    Readable c.args.file.now c.args.a.now c.args.b.now c.unsigned_at-m.result c.unsigned_at-n.result
 is_accepted c = search (rules, all_in_range)
 
 returns-8 : tie.Need-returns

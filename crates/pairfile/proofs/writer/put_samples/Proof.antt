@@ -28,4 +28,4 @@ put_samples_spec =
     (λ c. search rules)  -- loop-less
     (λ c. search (rules, sample_more))  -- loop-again
     (λ c. search rules)  -- shape_of-file
-    (λ c. search (rules, all_samples)))  -- returns
+    (λ c. all_samples _ c.before.loop-i.invariant.1 (omega arith)))  -- returns

@@ -15,8 +15,7 @@ counted c = good_count _ (sym c.before.bad_count.ensures ∙ c.if-bad_count.fals
 
 -- behind the last test, where less is at hand to search than behind the stores
 is_writable : (c : tie.Else-file-m) →
-    let s = c.before.before.before.before.before.before.before.before.before.before.before.before.before.args in
-    Writable s.a.now s.b.now s.length s.file.now
+    Writable c.args.a.now c.args.b.now c.args.length c.args.file.now
 is_writable c = search (rules, all_passed)
 
 pub write_spec : {M : Type 1} → statement M
@@ -36,8 +35,8 @@ write_spec =
     (λ c. search rules)  -- enum-known-first-out-2
     (λ c. search (rules, b_out))  -- returns-in-At-first_out
     (λ c. search rules)  -- enum_told-in_default-first_out
-    (λ c. record { fits = omega (arith, counted c.before.before.before.before.before.before.before.before.before) })  -- overflow_mul-m
-    (λ c. record { fits = omega (arith, counted c.before.before.before.before.before.before.before.before.before) })  -- overflow_add-m
+    (λ c. record { fits = omega (arith, counted c.before.before.before.before.before.before.before) })  -- overflow_mul-m
+    (λ c. record { fits = omega (arith, counted c.before.before.before.before.before.before.before) })  -- overflow_add-m
     (λ c. search (rules, too_short))  -- returns-then-file-m
     (λ c κs. (is_writable c.before).ready)  -- put_file-requires
     (λ c. search rules)  -- shape_of-file

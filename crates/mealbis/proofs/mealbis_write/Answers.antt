@@ -1,0 +1,10 @@
+-- `mealbis::mealbis_write` meets its contract: each arm tells what the definitions have for its answer. Assumes nothing.
+use Rattle.std.proofs.Common.{refl}
+use Rattle.mealbis.proofs.Telling.{told}
+use Rattle.mealbis.proofs.mealbis_write.Goals as goal
+
+pub returns-in-Refused : goal.returns-in-Refused
+returns-in-Refused c = told c.write.ensures c.in-Refused.is c.number_of.ensures (rw c.place_of.ensures)
+
+pub returns-in-Bytes : goal.returns-in-Bytes
+returns-in-Bytes c = told c.write.ensures c.in-Bytes.is refl refl
