@@ -30,7 +30,8 @@ abbrev pub spent_and_place : Answer → List ℕ
 spent_and_place a = (spent a).products ∷ (spent a).sums ∷ (spent a).largest_rest ∷ place (verdict_of a) ∷ []
 
 abbrev pub SpectrumTold : List ℤ → (start N allowance : ℕ) → (lent lent' : Buffers) → List ℕ → ℕ → Type 0
-SpectrumTold recording start N allowance lent lent' = Told (SpectrumPromise recording start N allowance lent lent') verdict_of spent_and_place
+SpectrumTold recording start N allowance lent lent' = Told (SpectrumPromise recording start N allowance lent lent')
+    verdict_of spent_and_place
 
 abbrev pub CosineTold : List ℤ → (start N allowance : ℕ) → (coefficients scratch coefficients' scratch' : List ℤ) → List ℕ → ℕ → Type 0
 CosineTold recording start N allowance coefficients scratch coefficients' scratch' =
