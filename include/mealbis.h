@@ -138,7 +138,8 @@
  * alone. Measured at length 1,024, in bytes: mealbis_cosine 7,344, mealbis_month_add 7,248,
  * mealbis_mark 7,232, mealbis_spectrum 7,168, mealbis_pair 7,088, mealbis_inverse_dct 4,184,
  * mealbis_page 168, mealbis_write 112, mealbis_counts 56, mealbis_read 56, the other calls on a month
- * 40 at most; shorter blocks take no more.
+ * 40 at most; shorter blocks take no more. (The figures are of the archive that the kit before,
+ * rattle-kit-5b-plain, built.)
  * The proof does not speak of the stack: allow 8 KiB. tests/run_self_check.py measures it.
  */
 #ifndef MEALBIS_H

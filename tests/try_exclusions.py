@@ -3,8 +3,8 @@
 
     python3 tests/try_exclusions.py [CRATE ..]
 
-Run by hand, not in the gate: each law takes a check of its crate, some seconds. It works on a copy of the repository, target/ included, so that
-what is proved there is not proved again. The last line is 'N passed, M failed'.
+Run by hand, not in the gate: each law takes a check of its crate, some seconds. It works on a copy of the repository, the folders
+crates/NAME/out included, so that what is proved there is not proved again. The last line is 'N passed, M failed'.
 """
 import re
 import shutil
@@ -18,37 +18,37 @@ ROOT = Path(__file__).resolve().parent.parent
 # for each crate: the file of proofs whose laws are tried, and the right value of each law, in the order of the statements
 RIGHT = {
     "refusals": ("Exclusion", {
-        "goesOn": "At 1 1", "lookNotTallied": "At 1 1", "placeInBlock": "At 1 1", "noneFound": "At 1 1",
-        "allOutOfRange": "pos 1000001"}),
+        "goes_on": "At 1 1", "look_not_tallied": "At 1 1", "place_in_block": "At 1 1", "none_found": "At 1 1",
+        "all_out_of_range": "pos 1000001"}),
     "spectra": ("Excluded", {
-        "halfLeftOut": "pos 1", "roundedApart": "pos 1", "directSums": "negsuc 0", "countsOfTwo": "4", "firstAgain": "pos 1",
-        "refusedByFive": "0", "refusedByOne": "0", "restForgotten": "314491699", "scratchLeft": "pos 0", "limitRefused": "0",
-        "lowAccepted": "6", "placeInBlock": "3", "placeLost": "1", "fourFirst": "3",
-        "signLeftOut": "negsuc 999999", "storedRead": "negsuc 1", "formAtOne": "0", "zeros": "pos 10", "untouched": "pos 10",
+        "half_left_out": "pos 1", "rounded_apart": "pos 1", "direct_sums": "negsuc 0", "counts_of_two": "4", "first_again": "pos 1",
+        "refused_by_five": "0", "refused_by_one": "0", "rest_forgotten": "314491699", "scratch_left": "pos 0", "limit_refused": "0",
+        "low_accepted": "6", "place_in_block": "3", "place_lost": "1", "four_first": "3",
+        "sign_left_out": "negsuc 999999", "stored_read": "negsuc 1", "form_at_one": "0", "zeros": "pos 10", "untouched": "pos 10",
         "exchanged": "pos 0", "touched": "pos 9",
-        "signTurned": "pos 2", "exchanged 2": "pos 3", "formAtOne 2": "0", "bFirst": "1",
-        "countsOfTwo 2": "4", "formAtOne 3": "0", "anyLength": "1",
-        "clippedFirst": "1", "sineOverlooked": "3", "lastOverlooked": "3", "firstCounted": "1", "levelPlain": "2", "beforeBlock": "3",
-        "twelveFirst": "1", "toldAsSix": "12", "scratchCleared": "pos 9"}),
+        "sign_turned": "pos 2", "exchanged 2": "pos 3", "form_at_one 2": "0", "b_first": "1",
+        "counts_of_two 2": "4", "form_at_one 3": "0", "any_length": "1",
+        "clipped_first": "1", "sine_overlooked": "3", "last_overlooked": "3", "first_counted": "1", "level_plain": "2", "before_block": "3",
+        "twelve_first": "1", "told_as_six": "12", "scratch_cleared": "pos 9"}),
     "months": ("Excluded", {
-        "badBegun": "1", "oldUsable": "0", "oldSums": "pos 0", "onlyOne": "pos 0", "unmarked": "pos 2621440008",
-        "refusedCounted": "pos 0", "notCounted": "pos 1", "lastLeftOut": "pos 2", "countedInASum": "pos 3", "toTheSines": "pos 0",
-        "firstBlockAgain": "pos 5", "toTheOther": "pos 0", "countedThere": "pos 0", "refusedThere": "pos 0",
-        "threeAsTwo": "15", "zeroAsOne": "15", "thirteenFirst": "15", "fourteenFirst": "13", "notAlwaysOther": "13",
-        "oneMore": "14", "byBoth": "0", "byTheOther": "0", "earlierGoesOn": "13", "earlierWritten": "pos 7",
-        "numberOfOther": "pos 1", "numberOfThree": "15", "numberOfSum": "pos 1",
-        "exchanged": "pos 0", "lastRefused": "0", "oneMore 2": "16", "sixteenFirst": "15",
-        "anyLength": "0", "lengthLost": "2", "earlierLength": "0"}),
+        "bad_begun": "1", "old_usable": "0", "old_sums": "pos 0", "only_one": "pos 0", "unmarked": "pos 2621440008",
+        "refused_counted": "pos 0", "not_counted": "pos 1", "last_left_out": "pos 2", "counted_in_a_sum": "pos 3", "to_the_sines": "pos 0",
+        "first_block_again": "pos 5", "to_the_other": "pos 0", "counted_there": "pos 0", "refused_there": "pos 0",
+        "three_as_two": "15", "zero_as_one": "15", "thirteen_first": "15", "fourteen_first": "13", "not_always_other": "13",
+        "one_more": "14", "by_both": "0", "by_the_other": "0", "earlier_goes_on": "13", "earlier_written": "pos 7",
+        "number_of_other": "pos 1", "number_of_three": "15", "number_of_sum": "pos 1",
+        "exchanged": "pos 0", "last_refused": "0", "one_more 2": "16", "sixteen_first": "15",
+        "any_length": "0", "length_lost": "2", "earlier_length": "0"}),
     "inverse": ("Excluded", {
-        "firstTwice": "pos 1", "halfLeftOut": "pos 1", "roundedTwice": "pos 0", "beyondCleared": "pos 9", "limitAMillion": "0",
-        "placeFromOne": "0", "placeLost": "1", "threeFirst": "2", "toldAsSix": "10"}),
+        "first_twice": "pos 1", "half_left_out": "pos 1", "rounded_twice": "pos 0", "beyond_cleared": "pos 9", "limit_a_million": "0",
+        "place_from_one": "0", "place_lost": "1", "three_first": "2", "told_as_six": "10"}),
     "pairfile": ("Excluded", {
-        "bFirst": "pos 3", "sizesExchanged": "1", "bUnchecked": "6", "aWritten": "pos 9", "oneBeforeNine": "9", "mostRefused": "4097",
-        "lengthFirst": "1", "bFirst 2": "3", "byteBehind": "9", "elevenFirst": "8", "oneFirst": "11", "threeFirst": "6",
-        "bUnchecked 2": "6", "placeLost": "1", "aByteShort": "3"}),
+        "b_first": "pos 3", "sizes_exchanged": "1", "b_unchecked": "6", "a_written": "pos 9", "one_before_nine": "9", "most_refused": "4097",
+        "length_first": "1", "b_first 2": "3", "byte_behind": "9", "eleven_first": "8", "one_first": "11", "three_first": "6",
+        "b_unchecked 2": "6", "place_lost": "1", "a_byte_short": "3"}),
     "pages": ("Excluded", {
-        "capital": "107", "noLineFeed": "10", "fromOne": "48", "leftAligned": "32", "columnOfEleven": "32", "exchanged": "55",
-        "linesLeftOut": "62", "byteBehind": "9", "linesOfThirty": "3", "headingPut": "9", "threeFirst": "2", "sineNotCounted": "2"}),
+        "capital": "107", "no_line_feed": "10", "from_one": "48", "left_aligned": "32", "column_of_eleven": "32", "exchanged": "55",
+        "lines_left_out": "62", "byte_behind": "9", "lines_of_thirty": "3", "heading_put": "9", "three_first": "2", "sine_not_counted": "2"}),
 }
 
 
@@ -66,7 +66,7 @@ def with_right(line, right):
     """The statement with the right value: the last word of a law, or what stands before → ⊥."""
     if right.startswith("At"):
         return re.sub(r"\((At \d \d|None 2)\)", "(%s)" % right, line)
-    if "badCount" in line:
+    if "bad_count" in line:
         return line.replace("4096", right)
     if line.rstrip().endswith("→ ⊥"):
         if "OnePass" in line:
@@ -93,7 +93,7 @@ def try_crate(copy, crate):
             wrong.append("%s: %s: nothing to replace" % (crate, law))
             continue
         statements.write_text("\n".join(lines))
-        said = subprocess.run(["rt", "dev", crate], cwd=copy, capture_output=True, text=True)
+        said = subprocess.run(["rt", "check"], cwd=copy / "crates" / crate, capture_output=True, text=True)
         at = re.search(r"proofs/%s\.antt:(\d+):" % name, said.stdout + said.stderr)
         place = at and "\n".join(proofs[max(0, int(at[1]) - 3):int(at[1])])
         if said.returncode and place and re.search(r"\b%s =" % law.split()[0], place):

@@ -143,7 +143,8 @@ module _ {n at : ℕ} {x : Samples} {w v : List ℤ} {spent total : Tally} (r : 
   sine_sized k h = rw (made.sine_words k h) (omega (arith, sine_small r k h))
 
 pub spectrum_made : {n at : ℕ} {x : Samples} {w v w' cosine cosine' sine sine' : List ℤ} {total : Tally} → DftsMade n x at w v none total
-    → Written 0 (n / 2 + 1) (words_from v at) cosine cosine' → Written 0 (n / 2 + 1) (words_from v (at + n / 2 + 1)) sine sine' → Cleared v w'
+    → Written 0 (n / 2 + 1) (words_from v at) cosine cosine' → Written 0 (n / 2 + 1) (words_from v (at + n / 2 + 1)) sine sine'
+    → Cleared v w'
     → SpectrumMade n (spectrum (level n) x) cosine sine w cosine' sine' w' total
 spectrum_made m c s e = record {
   cosine_words = written_same c refl m.cosine_words;

@@ -132,7 +132,8 @@ zeros n = pos 0
 few : ℕ → Bool
 few L =
     both (leb ((cosine_dft L zeros).products + (cosine_dft L zeros).sums) (2 ^ 16))
-    (both (leb ((sine_dft L zeros).products + (sine_dft L zeros).sums) (2 ^ 16)) (leb ((dct L zeros).products + (dct L zeros).sums) (2 ^ 16)))
+    (both (leb ((sine_dft L zeros).products + (sine_dft L zeros).sums) (2 ^ 16))
+    (leb ((dct L zeros).products + (dct L zeros).sums) (2 ^ 16)))
 
 few_all : T (below 11 few)
 unfolding both below few dct_by cosine_dft dct

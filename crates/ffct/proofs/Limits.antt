@@ -13,7 +13,7 @@ use Rattle.circle.specs.Circle.{B}
 use Rattle.words.specs.Words.{Samples}
 use Rattle.lengths.specs.Block.{top_level, largest_sample, AcceptedBlock}
 use Rattle.ffct.specs.Exact.{Limit, eighth, quarter_of_next, quarter, Within}
-use Rattle.ffct.specs.Transforms.{cosine_beyond, sine_beyond, cosine_dft, sine_dft, dct, spectrum, pair}
+use Rattle.ffct.specs.Transforms.{cosine_beyond, sine_beyond, cosine_dft, sine_dft, spectrum, pair}
 use Rattle.ffct.specs.Limits.{Limits, PairLimits}
 use Rattle.lengths.proofs.Lengths.{len, pow_len, per, len_per}
 use Rattle.ffct.proofs.Steps.{cosine_low, sine_low}

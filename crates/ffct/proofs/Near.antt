@@ -306,7 +306,8 @@ dft_near (suc (suc L)) w x X q b k h = (
       (near_add
       (sine_beyond_lem (2 * w) (len L) (evens x) _ k _ (omega arith) (omega arith)
       (λ j l. (dft_near (suc L) (2 * w) (evens x) X (omega arith) evens_within j (omega arith)).1))
-      (dct_beyond_lem (4 * w) (len L) (folded_differences (4 * len L) x) _ (apart (len L) k) _ (apart_le (len L) k (omega arith)) (omega arith)
+      (dct_beyond_lem (4 * w) (len L) (folded_differences (4 * len L) x) _ (apart (len L) k) _ (apart_le (len L) k
+      (omega arith)) (omega arith)
       (dct_near_of L (dft_near L) (4 * w) (folded_differences (4 * len L) x) (2 * X) (omega arith)
       (folded_differences_within (len L) x b)))),
 )

@@ -324,6 +324,7 @@ module _ (L : ℕ) (x : Samples) (c : ℕ → ℤ) (n : ℕ) {X e : ℕ} (l : L 
       shared : (b m e n x a : ℕ) → m * (e * b) + n * (x * (n * (2 * (a * b)))) ≤ b * (m * e + n * (x * (n * (2 * a))))
       shared b m e n x a = omega arith
 
-pub inverts : (L : ℕ) (x : Samples) (X n : ℕ) → L ≤ top_level → n < 2 ^ L → ((i : ℕ) → i < 2 ^ L → nat_abs (x i) ≤ X) → Inverts (2 ^ L) x X n
+pub inverts : (L : ℕ) (x : Samples) (X n : ℕ) → L ≤ top_level → n < 2 ^ L → ((i : ℕ) → i < 2 ^ L → nat_abs (x i) ≤ X)
+    → Inverts (2 ^ L) x X n
 unfolding int
 inverts L x X n l hn b = record { near = within_size (inverse_near L x n l hn (λ i h. size_within (x i) (b i h))) }

@@ -167,7 +167,8 @@ module _ (L : ℕ) (x : Samples) where
   abbrev moved : Samples
   moved = rearranged (2 * len L) x
 
-  pub dct_products : (dct (suc L) x).products ≡ (cosine_dft (suc L) moved).products + (sine_dft (suc L) moved).products + (3 * (len L - 1) + 1)
+  pub dct_products : (dct (suc L) x).products ≡ (cosine_dft (suc L) moved).products + (sine_dft (suc L) moved).products
+      + (3 * (len L - 1) + 1)
   unfolding dct dct_by
   dct_products = rw (pow_len (suc L)) (omega arith)
 

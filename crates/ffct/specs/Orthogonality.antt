@@ -24,6 +24,7 @@ pub record Orthogonal (N m n : ℕ) : Type 0 where
 unfoldable pub exact_inverse : ℕ → (ℕ → ℤ) → ℕ → ℤ
 exact_inverse N E n = E 0 *ℤ pos B +ℤ pos 2 *ℤ sum (N - 1) (λ i. E (i + 1) *ℤ K ((2 * n + 1) * (i + 1) * 1024 / N))
 
--- of the exact sums of a block whose samples are at most X in size, at n: it is N-as-B² times the sample x(n), within N-as-X times that error
+-- of the exact sums of a block whose samples are at most X in size, at n: it is N-as-B² times the sample x(n),
+-- within N-as-X times that error
 pub record Inverts (N : ℕ) (x : Samples) (X n : ℕ) : Type 0 where
   pub near : nat_abs (exact_inverse N (exact_dct N x) n -ℤ x n *ℤ pos (N * (B * B))) ≤ N * (X * orthogonal_error N)

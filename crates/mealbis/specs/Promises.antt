@@ -1,8 +1,6 @@
 -- What the exported functions promise, for every input: the promise of the call that they make, and what C is told of its answer. A buffer
 -- or a word marked ' is one after the call.
 use Rattle.std.specs.Prelude.{List, [], ◌∷◌, ◌≡◌, ℕ, ℤ}
-use Rattle.refusals.specs.declared.refusal.Outcome.{Outcome}
-use Rattle.refusals.specs.declared.refusal.Filled.{Filled}
 use Rattle.refusals.specs.Refusals.{Verdict, place, number as number_of}
 use Rattle.refusals.specs.Answers.{outcome, filled, bytes_of}
 use Rattle.spectra.specs.declared.Answer.{Answer}
@@ -13,7 +11,6 @@ use Rattle.spectra.specs.Promises.{Buffers, PairBuffers, SpectrumPromise, Cosine
 use Rattle.months.specs.Answers.{verdict_of_number, blocks_of, verdict_of_sums, sums_of}
 use Rattle.months.specs.Promises.{Given, BeginPromise, AddPromise, NumberPromise, SumsPromise}
 use Rattle.inverse.specs.Promises.{InversePromise}
-use Rattle.pairfile.specs.declared.reader.ReadAnswer.{ReadAnswer}
 use Rattle.pairfile.specs.Answers as file
 use Rattle.pairfile.specs.Promises.{ReadPromise, WritePromise}
 use Rattle.pages.specs.Promises.{PagePromise}
@@ -33,7 +30,8 @@ abbrev pub spent_and_place : Answer → List ℕ
 spent_and_place a = (spent a).products ∷ (spent a).sums ∷ (spent a).largest_rest ∷ place (verdict_of a) ∷ []
 
 abbrev pub SpectrumTold : List ℤ → (start N allowance : ℕ) → (lent lent' : Buffers) → List ℕ → ℕ → Type 0
-SpectrumTold recording start N allowance lent lent' = Told (SpectrumPromise recording start N allowance lent lent') verdict_of spent_and_place
+SpectrumTold recording start N allowance lent lent' = Told (SpectrumPromise recording start N allowance lent lent')
+    verdict_of spent_and_place
 
 abbrev pub CosineTold : List ℤ → (start N allowance : ℕ) → (coefficients scratch coefficients' scratch' : List ℤ) → List ℕ → ℕ → Type 0
 CosineTold recording start N allowance coefficients scratch coefficients' scratch' =

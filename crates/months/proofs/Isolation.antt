@@ -96,7 +96,8 @@ module _ {p : ℕ} {g : Given} {m m' t t' : List ℤ} {l k : Buffers} {a b : Ans
   adds_alike = ⊎_elim both_accepted both_refused (accepted_or_not (verdict_of a))
 
 -- ---- reading: an answer is determined by its verdict and by what it tells
-same_number : (a b : NumberAnswer) → verdict_of_number a ≡ verdict_of_number b → (verdict_of_number a ≡ accepted → blocks_of a ≡ blocks_of b)
+same_number : (a b : NumberAnswer) → verdict_of_number a ≡ verdict_of_number b →
+    (verdict_of_number a ≡ accepted → blocks_of a ≡ blocks_of b)
     → a ≡ b
 same_number (NotTold r) (NotTold s) e f = ap NotTold (same_refusal r s e)
 same_number (NotTold r) (Blocks n) e f = absurd (refuses r e)

@@ -50,7 +50,8 @@ account_word p month k l = between_at (account_at p) account_words month k l
 -- a month is its mark and its two accounts
 module _ (month month' : List ℤ) (len : length month' ≡ length month) (mark : word month' 0 ≡ word month 0)
     (accounts : (q : ℕ) → unknown_party q ≡ false → account q month' ≡ account q month) where
-  in_account : (q : ℕ) → unknown_party q ≡ false → (k : ℕ) → k < account_words → word month' (account_at q + k) ≡ word month (account_at q + k)
+  in_account : (q : ℕ) → unknown_party q ≡ false → (k : ℕ) → k < account_words →
+      word month' (account_at q + k) ≡ word month (account_at q + k)
   in_account q g k l =
       sym (account_word q month' k l) ∙ ap (λ a. word a k) (accounts q g) ∙ account_word q month k l
 

@@ -34,7 +34,8 @@ module _ (p : ℕ) (known : unknown_party p ≡ false) where
   unfolding history_of
   held_after history held none = rw append-nil held
   held_after history held (more made keeps later) =
-      rw (← append_assoc) (held_after (history ++ cond (eqb made.party p) (block_in made.call made.seen) []) (one_more made (eqb made.party p) refl keeps held) later)
+      rw (← append_assoc) (held_after (history ++ cond (eqb made.party p) (block_in made.call made.seen) [])
+      (one_more made (eqb made.party p) refl keeps held) later)
 
 pub after_any_calls : {N : ℕ} {made : List Made} {month : List ℤ} → Run N made month → AfterAnyCalls N made month
 after_any_calls run =

@@ -53,7 +53,8 @@ module _ (p : ℕ) (g : Given) (month month' : List ℤ) (lent' : Buffers) (answ
 
 -- ---- any call of a party
 module _ {q : ℕ} {month : List ℤ} where
-  pub length_stays : {call : PartyCall} {month' : List ℤ} {seen : Seen} → Keeps q month call month' seen → length_of month' ≡ length_of month
+  pub length_stays : {call : PartyCall} {month' : List ℤ} {seen : Seen} → Keeps q month call month' seen →
+      length_of month' ≡ length_of month
   length_stays (adds g month' lent' answer p) = length_kept q g month month' lent' answer p
   length_stays (tells_number answer p) = refl
   length_stays (tells_sums k answer p) = refl

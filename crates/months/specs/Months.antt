@@ -1,6 +1,7 @@
 -- Document 02, (vi), "Month sums beside the blocks", and (viii), "Road and rail owner on one bridge": the record of a month, its length and
 -- the accounts of its parties, and when a call on a month is turned down.
-use Rattle.std.specs.Prelude.{Bool, false, not, cond, ◌||◌, ◌&&◌, List, ◌∷◌, ◌≡◌, ℕ, ◌+◌, ◌-◌, ◌*◌, ◌/◌, eqb, leb, ℤ, pos, negsuc, length, replicate, take, drop}
+use Rattle.std.specs.Prelude.{Bool, false, not, cond, ◌||◌, ◌&&◌}
+use Rattle.std.specs.Prelude.{List, ◌∷◌, ◌≡◌, ℕ, ◌+◌, ◌-◌, ◌*◌, ◌/◌, eqb, leb, ℤ, pos, negsuc, length, replicate, take, drop}
 use Rattle.words.specs.Words.{word}
 use Rattle.lengths.specs.Block.{is_length}
 use Rattle.refusals.specs.Refusals.{Verdict, refused, accepted}

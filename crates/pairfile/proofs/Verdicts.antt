@@ -141,7 +141,8 @@ module _ (file : List ℕ) (a b : List ℤ) where
           pub too_short : shortest < m → ReadPromise file a b a b (Refused ResultTooShort)
           too_short h = turned_down ResultTooShort (refl, refl) (past_9 ∙ rw (good, counted, lt-ltb _ _ h))
 
-          module _ (enough : m ≤ shortest) (of_a_lem : Pass) (found-a : OnePass largest_sample (samples_at file start_of_a) 0 m of_a_lem) where
+          module _ (enough : m ≤ shortest)
+              (of_a_lem : Pass) (found-a : OnePass largest_sample (samples_at file start_of_a) 0 m of_a_lem) where
             past_3 : file_verdict file lent ≡ first_out_in recordings 0 m accepted
             past_3 = past_9 ∙ rw (good, counted, le-ltb _ _ enough)
 

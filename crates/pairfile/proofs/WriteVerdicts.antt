@@ -35,7 +35,8 @@ pub record Passed (a b : List ℤ) (N room : ℕ) : Type 0 where
   pub fits : file_bytes (length a) ≤ room
 
 -- what the tests before the last leave
-in_range_lem : (a b : List ℤ) (N : ℕ) → bad_count (length a) ≡ false → is_length N ≡ true → AllWithin largest_sample (word a) 0 (0 + length a)
+in_range_lem : (a b : List ℤ) (N : ℕ) → bad_count (length a) ≡ false → is_length N ≡ true →
+    AllWithin largest_sample (word a) 0 (0 + length a)
     → AllWithin largest_sample (word b) 0 (0 + length a) → Sound (length a) N (word a) (word b)
 in_range_lem a b N few ok range-a range-b = record {
   some = (good_count (length a) few).0;

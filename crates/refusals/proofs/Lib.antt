@@ -4,3 +4,4 @@ pub mod Conditions
 pub mod Promises
 pub mod Calls
 pub mod Exclusion
+pub mod Symmetry

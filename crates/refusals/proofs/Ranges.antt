@@ -1,5 +1,5 @@
--- `at_most`, by the limits on both sides; and `first_beyond`, the first number beyond a limit, as a sample out of range: what it is where all
--- are within the limit, and where one is the first that is not.
+-- `at_most`, by the limits on both sides; and `first_beyond`, the first number beyond a limit, as a sample out of range: what it is where
+-- all are within the limit, and where one is the first that is not.
 -- Assumes nothing.
 use mathlib.Core.Path.{◌≡◌, refl, sym, ◌∙◌}
 use mathlib.Core.Bool.{true, false, false≢true}

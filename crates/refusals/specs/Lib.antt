@@ -4,3 +4,4 @@ pub mod Passes
 pub mod Calls
 pub mod Tests
 pub mod Exclusion
+pub mod Symmetry

@@ -75,7 +75,8 @@ counts_excluded _ = record {
 }
 
 pub mark_excluded : (lent : Buffers) (answer : MarkAnswer) → MarkExcluded lent answer
-unfolding code alternate cosine_beyond sine_beyond dct_beyond apart dct_by cosine_dft spectrum is_length level first_beyond tests all some mark
+unfolding code alternate cosine_beyond sine_beyond dct_beyond apart dct_by cosine_dft spectrum
+    is_length level first_beyond tests all some mark
 mark_excluded _ _ = record {
   clipped_first = λ p w. differ (ap mark_number (done_of p).marked) w tt;
   sine_overlooked = λ p w. differ (ap mark_number (done_of p).marked) w tt;

@@ -54,7 +54,8 @@ pub record Kind (transform : ℕ → Samples → Transform) (fold : ℕ → Samp
   products : (L : ℕ) (x : Samples) →
       (transform (suc (suc L)) x).products ≡ (transform (suc L) (evens x)).products + (dct L (fold (4 * len L) x)).products
   sums : (L : ℕ) (x : Samples) →
-      (transform (suc (suc L)) x).sums ≡ (transform (suc L) (evens x)).sums + (dct L (fold (4 * len L) x)).sums + (len L + joins (4 * len L))
+      (transform (suc (suc L)) x).sums ≡ (transform (suc L) (evens x)).sums + (dct L (fold (4 * len L) x)).sums +
+      (len L + joins (4 * len L))
   rest : (L : ℕ) (x : Samples) →
       (transform (suc (suc L)) x).largest_rest ≡ max (transform (suc L) (evens x)).largest_rest (dct L (fold (4 * len L) x)).largest_rest
 

@@ -66,7 +66,8 @@ module _ (n : ℕ) (q : 4 * (n / 4) ≡ n) (E D : ℕ → ℤ) where
 -- what a turn makes of E(i) and D(j), which it reads from `after`
 pub record JoinTurn (n at i j : ℕ) (before after : List ℤ) : Type 0 where
   pub sum : Computes ◌+ℤ◌ (of_z w64 (even_at at after i)) (of_z w64 (odd_at n at after j)) (even_at at before i) (odd_at n at before j)
-  pub difference : Computes ◌-ℤ◌ (of_z w64 (even_at at after i)) (of_z w64 (odd_at n at after j)) (even_at at before i) (odd_at n at before j)
+  pub difference : Computes ◌-ℤ◌ (of_z w64 (even_at at after i)) (of_z w64 (odd_at n at after j))
+      (even_at at before i) (odd_at n at before j)
   pub reversed : Computes ◌-ℤ◌ (of_z w64 (odd_at n at after j)) (of_z w64 (even_at at after i)) (odd_at n at before j) (even_at at before i)
 
 pub join_turn : {sums n at a c m : ℕ} {f : ℕ → ℤ} {before after : List ℤ} {spent : Tally} → JoinReady sums n at before spent

@@ -27,4 +27,17 @@ pub *ℤ-left_comm : (a b c : ℤ) → a *ℤ (b *ℤ c) ≡ b *ℤ (a *ℤ c)
 *ℤ-left_comm a b c = rw (parts a, parts b, parts c) (simp diff (omega (arith, ⊖-eq)))
 
 -- where an equation has too many products for omega (above 64) and nothing cancels: `simp expand` multiplies both sides out and sorts them
-pub ruleset expand = (*ℤ-+ℤ, +ℤ-*ℤ, *ℤ-negℤ, negℤ-*ℤ, neg_ℤ-+ℤ, neg_ℤ-neg_ℤ, +ℤ_assoc, +ℤ_comm, +ℤ-left-comm, *ℤ-assoc, *ℤ_comm, *ℤ-left_comm)
+pub ruleset expand = (
+  *ℤ-+ℤ,
+  +ℤ-*ℤ,
+  *ℤ-negℤ,
+  negℤ-*ℤ,
+  neg_ℤ-+ℤ,
+  neg_ℤ-neg_ℤ,
+  +ℤ_assoc,
+  +ℤ_comm,
+  +ℤ-left-comm,
+  *ℤ-assoc,
+  *ℤ_comm,
+  *ℤ-left_comm,
+)

@@ -38,7 +38,8 @@ by_quotient v h d m e l k = nearest_only m v _ _ (nearest_quotient m v h d e l k
 
 pub by_half : (v : ℤ) (h m : ℕ) → m ≡ 2 * h → 0 < h → shr_z (v +ℤ int h) m ≡ nearest v m
 by_half v h m e l =
-    ap (λ z. shr_z (z +ℤ int h) m) (sym (floor_one v)) ∙ ap (shr_z (shr_z v 1 +ℤ int h)) e ∙ by_quotient v h 1 m (omega (arith, e)) l (lit< tt)
+    ap (λ z. shr_z (z +ℤ int h) m) (sym (floor_one v)) ∙ ap (shr_z (shr_z v 1 +ℤ int h)) e
+    ∙ by_quotient v h 1 m (omega (arith, e)) l (lit< tt)
 
 -- ---- a multiple of m is not changed
 pub nearest_exact : (q : ℤ) (m : ℕ) → 0 < m → nearest (q *ℤ int m) m ≡ q

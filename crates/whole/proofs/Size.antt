@@ -41,6 +41,16 @@ pub ⊖-within : (p n m : ℕ) → (p - n) + (n - p) ≤ m → p ⊖ n within m
 pub within-⊖ : (p n m : ℕ) → p ⊖ n within m → (p ≤ n + m) × (n ≤ p + m)
 within-⊖ p n m h = omega (arith, ⊖-parts p n)
 
+-- a number and the same with its sign changed; the size of a difference
+pub size_neg : (z : ℤ) → nat_abs (neg_ℤ z) ≡ nat_abs z
+size_neg (pos zero) = refl
+size_neg (pos (suc n)) = refl
+size_neg (negsuc n) = refl
+
+pub size-⊖ : (p n : ℕ) → nat_abs (p ⊖ n) ≡ (p - n) + (n - p)
+size-⊖ p n = ⊎_elim (λ e. omega (arith, size_parts (p ⊖ n), ⊖-parts p n)) (λ e. omega (arith, size_parts (p ⊖ n), ⊖-parts p n))
+    (one_part (p ⊖ n))
+
 -- what omega takes once `simp diff` has done its work: numbers, and an equation, an order or a bound of differences
 pub ruleset near = (arith, ⊖-eq, ⊖-le, ⊖-lt, ⊖-within)
 

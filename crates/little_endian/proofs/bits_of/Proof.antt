@@ -35,6 +35,7 @@ bits_of_spec =
     (tie.spec
     (λ c. let (n, b, _, e) = negative c in rw e (tt, record { fits = omega arith }))  -- overflow_cast-result
     (λ c. let (n, b, _, e) = negative c in omega (arith, ap nat_abs e))  -- overflow_sub-result
-    (λ c. let f = c.before.ranges.x in rw (to_z-of_z f) (not_negative c.before.args.x (above c), Fits-nat_abs tt f))  -- overflow_cast-result-else-x-lt0
+    (λ c. let f = c.before.ranges.x in rw (to_z-of_z f)
+    (not_negative c.before.args.x (above c), Fits-nat_abs tt f))  -- overflow_cast-result-else-x-lt0
     (λ c. let (n, b, a, e) = negative c in omega (arith, ap nat_abs e, bits_negative c.before.args.x (below c)))  -- returns-then-x-lt0
     (λ c. let s = c.before in omega (arith, bits_natural s.args.x (above c), ap nat_abs (to_z-of_z s.ranges.x))))  -- returns-else-x-lt0

@@ -6,11 +6,11 @@ use Rattle.mealbis.proofs.Telling.{told}
 use Rattle.mealbis.proofs.mealbis_mark.Goals as goal
 
 pub returns-in-Refused : goal.returns-in-Refused
-returns-in-Refused c = 
+returns-in-Refused c =
     told (rw (to_z-of_z c.ranges.flat_limit, to_z-of_z c.ranges.clip_level) at c.mark_block-answer.ensures)
     c.in-Refused.is c.number_of.ensures (rw c.place_of.ensures)
 
 pub returns-in-Marked : goal.returns-in-Marked
-returns-in-Marked c = 
+returns-in-Marked c =
     told (rw (to_z-of_z c.ranges.flat_limit, to_z-of_z c.ranges.clip_level) at c.mark_block-answer.ensures)
     c.in-Marked.is refl (rw c.number_of_mark.ensures)

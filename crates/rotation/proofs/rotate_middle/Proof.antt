@@ -23,7 +23,8 @@ size c = within_le (within_mul (entry_within 512 (lit≤ tt)) (size_within _ c.b
 product : (c : tie.After-wave_at-entry) →
     let C = c.before.args.cosine in
     Computes ◌*ℤ◌ (of_z w64 c.wave_at-entry.result) (of_z w64 C) (T 512) C
-product c = computes ◌*ℤ◌ (held c.wave_at-entry.type_inv c.wave_at-entry.ensures) (word c.before.ranges.cosine) (within_fits (size c) (lit< tt))
+product c = computes ◌*ℤ◌ (held c.wave_at-entry.type_inv c.wave_at-entry.ensures) (word c.before.ranges.cosine)
+    (within_fits (size c) (lit< tt))
 
 -- the rest that is read
 middle_rest : (c : tie.After-struct_told-1) →

@@ -79,5 +79,6 @@ add_product_spec =
     (λ c. let a = c.before.before in asked ◌+ℤ◌ (high_word a.requires.sum_ok (lit< tt)) (floor a) (high_fits a))  -- overflow_add-result
     (λ c. let a = c.before.before in asked ◌*ℤ◌ (floor a) unit_word (scaled_fits a))  -- overflow_mul-result
     (λ c. let a = c.before.before in asked ◌-ℤ◌ (product a) (scaled a) (rest_fits a))  -- overflow_sub-result
-    (λ c. let a = c.before.before.before.before in asked ◌+ℤ◌ (low_word a.requires.sum_ok (lit< tt)) (rest a) (low_fits a))  -- overflow_add-result-2
+    (λ c. let a = c.before.before.before.before in asked ◌+ℤ◌ (low_word a.requires.sum_ok (lit< tt))
+    (rest a) (low_fits a))  -- overflow_add-result-2
     returns)

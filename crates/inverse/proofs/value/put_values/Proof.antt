@@ -17,7 +17,8 @@ use Rattle.inverse.proofs.value.put_values.Statement.{statement}
 use Rattle.inverse.proofs.value.put_values.Tie as tie
 
 abbrev invariant-loop : tie.invariant-loop-i
-invariant-loop coefficients n values₀ wave i₀ values i = (i ≤ n / 2) × Ends (pos 0) 0 i i n (inverse_dct n (word coefficients)) values₀ values
+invariant-loop coefficients n values₀ wave i₀ values i =
+    (i ≤ n / 2) × Ends (pos 0) 0 i i n (inverse_dct n (word coefficients)) values₀ values
 
 abbrev decreases-loop : tie.decreases-loop-i
 decreases-loop coefficients n values₀ wave i₀ values i = n / 2 - i
@@ -50,7 +51,8 @@ put_values_spec =
     (λ c. search rules)  -- shared-slice-copy-out-values
     (λ c. search rules)  -- slice-set-from-values
     (λ c. search rules)  -- shape_of-values-then-n-eq1
-    (λ c. rw c.before.if-n-eq1.true (written_one (omega arith) (to_z-of_z {w = w32} (sfits_of c.c-1.given) ∙ sym (value_one _))))  -- returns-then-n-eq1
+    (λ c. rw c.before.if-n-eq1.true (written_one (omega arith)
+    (to_z-of_z {w = w32} (sfits_of c.c-1.given) ∙ sym (value_one _))))  -- returns-then-n-eq1
     (λ c κs. search rules)  -- quarter_wave-wave-requires
     (λ c. search (rules, ends_none))  -- loop-holds
     (λ c κs. (

@@ -53,7 +53,8 @@ returns c =
     record {
       near_is = to_z-of_z {w = w32} (sfits_of v.value.type_inv) ∙ v.value.ensures
           ∙ ap (λ z. value_of (held v.before.add.result) z n) f ∙ near v.before;
-      far_is = to_z-of_z {w = w32} (sfits_of c.value-2.type_inv) ∙ c.value-2.ensures ∙ ap (λ z. value_of (held s.subtract.result) z n) f ∙ far s;
+      far_is = to_z-of_z {w = w32} (sfits_of c.value-2.type_inv) ∙ c.value-2.ensures
+          ∙ ap (λ z. value_of (held s.subtract.result) z n) f ∙ far s;
     }
 
 pub two_values_spec : {M : Type 1} → statement M

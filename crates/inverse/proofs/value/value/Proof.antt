@@ -4,7 +4,7 @@ use Prim.Native.Nat.{ℕ, ◌*◌, ◌/◌, ◌^◌, ◌≤◌}
 use native.Mathlib.Omega.{arith}
 use lib.Count.{count_trailing_zeros}
 use lib.Dec.{lit<}
-use lib.IntN.{ℤ, pos, ◌+ℤ◌, ◌-ℤ◌, ◌*ℤ◌}
+use lib.IntN.{pos, ◌+ℤ◌, ◌-ℤ◌, ◌*ℤ◌}
 use lib.Signed.{shr_z}
 use mir.Syntax.{w64}
 use mir.Val.{SFits, of_z, to_z}
@@ -94,7 +94,8 @@ value_spec =
     asked ◌-ℤ◌ (twice a) (word a.ranges.c) (within_fits (less_small a.requires) (lit< tt)))  -- sub-quotient
     (λ c. asked ◌+ℤ◌ (less (start c)) (low (start c)) (within_fits (quotient_small (start c).requires) (lit< tt)))  -- overflow_add-quotient
     (λ c. search rules)  -- overflow_cast-result
-    (λ c. asked ◌+ℤ◌ (all (start c)) (half (start c)) (within_fits (sum_small (start c).requires _ (even (start c))) (lit< tt)))  -- overflow_add-result
+    (λ c. asked ◌+ℤ◌ (all (start c)) (half (start c))
+    (within_fits (sum_small (start c).requires _ (even (start c))) (lit< tt)))  -- overflow_add-result
     (λ c. few_fits (start c))  -- overflow_cast-result-2
     (λ c. omega (arith, few (start c)))  -- overflow_shr-result
     (λ c. narrows (result (start c)) (start c).requires.fits)  -- overflow_cast-result-3

@@ -12,4 +12,5 @@ has_room_spec =
     (tie.spec
     (λ c. let fits = c.before.ranges.sum in
     rw (to_z-of_z fits) (high_decides (2 ^ 62) c.before.args.sum (rw (to_z-of_z fits) at c.if-sum-ge-LOW.true)))  -- returns
-    (λ c. c.if-sum-ge-LOW.false ∙ too_low (2 ^ 62) c.before.args.sum (rw (to_z-of_z c.before.ranges.sum) at c.if-sum-ge-LOW.false)))  -- returns-else-sum-ge-LOW
+    (λ c. c.if-sum-ge-LOW.false ∙ too_low (2 ^ 62) c.before.args.sum
+    (rw (to_z-of_z c.before.ranges.sum) at c.if-sum-ge-LOW.false)))  -- returns-else-sum-ge-LOW

@@ -62,7 +62,13 @@ test_spec =
     (λ c κs. search rules)  -- is_length-requires
     (λ c. record { verdict = λ rest. rw (← c.before.is_length.ensures, c.if-not-is_length.true-raw) })  -- returns-then-not-is_length
     (λ c κs. search rules)  -- reaches_beyond-requires
-    (λ c. record { verdict = λ rest. rw (passed_1 c.before.before, ← c.before.reaches_beyond.ensures, c.if-reaches_beyond.true) })  -- returns-then-reaches_beyond
+    (λ c. record {
+      verdict = λ rest. rw (
+        passed_1 c.before.before,
+        ← c.before.reaches_beyond.ensures,
+        c.if-reaches_beyond.true,
+      );
+    })  -- returns-then-reaches_beyond
     (λ c. record { verdict = λ rest. search (rules, refused_3, passed_1, passed_2) })  -- returns-then-room-yields
     (λ c κs. length_le _ (passed_1 c.before.before.before))  -- scratch_words-requires
     (λ c. record { verdict = λ rest. search (rules, refused_4, passed_1, passed_2) })  -- returns-then-scratch-scratch_words

@@ -15,6 +15,9 @@ bad_figures_spec =
     tie.close
     (tie.spec
     (λ c. sym (rw (rw (to_z-of_z c.before.ranges.flat_limit) at c.if-flat_limit-lt0.true)))  -- returns-then-flat_limit-lt0
-    (λ c. sym (rw (not_negative c.before, rw (to_z-of_z c.before.before.ranges.clip_level) at c.if-clip_level-lt1.true)))  -- returns-then-clip_level-lt1
+    (λ c. sym (rw (
+      not_negative c.before,
+      rw (to_z-of_z c.before.before.ranges.clip_level) at c.if-clip_level-lt1.true,
+    )))  -- returns-then-clip_level-lt1
     (λ c. let fits = c.before.before.ranges.clip_level in
     rw (to_z-of_z fits) (sym (rw (not_negative c.before, rw (to_z-of_z fits) at c.if-clip_level-lt1.false)))))  -- returns-3
