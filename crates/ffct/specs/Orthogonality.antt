@@ -15,7 +15,7 @@ cosine_product N m n = sum N (λ k. K ((2 * m + 1) * k * 1024 / N) *ℤ K ((2 * 
 abbrev pub orthogonal_error : ℕ → ℕ
 orthogonal_error N = N * (2 * (addition_error * B))
 
--- twice that sum, less its term at k = 0, which is B²: it is N-as-B² where m = n, and 0 where not, within that error
+-- twice that sum, less its term at k = 0, which is B²: it is N·B² where m = n, and 0 where not, within that error
 pub record Orthogonal (N m n : ℕ) : Type 0 where
   pub same : m ≡ n → nat_abs (pos 2 *ℤ cosine_product N m n -ℤ pos (B * B) -ℤ pos (N * (B * B))) ≤ orthogonal_error N
   pub other : (m ≡ n → ⊥) → nat_abs (pos 2 *ℤ cosine_product N m n -ℤ pos (B * B)) ≤ orthogonal_error N
@@ -24,7 +24,6 @@ pub record Orthogonal (N m n : ℕ) : Type 0 where
 unfoldable pub exact_inverse : ℕ → (ℕ → ℤ) → ℕ → ℤ
 exact_inverse N E n = E 0 *ℤ pos B +ℤ pos 2 *ℤ sum (N - 1) (λ i. E (i + 1) *ℤ K ((2 * n + 1) * (i + 1) * 1024 / N))
 
--- of the exact sums of a block whose samples are at most X in size, at n: it is N-as-B² times the sample x(n),
--- within N-as-X times that error
+-- of the exact sums of a block whose samples are at most X in size, at n: it is N·B² times the sample x(n), within N·X times that error
 pub record Inverts (N : ℕ) (x : Samples) (X n : ℕ) : Type 0 where
   pub near : nat_abs (exact_inverse N (exact_dct N x) n -ℤ x n *ℤ pos (N * (B * B))) ≤ N * (X * orthogonal_error N)

@@ -1,5 +1,5 @@
--- Document 02, (ix), "A gauge wired the other way round": "every coefficient to change sign and nothing else". What is stated of two calls
--- of which one is given what the other is given with every sign changed. Each crate of calls has its laws in its own specs/Symmetry.
+-- Document 02, (ix), "A gauge wired the other way round": "every coefficient to change sign and nothing else".
+-- What is stated of two calls of which one is given what the other is given with every sign changed.
 use Rattle.std.specs.Prelude.{◌≡◌}
 use Rattle.refusals.specs.Refusals.{Verdict, accepted}
 use Rattle.refusals.specs.Calls.{Call}
