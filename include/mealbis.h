@@ -136,8 +136,8 @@
  *
  * Stack: a copy of the cosine table, 4,100 bytes, and frames whose number depends on the length
  * alone. Measured at length 1,024, in bytes: mealbis_cosine 7,024, mealbis_month_add 6,960,
- * mealbis_mark 6,928, mealbis_spectrum 6,880, mealbis_pair 6,832, mealbis_inverse_dct 4,184,
- * mealbis_page 152, mealbis_read 96, mealbis_write 72, mealbis_counts 56, the other calls on a month
+ * mealbis_mark 6,928, mealbis_spectrum 6,880, mealbis_pair 6,832, mealbis_inverse_dct 4,216,
+ * mealbis_page 168, mealbis_read 104, mealbis_write 72, mealbis_counts 56, the other calls on a month
  * 40 at most; shorter blocks take no more.
  * The proof does not speak of the stack: allow 8 KiB. tests/run_self_check.py measures it.
  */

@@ -253,9 +253,20 @@ class Texts(NamedTuple):
     python: dict
 
 
+def sized(paths):
+    """The texts of files in which the length of an array is its number, where it is a constant of the file."""
+    sizes, texts = {}, []
+    for path in paths:
+        text = path.read_text()
+        for name, value in re.findall(r"pub const (\w+): usize = ([\w:+* ]+);", text):
+            sizes[path.stem, name] = eval(re.sub(r"(?:(\w+)::)?([A-Za-z]\w*)", lambda at: str(sizes[at[1] or path.stem, at[2]]), value), {})
+        texts.append(re.sub(r"(\[\w+; )(\w+)\]", lambda at: "%s%s]" % (at[1], sizes.get((path.stem, at[2]), at[2])), text))
+    return "\n".join(texts)
+
+
 def texts_of(root):
     def source(folder):
-        return "\n".join(path.read_text() for path in sorted((root / folder).rglob("*.rt")))
+        return sized(sorted((root / folder).rglob("*.rt")))
 
     return Texts(source(SOURCE), source("crates/months/src"), (root / HEADER).read_text(), (root / RUST).read_text(),
                  python_module((root / PYTHON).read_text()))

@@ -18,7 +18,7 @@ ROOT = Path(__file__).resolve().parent.parent
 # for each crate: the file of proofs whose laws are tried, and the right value of each law, in the order of the statements
 RIGHT = {
     "refusals": ("Exclusion", {
-        "goes_on": "At 1 1", "look_not_tallied": "At 1 1", "place_in_block": "At 1 1", "none_found": "At 1 1",
+        "goes_on": "Some 1; 1", "look_not_tallied": "Some 1; 1", "place_in_block": "Some 1; 1", "none_found": "Some 1; 1",
         "all_out_of_range": "pos 1000001"}),
     "spectra": ("Excluded", {
         "half_left_out": "pos 1", "rounded_apart": "pos 1", "direct_sums": "negsuc 0", "counts_of_two": "4", "first_again": "pos 1",
@@ -64,8 +64,8 @@ def laws(text):
 
 def with_right(line, right):
     """The statement with the right value: the last word of a law, or what stands before → ⊥."""
-    if right.startswith("At"):
-        return re.sub(r"\((At \d \d|None 2)\)", "(%s)" % right, line)
+    if right.startswith("Some"):
+        return re.sub(r"place = (Some \d|None); looks = \d ", "place = %s; looks = %s " % tuple(right.split("; ")), line)
     if "bad_count" in line:
         return line.replace("4096", right)
     if line.rstrip().endswith("→ ⊥"):

@@ -95,7 +95,7 @@ KEPT = "let mut if else while for in return match as Ok Err Some None".split()
 def main():
     points = [int(word) for word in sys.argv[1:] if word.isdigit()] or list(range(1, 9))
     listed = "--list" in sys.argv
-    files = sorted(file for file in Path("crates").rglob("*.rt") if "src" in file.parts)
+    files = sorted(Path("crates").glob("*/src/**/*.rt"))
     functions = [function for file in files for function in functions_of(file)]
     own = [function for function in functions if not function.exported]
 

@@ -1,24 +1,31 @@
 -- The transforms of a block in range: what the calls of a run ask after each other, and what they come to.
+--     nothing_made                a tally by default
 --     ready, ..few, ..small       a block is ready, its counts are few, its coefficients small
 --     dfts-ready                  when both DFTs may be made
 --     cosine-ready .. dfts-made   both DFTs, of the block loaded in pairs
+--     dfts_same                   both DFTs, of a block of the same samples
 --     cleared                     the words cleared in the end
+--     part_at .. part_stored      coefficients of which a part is stored
 --     spectrum-made               Spectrum, of both DFTs
 --     dct-ready .. cosine-made    the DCT, of the block loaded in its order
 -- Assumes nothing.
+use mathlib.Core.Bool.{true}
 use mathlib.Core.Path.{◌≡◌, refl, sym, ap, ◌∙◌, subst}
 use mathlib.Core.List.{List}
-use Prim.Native.Nat.{ℕ, ◌+◌, ◌*◌, ◌/◌, ◌^◌, ◌≤◌, ◌<◌}
+use Prim.Native.Nat.{ℕ, ◌+◌, ◌-◌, ◌*◌, ◌/◌, ◌^◌, ◌≤◌, ◌<◌}
 use native.Mathlib.Nat.{mul-le-mul}
 use native.Mathlib.Omega.{arith}
 use lib.IntN.{ℤ, pos, nat_abs}
-use lib.ListN.{length}
+use lib.ListN.{length, take, drop, replicate, length-replicate, get_or-replicate, get_or-eq_default}
+use lib.Seq.{length-take-le, get_or-take}
+use Rattle.std.proofs.lemmas.List.{length-take}
 use Rattle.whole.proofs.Size.{within_size}
 use Rattle.words.specs.Words.{Samples, word, Written}
-use Rattle.words.proofs.Writing.{front, past, written_same}
-use Rattle.lengths.specs.Block.{AcceptedBlock, largest_sum, level}
+use Rattle.words.proofs.Writing.{front, written_same}
+use Rattle.words.proofs.Parts.{between, between_at, between_length}
+use Rattle.lengths.specs.Block.{AcceptedBlock, is_length, largest_sum, level}
 use Rattle.ffct.specs.Transforms.{cosine_dft, sine_dft, dct, spectrum}
-use Rattle.ffct.proofs.Blocks.{Same, dft_same, dct_same}
+use Rattle.ffct.proofs.Blocks.{Same, dft_same, dct_same, spectrum_same}
 use Rattle.ffct.proofs.Counts.{FewOperations, few_operations}
 use Rattle.ffct.proofs.Sizes.{accepted_inner, dft_size, dct_within}
 use Rattle.lengths.proofs.ElevenLengths.{is_power, as_len, level_le, length_le}
@@ -30,6 +37,12 @@ use Rattle.transforms.proofs.Pairs.{paired_same}
 use Rattle.blocks.specs.Buffers.{words_from, in_pairs}
 use Rattle.blocks.specs.Blocks.{InRange, Cleared, DftsReady, DftsMade, SpectrumMade, CosineMade}
 use Rattle.blocks.proofs.Pairing.{paired_back}
+
+-- a tally by default
+pub nothing_made : {tally : Tally} → (tally.products ≡ 0) × ((tally.sums ≡ 0) × (tally.largest_rest ≡ 0)) → tally ≡ none
+nothing_made {tally} (p, (s, r)) =
+    let same : tally ≡ record { products = tally.products; sums = tally.sums; largest_rest = tally.largest_rest } = refl in
+    same ∙ rw (p, s, r) refl
 
 module _ {n : ℕ} {x : Samples} (r : InRange n x) where
   pub accepted : AcceptedBlock (level n) x
@@ -125,34 +138,70 @@ module _ {n : ℕ} {x : Samples} {at : ℕ} {w v : List ℤ} {spent : Tally} (r 
             len = sined.len ∙ cosined.len ∙ l.len;
           }
 
--- ---- words cleared in the end are cleared, whatever stood there meanwhile
-pub cleared : {w v w' : List ℤ} → length v ≡ length w → Cleared v w' → Cleared w w'
-cleared {w} {v} e c = record {
-  new = λ j h. c.new j (omega (arith, h, e));
-  low = λ j h. absurd (omega arith);
-  high = λ j h. c.high j (omega (arith, h, e)) ∙ past (pos 0) v j (omega (arith, h, e)) ∙ sym (past (pos 0) w j (omega (arith, h)));
-  len = c.len ∙ e;
+-- ---- a transform reads only its block
+pub dfts_same : {n at : ℕ} {x y : Samples} {w w' : List ℤ} {spent total : Tally} → is_length n ≡ true → ((i : ℕ) → i < n → x i ≡ y i)
+    → DftsMade n x at w w' spent total → DftsMade n y at w w' spent total
+dfts_same {n} {x = x} {y = y} ok same m =
+    let e = spectrum_same (level n) x y (λ i h. same i (omega (arith, as_len n ok))) in
+    record {
+      cosine_words = λ k h. m.cosine_words k h ∙ ap (λ t. t.cosine k) e;
+      sine_words = λ k h. m.sine_words k h ∙ ap (λ t. t.sine k) e;
+      between = m.between;
+      tallied = rw e at m.tallied;
+      len = m.len;
+    }
+
+-- ---- words filled with 0 in the end are cleared, whatever stood there meanwhile
+pub cleared : {w : List ℤ} (v : List ℤ) {w' : List ℤ} → length v ≡ length w → w' ≡ replicate (length v) (pos 0) → Cleared w w'
+cleared {w} v {w'} e z = record {
+  new = λ k h. rw z (get_or-replicate (length v) (0 + k) (pos 0) (pos 0) (omega arith));
+  low = λ k h. absurd (omega arith);
+  high = λ k h. get_or-eq_default w' (pos 0) (omega (arith, len)) ∙ sym (get_or-eq_default w (pos 0) (omega (arith, h)));
+  len = len;
 }
+  where
+    len : length w' ≡ length w
+    len = ap length z ∙ length-replicate (length v) (pos 0) ∙ e
+
+-- ---- coefficients that stand in words, where a part of these is stored
+module _ (v : List ℤ) (i j : ℕ) {m : ℕ} {f : ℕ → ℤ} (e : j ≡ i + m) (at : (k : ℕ) → k < m → words_from v i k ≡ f k) where
+  pub part_at : (k : ℕ) → k < m → word (between i (j - i) v) k ≡ f k
+  part_at k h = between_at i (j - i) v k (omega arith) ∙ at k h
+
+  pub part_sized : {L : ℕ} → ((k : ℕ) → k < m → nat_abs (f k) ≤ L) → (k : ℕ) → k < length (between i (j - i) v)
+      → nat_abs (word (between i (j - i) v) k) ≤ L
+  part_sized small k h =
+      let l : k < m = omega (arith, h, length-take (j - i) (drop i v)) in
+      rw (part_at k l) (small k l)
+
+  pub part_stored : {out out' : List ℤ} → j ≤ length v
+      → Written 0 (length (between i (j - i) v)) (word (between i (j - i) v)) out out' → Written 0 m f out out'
+  part_stored l w = written_same w (omega (arith, between_length i (j - i) v (omega arith))) part_at
 
 -- ---- Spectrum: both DFTs stand behind the block
 module _ {n at : ℕ} {x : Samples} {w v : List ℤ} {spent total : Tally} (r : InRange n x) (made : DftsMade n x at w v spent total) where
-  pub cosine_sized : (k : ℕ) → k < n / 2 + 1 → nat_abs (words_from v at k) ≤ largest_sum + 257
-  cosine_sized k h = rw (made.cosine_words k h) (omega (arith, cosine_small r k h))
+  pub cosine_sized : {j : ℕ} → j ≡ at + (n / 2 + 1) → (k : ℕ) → k < length (between at (j - at) v)
+      → nat_abs (word (between at (j - at) v) k) ≤ largest_sum + 257
+  cosine_sized {j} e = part_sized v at j e made.cosine_words (λ k h. omega (arith, cosine_small r k h))
 
-  pub sine_sized : (k : ℕ) → k < n / 2 + 1 → nat_abs (words_from v (at + n / 2 + 1) k) ≤ largest_sum + 257
-  sine_sized k h = rw (made.sine_words k h) (omega (arith, sine_small r k h))
+  pub sine_sized : {i j : ℕ} → i ≡ at + n / 2 + 1 → j ≡ i + (n / 2 + 1) → (k : ℕ) → k < length (between i (j - i) v)
+      → nat_abs (word (between i (j - i) v) k) ≤ largest_sum + 257
+  sine_sized {i} {j} p e = part_sized v i j e (rw (sym p) at made.sine_words) (λ k h. omega (arith, sine_small r k h))
 
-pub spectrum_made : {n at : ℕ} {x : Samples} {w v w' cosine cosine' sine sine' : List ℤ} {total : Tally} → DftsMade n x at w v none total
-    → Written 0 (n / 2 + 1) (words_from v at) cosine cosine' → Written 0 (n / 2 + 1) (words_from v (at + n / 2 + 1)) sine sine'
-    → Cleared v w'
-    → SpectrumMade n (spectrum (level n) x) cosine sine w cosine' sine' w' total
-spectrum_made m c s e = record {
-  cosine_words = written_same c refl m.cosine_words;
-  sine_words = written_same s refl m.sine_words;
-  cleared = cleared m.len e;
-  tallied = omega (arith, m.tallied);
-  rest = omega (arith, m.tallied);
-}
+pub spectrum_made : {n : ℕ} {x : Samples} {w v w' cosine cosine' sine sine' : List ℤ} {total : Tally} → DftsMade n x n w v none total
+    → let m = n / 2 + 1 in n + 2 * m ≤ length v
+    → Written 0 (length (between n (n + m - n) v)) (word (between n (n + m - n) v)) cosine cosine'
+    → let s = between (n + m) (n + 2 * m - (n + m)) v in Written 0 (length s) (word s) sine sine'
+    → w' ≡ replicate (length v) (pos 0) → SpectrumMade n (spectrum (level n) x) cosine sine w cosine' sine' w' total
+spectrum_made {n} {v = v} m l c s z =
+    let behind : n + n / 2 + 1 ≡ n + (n / 2 + 1) = omega arith in
+    record {
+      cosine_words = part_stored v n _ refl m.cosine_words (omega arith) c;
+      sine_words = part_stored v _ _ (omega arith) (rw behind at m.sine_words) l s;
+      cleared = cleared v m.len z;
+      tallied = omega (arith, m.tallied);
+      rest = omega (arith, m.tallied);
+    }
 
 -- ---- the DCT: the block is loaded in its order
 module _ {n : ℕ} {x : Samples} {w v : List ℤ} (r : InRange n x) (l : Written 0 n x w v) where
@@ -166,14 +215,20 @@ module _ {n : ℕ} {x : Samples} {w v : List ℤ} (r : InRange n x) (l : Written
     made : Gives (dct (level n) x) 0 n v v₁ none t₁
     made = subst (λ t. Gives t 0 n v v₁ none t₁) dct_is done
 
-    pub dct_sized : (k : ℕ) → k < n → nat_abs (words_from v₁ 0 k) ≤ largest_sum + 257
-    dct_sized k h = rw (made.coefficients k h) (dct_small r k h)
+    dct_at : (k : ℕ) → k < n → word (take n v₁) k ≡ (dct (level n) x).at k
+    dct_at k h = get_or-take n v₁ k (pos 0) h ∙ ap (word v₁) {x = k} {y = 0 + k} (omega arith) ∙ made.coefficients k h
 
-    pub cosine_made : {coefficients coefficients' w' : List ℤ} → Written 0 n (words_from v₁ 0) coefficients coefficients' → Cleared v₁ w'
+    pub dct_sized : (k : ℕ) → k < length (take n v₁) → nat_abs (word (take n v₁) k) ≤ largest_sum + 257
+    dct_sized k h = let l : k < n = omega (arith, h, length-take n v₁) in rw (dct_at k l) (dct_small r k l)
+
+    pub cosine_made : {coefficients coefficients' w' : List ℤ} → n ≤ length w
+        → Written 0 (length (take n v₁)) (word (take n v₁)) coefficients coefficients' → w' ≡ replicate (length v₁) (pos 0)
         → CosineMade n (dct (level n) x) coefficients w coefficients' w' t₁
-    cosine_made s e = record {
-      words = written_same s refl made.coefficients;
-      cleared = cleared (made.len ∙ l.len) e;
-      tallied = omega (arith, made.tallied);
-      rest = omega (arith, made.tallied);
-    }
+    cosine_made h s z =
+        let len : length v₁ ≡ length w = made.len ∙ l.len in
+        record {
+          words = written_same s (sym (length-take-le n v₁ (omega arith))) dct_at;
+          cleared = cleared v₁ len z;
+          tallied = omega (arith, made.tallied);
+          rest = omega (arith, made.tallied);
+        }

@@ -1,4 +1,3 @@
-pub mod Casting
 pub mod Pairing
 pub mod Parts
 pub mod BlockRuns

@@ -15,31 +15,31 @@ words_from w at k = word w (at + k)
 unfoldable pub in_pairs : ℕ → Samples → Samples
 in_pairs n x p = cond (eqb (p % 2) 0) (x (p / 2)) (x (n - 1 - p / 2))
 
--- words c and s of w: their sum put at place i of a buffer, and their difference at place j
-pub record SumReady (w : List ℤ) (c s i j : ℕ) (out : List ℤ) (spent : Tally) : Type 0 where
-  pub fits : (c < length w) × (s < length w) × (i < length out) × (j < length out)
-  pub c_small : nat_abs (word w c) ≤ largest_sum + 128
-  pub s_small : nat_abs (word w s) ≤ largest_sum + 128
+-- two words x and y: their sum put at place i of a buffer, and their difference at place j
+pub record SumReady (x y : ℤ) (i j : ℕ) (out : List ℤ) (spent : Tally) : Type 0 where
+  pub fits : (i < length out) × (j < length out)
+  pub x_small : nat_abs x ≤ largest_sum + 128
+  pub y_small : nat_abs y ≤ largest_sum + 128
   pub apart : i ≡ j → ⊥
   pub room : HasRoom 0 2 spent
 
-pub record SumPut (w : List ℤ) (c s i j : ℕ) (before after : List ℤ) (spent total : Tally) : Type 0 where
-  pub both : TwoPut i j (word w c +ℤ word w s) (word w c -ℤ word w s) before after
+pub record SumPut (x y : ℤ) (i j : ℕ) (before after : List ℤ) (spent total : Tally) : Type 0 where
+  pub both : TwoPut i j (x +ℤ y) (x -ℤ y) before after
   pub tallied : Summed 2 spent total
 
--- ---- the DFTs of two blocks a and b of n samples, n/2 + 1 words each, one behind another from place `at` on: the cosine-DFT of a, its
--- sine-DFT, the cosine-DFT of b, its sine-DFT
-abbrev pub cosine_of_a : ℕ → ℕ → List ℤ → ℕ → ℤ
-cosine_of_a n at w = words_from w at
+-- ---- the DFTs of two blocks a and b of n samples, n/2 + 1 words each, one behind another: the cosine-DFT of a, its sine-DFT, the
+-- cosine-DFT of b, its sine-DFT
+abbrev pub cosine_of_a : ℕ → List ℤ → ℕ → ℤ
+cosine_of_a n dfts = word dfts
 
-abbrev pub sine_of_a : ℕ → ℕ → List ℤ → ℕ → ℤ
-sine_of_a n at w = words_from w (at + n / 2 + 1)
+abbrev pub sine_of_a : ℕ → List ℤ → ℕ → ℤ
+sine_of_a n dfts = words_from dfts (n / 2 + 1)
 
-abbrev pub cosine_of_b : ℕ → ℕ → List ℤ → ℕ → ℤ
-cosine_of_b n at w = words_from w (at + 2 * (n / 2 + 1))
+abbrev pub cosine_of_b : ℕ → List ℤ → ℕ → ℤ
+cosine_of_b n dfts = words_from dfts (2 * (n / 2 + 1))
 
-abbrev pub sine_of_b : ℕ → ℕ → List ℤ → ℕ → ℤ
-sine_of_b n at w = words_from w (at + 2 * (n / 2 + 1) + n / 2 + 1)
+abbrev pub sine_of_b : ℕ → List ℤ → ℕ → ℤ
+sine_of_b n dfts = words_from dfts (3 * (n / 2 + 1))
 
 -- a cosine-DFT and a sine-DFT that may be joined: they are small, and the sine-DFT is zero at 0 and n/2
 pub record Joinable (n : ℕ) (C S : ℕ → ℤ) : Type 0 where
@@ -48,18 +48,18 @@ pub record Joinable (n : ℕ) (C S : ℕ → ℤ) : Type 0 where
   pub cosine_small : (k : ℕ) → k < n / 2 + 1 → nat_abs (C k) ≤ largest_sum + 128
   pub sine_small : (k : ℕ) → k < n / 2 + 1 → nat_abs (S k) ≤ largest_sum + 128
 
-pub record PartsReady (n at : ℕ) (w real imaginary : List ℤ) (spent : Tally) : Type 0 where
+pub record PartsReady (n : ℕ) (dfts real imaginary : List ℤ) (spent : Tally) : Type 0 where
   pub some : 1 ≤ n
   pub whole : (n ≡ 1 → ⊥) → 2 * (n / 2) ≡ n
-  pub fits : at + 4 * (n / 2 + 1) ≤ length w
+  pub fits : 4 * (n / 2 + 1) ≤ length dfts
   pub real_fits : n ≤ length real
   pub imaginary_fits : n ≤ length imaginary
-  pub of_real : Joinable n (cosine_of_a n at w) (sine_of_b n at w)
-  pub of_imaginary : Joinable n (cosine_of_b n at w) (sine_of_a n at w)
+  pub of_real : Joinable n (cosine_of_a n dfts) (sine_of_b n dfts)
+  pub of_imaginary : Joinable n (cosine_of_b n dfts) (sine_of_a n dfts)
   pub room : HasRoom 0 (2 * (n - 2)) spent
 
 -- "real(k) = C_a(k) + S_b(k), imaginary(k) = C_b(k) − S_a(k), with (9), (10) above N/2"
-pub record PartsPut (n at : ℕ) (w real imaginary real' imaginary' : List ℤ) (spent total : Tally) : Type 0 where
-  pub real_words : Written 0 n (λ k. cosine_beyond n (cosine_of_a n at w) k +ℤ sine_beyond n (sine_of_b n at w) k) real real'
-  pub imaginary_words : Written 0 n (λ k. cosine_beyond n (cosine_of_b n at w) k -ℤ sine_beyond n (sine_of_a n at w) k) imaginary imaginary'
+pub record PartsPut (n : ℕ) (dfts real imaginary real' imaginary' : List ℤ) (spent total : Tally) : Type 0 where
+  pub real_words : Written 0 n (λ k. cosine_beyond n (cosine_of_a n dfts) k +ℤ sine_beyond n (sine_of_b n dfts) k) real real'
+  pub imaginary_words : Written 0 n (λ k. cosine_beyond n (cosine_of_b n dfts) k -ℤ sine_beyond n (sine_of_a n dfts) k) imaginary imaginary'
   pub tallied : Summed (2 * (n - 2)) spent total

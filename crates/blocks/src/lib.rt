@@ -1,33 +1,27 @@
 #![tactic(auto)]
 
-// The transforms of an accepted block, from 32-bit samples to 32-bit coefficients, over words that are all cleared at the end.
+// The transforms of an accepted block, from 32-bit samples to 32-bit coefficients, over words that are all cleared at the end. (They
+// and the places in them stay parameters: of a struct that holds the words, callers do not learn what they then hold.)
 pub mod buffers;
 
 ghost use Rattle.std.specs.Prelude.{◌+◌, ◌/◌, ◌≤◌, length};
 ghost use Rattle.words.specs.Words.{word};
 ghost use Rattle.lengths.specs.Block.{level};
 ghost use Rattle.ffct.specs.Transforms.{dct as dct_of, spectrum as spectrum_of, pair as pair_of};
-ghost use Rattle.circle.specs.Circle.{IsQuarterWave};
 ghost use Rattle.blocks.specs.Blocks.{Workable, DftsReady, DftsMade, SpectrumMade, CosineMade, PairMade};
 
-use buffers::{clear, join_parts, load, load_pairs, store};
-use circle::quarter_wave;
-use counts::tally::{EMPTY, Tally};
+use buffers::{join_parts, load, load_pairs, store};
+use circle::QuarterWave;
+use counts::tally::Tally;
 use transforms::{cosine_dft, dct, sine_dft};
 
 // The cosine-DFT of a block at `at` and its sine-DFT behind it.
-fn both_dfts(
-    wave: &[i32; 1025],
-    block: &[i32],
-    n: usize,
-    w: &mut [i64],
-    at: usize,
-    spent: Tally,
-) -> Tally
-    requires { IsQuarterWave wave.now × (n ≤ length block.now) × DftsReady n (word block.now) at w.old spent }
-    ensures { DftsMade n (word block.now) at w.old w.new spent result }
+fn both_dfts(wave: &QuarterWave, block: &[i32], w: &mut [i64], at: usize, spent: Tally) -> Tally
+    requires { DftsReady (length block.now) (word block.now) at w.old spent }
+    ensures { DftsMade (length block.now) (word block.now) at w.old w.new spent result }
 {
-    load_pairs(block, n, w);
+    let n = block.len();
+    load_pairs(block, w);
     let cosine = cosine_dft(wave, w, n, 1, at, spent);
     sine_dft(wave, w, n, 1, at + n / 2 + 1, cosine)
 }
@@ -40,11 +34,12 @@ pub fn spectrum_of(block: &[i32], cosine: &mut [i32], sine: &mut [i32], w: &mut 
         cosine.new sine.new w.new result }
 {
     let n = block.len();
-    let wave = quarter_wave();
-    let spent = both_dfts(&wave, block, n, w, n, EMPTY);
-    store(w, n, cosine, n / 2 + 1);
-    store(w, n + n / 2 + 1, sine, n / 2 + 1);
-    clear(w);
+    let m = n / 2 + 1;
+    let wave = QuarterWave::new();
+    let spent = both_dfts(&wave, block, w, n, Tally::default());
+    store(&w[n..n + m], cosine);
+    store(&w[n + m..n + 2 * m], sine);
+    w.fill(0);
     spent
 }
 
@@ -55,11 +50,11 @@ pub fn cosine_of(block: &[i32], coefficients: &mut [i32], w: &mut [i64]) -> Tall
         coefficients.new w.new result }
 {
     let n = block.len();
-    let wave = quarter_wave();
+    let wave = QuarterWave::new();
     load(block, w);
-    let spent = dct(&wave, w, n, EMPTY);
-    store(w, 0, coefficients, n);
-    clear(w);
+    let spent = dct(&wave, w, n, Tally::default());
+    store(&w[..n], coefficients);
+    w.fill(0);
     spent
 }
 
@@ -78,10 +73,11 @@ pub fn pair_of(
         w.old real.new imaginary.new w.new result }
 {
     let n = a.len();
-    let wave = quarter_wave();
-    let of_a = both_dfts(&wave, a, n, w, n, EMPTY);
-    let of_b = both_dfts(&wave, b, n, w, n + 2 * (n / 2 + 1), of_a);
-    let spent = join_parts(w, n, real, imaginary, n, of_b);
-    clear(w);
+    let m = n / 2 + 1;
+    let wave = QuarterWave::new();
+    let of_a = both_dfts(&wave, a, w, n, Tally::default());
+    let of_b = both_dfts(&wave, &b[..n], w, n + 2 * m, of_a);
+    let spent = join_parts(&w[n..n + 4 * m], &mut real[..n], &mut imaginary[..n], of_b);
+    w.fill(0);
     spent
 }

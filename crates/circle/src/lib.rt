@@ -9,16 +9,24 @@ ghost use Rattle.circle.specs.Circle.{T, IsQuarterWave};
 use crate::table::QUARTER_WAVE;
 
 // The whole quarter wave: made once by a call and lent to what reads it, since a constant array is built anew wherever it is indexed.
-pub fn quarter_wave() -> [i32; 1025]
-    ensures { IsQuarterWave result }
-{
-    QUARTER_WAVE
+#[derive(Drop)]
+pub struct QuarterWave {
+    pub entries: [i32; 1025],
+    pub ghost is_quarter_wave: { IsQuarterWave entries },
 }
 
-// T(j), from a quarter wave that is lent. (No entry is negative; widened as an unsigned number it is read quicker.)
-pub fn wave_at(wave: &[i32; 1025], j: usize) -> i64
-    requires { IsQuarterWave wave.now × (j ≤ 1024) }
-    ensures { result ≡ T j }
-{
-    wave[j] as u32 as i64
+impl QuarterWave {
+    pub fn new() -> QuarterWave {
+        QuarterWave {
+            entries: QUARTER_WAVE,
+        }
+    }
+
+    // T(j). (No entry is negative; widened as an unsigned number it is read quicker.)
+    pub fn at(&self, j: usize) -> i64
+        requires { j ≤ 1024 }
+        ensures { result ≡ T j }
+    {
+        self.entries[j] as u32 as i64
+    }
 }

@@ -1,11 +1,10 @@
 -- The counts of a length. "The length alone decides the counts": they are those of every block of the length.
-use Rattle.std.specs.Prelude.{◌≡◌, ℕ, suc, ◌^◌, ◌≤◌, pos}
+use Rattle.std.specs.Prelude.{true, ◌≡◌, ℕ, ◌/◌, ◌≤◌, pos}
 use Rattle.words.specs.Words.{Samples}
-use Rattle.lengths.specs.Block.{level}
+use Rattle.lengths.specs.Block.{is_length, level}
 use Rattle.ffct.specs.Transforms.{Transform, cosine_dft, sine_dft, dct, spectrum, pair}
 use Rattle.ffct.specs.Counts.{dct_products, dct_sums, spectrum_products, spectrum_sums, pair_products, pair_sums}
 use Rattle.counts.specs.declared.cost.Cost.{Cost}
-use Rattle.counts.specs.declared.Level.{Level}
 use Rattle.counts.specs.declared.Counts.{Counts}
 
 -- the cost is that of a transform of level L
@@ -13,13 +12,13 @@ pub record Costs (transform : ℕ → Samples → Transform) (L : ℕ) (cost : C
   pub products : (x : Samples) → cost.products ≡ (transform L x).products
   pub sums : (x : Samples) → cost.sums ≡ (transform L x).sums
 
--- the counts of the cosine-DFT and the sine-DFT of n samples, n = 2 ^ suc L, and of the DCT of n / 2
-pub record LevelCosts (n : ℕ) (costs : Level) : Type 0 where
-  pub below : ℕ
-  pub is : n ≡ 2 ^ suc below
-  pub of_cosine : Costs cosine_dft (suc below) costs.cosine
-  pub of_sine : Costs sine_dft (suc below) costs.sine
-  pub of_dct : Costs dct below costs.dct
+-- the counts of the cosine-DFT and the sine-DFT of n samples, n a length from 2 on, and of the DCT of half as many
+pub record LevelCosts (n : ℕ) (cosine sine half_dct : Cost) : Type 0 where
+  pub length_ok : is_length n ≡ true
+  pub some : 2 ≤ n
+  pub of_cosine : Costs cosine_dft (level n) cosine
+  pub of_sine : Costs sine_dft (level n) sine
+  pub of_dct : Costs dct (level (n / 2)) half_dct
 
 -- all six counts of the level L, by the definitions
 pub record SixCounts (L : ℕ) (counts : Counts) : Type 0 where

@@ -4,130 +4,121 @@
 pub mod cost;
 pub mod tally;
 
-ghost use Rattle.std.specs.Prelude.{true, ◌≡◌, ◌+◌, ◌-◌, ◌*◌, ◌/◌, ◌^◌, ◌≤◌};
-ghost use Rattle.lengths.specs.Block.{is_length, level};
+ghost use Rattle.std.specs.Prelude.{◌≡◌, ◌+◌, ◌-◌, ◌*◌, ◌/◌, ◌^◌, ◌≤◌};
+ghost use Rattle.lengths.specs.Block.{level};
 ghost use Rattle.counts.specs.Counts.{LevelCosts, SixCounts};
 
-use cost::{Cost, plus};
+use cost::Cost;
+use lengths::Length;
 
-// The counts of one level: of the cosine-DFT and the sine-DFT of n samples, and of the DCT of n / 2.
+// The counts of one level: of the cosine-DFT and the sine-DFT of so many samples, and of the DCT of half as many.
 #[derive(Clone, Copy)]
 pub struct Level {
+    pub samples: u64,
     pub cosine: Cost,
     pub sine: Cost,
     pub dct: Cost,
+    pub ghost costs: { LevelCosts samples cosine sine dct },
 }
 
 // The six counts that a query gives.
-#[derive(Clone, Copy)]
+#[derive(Clone, Copy, Default)]
 pub struct Counts {
     pub dct: Cost,
     pub spectrum: Cost,
     pub pair: Cost,
 }
 
-// (26): the cosine-DFT and the sine-DFT of two samples, and the DCT of one.
-fn first_level() -> Level
-    ensures { LevelCosts 2 result }
-{
-    let none = Cost {
-        products: 0,
-        sums: 0,
-    };
-    let two = Cost {
-        products: 0,
-        sums: 2,
-    };
-    Level {
-        cosine: two,
-        sine: none,
-        dct: none,
+impl Level {
+    // (26): the cosine-DFT and the sine-DFT of two samples, and the DCT of one.
+    fn first() -> Level
+        ensures { result.samples ≡ 2 }
+    {
+        Level {
+            samples: 2,
+            cosine: Cost {
+                sums: 2,
+                ..Cost::default()
+            },
+            sine: Cost::default(),
+            dct: Cost::default(),
+        }
+    }
+
+    // (23): the DCT of as many samples.
+    #[tactic(auto, using(crate::proofs::Costs::few_counts))]
+    fn dct_counts(self) -> Cost
+        ensures { (result.products ≡ self.cosine.products + self.sine.products + (3 * (self.samples / 2 - 1) + 1))
+            × (result.sums ≡ self.cosine.sums + self.sine.sums + 3 * (self.samples / 2 - 1)) }
+    {
+        let pairs = self.samples / 2 - 1;
+        let rotation = Cost {
+            products: 3 * pairs + 1,
+            sums: 3 * pairs,
+        };
+        self.cosine + self.sine + rotation
+    }
+
+    // (24) and (25): the level of twice as many samples.
+    #[tactic(auto, using(crate::proofs::Costs::few_counts))]
+    fn next(self) -> Level
+        requires { self.samples ≤ 512 }
+        ensures { result.samples ≡ 2 * self.samples }
+    {
+        let n = self.samples;
+        let of_cosine = Cost {
+            sums: n / 2 + n,
+            ..Cost::default()
+        };
+        let of_sine = Cost {
+            sums: n / 2 + (n - 2),
+            ..Cost::default()
+        };
+        Level {
+            samples: 2 * n,
+            cosine: self.cosine + self.dct + of_cosine,
+            sine: self.sine + self.dct + of_sine,
+            dct: self.dct_counts(),
+        }
+    }
+
+    // The level `top`, that of 2^top samples.
+    fn at(top: u32) -> Level
+        requires { (1 ≤ top) × (top ≤ 10) }
+        ensures { result.samples ≡ 2 ^ top }
+    {
+        let mut level = Level::first();
+        for l in 1..top {
+            level = level.next();
+        }
+        level
+    }
+
+    // (23), (21) and (22): all six counts of as many samples.
+    #[tactic(auto, using(crate::proofs::Costs::few_counts))]
+    fn six_counts(self) -> Counts
+        ensures { SixCounts (level self.samples) result }
+    {
+        let joining = Cost {
+            sums: 2 * (self.samples - 2),
+            ..Cost::default()
+        };
+        let spectrum = self.cosine + self.sine;
+        Counts {
+            dct: self.dct_counts(),
+            spectrum,
+            pair: spectrum + spectrum + joining,
+        }
     }
 }
 
-// (23): the DCT of n samples, n at least 2.
-fn dct_counts(cosine: Cost, sine: Cost, n: u64) -> Cost
-    requires { (2 ≤ n) × (n ≤ 1024) × (cosine.products + cosine.sums ≤ 2 ^ 16) × (sine.products + sine.sums ≤ 2 ^ 16) }
-    ensures { (result.products ≡ cosine.products + sine.products + (3 * (n / 2 - 1) + 1))
-        × (result.sums ≡ cosine.sums + sine.sums + 3 * (n / 2 - 1)) }
+// All six counts of a length. One sample costs nothing.
+pub fn counts_of(length: Length) -> Counts
+    ensures { SixCounts (level length.samples) result }
 {
-    let pairs = n / 2 - 1;
-    let rotation = Cost {
-        products: 3 * pairs + 1,
-        sums: 3 * pairs,
-    };
-    plus(plus(cosine, sine), rotation)
-}
-
-// (24) and (25): from the level of n samples to that of 2 n.
-fn next_level(level: Level, n: u64) -> Level
-    requires { LevelCosts n level × (2 ≤ n) × (n ≤ 512) }
-    ensures { LevelCosts (2 * n) result }
-{
-    let of_cosine = Cost {
-        products: 0,
-        sums: n / 2 + n,
-    };
-    let of_sine = Cost {
-        products: 0,
-        sums: n / 2 + (n - 2),
-    };
-    Level {
-        cosine: plus(plus(level.cosine, level.dct), of_cosine),
-        sine: plus(plus(level.sine, level.dct), of_sine),
-        dct: dct_counts(level.cosine, level.sine, n),
-    }
-}
-
-// The counts of the level `top`, that of 2^top samples.
-fn level_counts(top: u32) -> Level
-    requires { (1 ≤ top) × (top ≤ 10) }
-    ensures { LevelCosts (2 ^ top) result }
-{
-    let mut level = first_level();
-    let mut n: u64 = 2;
-    let mut l: u32 = 1;
-    while l < top {
-        level = next_level(level, n);
-        n = 2 * n;
-        l += 1;
-    }
-    level
-}
-
-// (23), (21) and (22): all six counts of n samples, n at least 2, from their level.
-fn six_counts(costs: Level, n: u64) -> Counts
-    requires { LevelCosts n costs × (is_length n ≡ true) × (2 ≤ n) × (n ≤ 1024) }
-    ensures { SixCounts (level n) result }
-{
-    let joining = Cost {
-        products: 0,
-        sums: 2 * (n - 2),
-    };
-    let spectrum = plus(costs.cosine, costs.sine);
-    Counts {
-        dct: dct_counts(costs.cosine, costs.sine, n),
-        spectrum: spectrum,
-        pair: plus(plus(spectrum, spectrum), joining),
-    }
-}
-
-// All six counts of n samples, n one of the eleven lengths. One sample costs nothing.
-pub fn counts_of(n: usize) -> Counts
-    requires { is_length n ≡ true }
-    ensures { SixCounts (level n) result }
-{
+    let n = length.samples;
     if n == 1 {
-        let none = Cost {
-            products: 0,
-            sums: 0,
-        };
-        return Counts {
-            dct: none,
-            spectrum: none,
-            pair: none,
-        };
+        return Counts::default();
     }
-    let m = n as u64;
-    six_counts(level_counts(usize::trailing_zeros(n)), m)
+    Level::at(n.trailing_zeros()).six_counts()
 }

@@ -23,7 +23,7 @@ module _ {N n : ℕ} {cs : List ℤ} (r : TwoReady N n cs) where
   even : 2 * (N / 2) ≡ N
   even = twice_half N r.stored.length_ok (omega (arith, r.front))
 
-  pub turn_small : turn < 2048
+  turn_small : turn < 2048
   turn_small =
       let l : 2 * n + 2 ≤ N = omega (arith, r.front) in
       omega (arith, mul-le-mul l (le_refl (1024 / N)), divides N r.stored.length_ok)
@@ -48,13 +48,12 @@ module _ {N n : ℕ} {cs : List ℤ} (r : TwoReady N n cs) where
 
   -- ---- both sums are made
   module _ {evens odds : Sum} (e : SumMade (N / 2) 0 turn cs evens) (o : SumMade (N / 2) 1 turn cs odds) where
-    pub evens_small : Small 512 evens
-    evens_small = let l = length_le N r.stored.length_ok in
-        record { high_ok = omega (arith, e.size.high_ok, l); low_ok = omega (arith, e.size.low_ok, l) }
-
-    pub odds_small : Small 512 odds
-    odds_small = let l = length_le N r.stored.length_ok in
-        record { high_ok = omega (arith, o.size.high_ok, l); low_ok = omega (arith, o.size.low_ok, l) }
+    pub sums_small : Small 512 evens × Small 512 odds
+    sums_small =
+        let l = length_le N r.stored.length_ok in (
+          record { high_ok = omega (arith, e.size.high_ok, l); low_ok = omega (arith, e.size.low_ok, l) },
+          record { high_ok = omega (arith, o.size.high_ok, l); low_ok = omega (arith, o.size.low_ok, l) },
+        )
 
     -- ---- and added, or subtracted
     pub near_value : {sum : Sum} → Joined ◌+ℤ◌ evens odds sum → value_of (held sum) (word cs 0) N ≡ inverse_dct N (word cs) n
@@ -69,13 +68,13 @@ module _ {N n : ℕ} {cs : List ℤ} (r : TwoReady N n cs) where
         (ap (λ v. pos 2 *ℤ v -ℤ word cs 0 *ℤ pos (2 ^ 30)) (j.is ∙ ap₂ ◌-ℤ◌ e.is o.is)
         ∙ sym (rw even at (far_sum (N / 2) (1024 / N) cs some whole n (N - 1 - n) (omega (arith, even, r.front)))))
 
-  -- ---- a value is ready where it is one of the definition
-  pub value_ready : {sum : Sum} {i : ℕ} → Small 1024 sum → i < N → value_of (held sum) (word cs 0) N ≡ inverse_dct N (word cs) i
-      → ValueReady sum (word cs 0) N
-  value_ready {i = i} s h e = record {
+  -- ---- a value is ready where it is one of the definition; c is coefficient 0
+  pub value_ready : {sum : Sum} {i : ℕ} {c : ℤ} → Small 1024 sum → i < N → c ≡ word cs 0
+      → value_of (held sum) (word cs 0) N ≡ inverse_dct N (word cs) i → ValueReady sum c N
+  value_ready {i = i} s h first e = record {
     length_ok = r.stored.length_ok;
     two = omega (arith, r.front);
     size = s;
-    c_ok = small 0 (omega (arith, r.front));
-    fits = rw e (values_fit N (word cs) r.stored.length_ok r.stored.range i h);
+    c_ok = rw first (small 0 (omega (arith, r.front)));
+    fits = rw (first, e) (values_fit N (word cs) r.stored.length_ok r.stored.range i h);
   }

@@ -3,19 +3,21 @@
 use mathlib.Core.Bool.{true}
 use mathlib.Core.List.{List, [], ◌∷◌}
 use mathlib.Core.Path.{◌≡◌, refl, ◌∙◌}
-use Prim.Native.Nat.{ℕ, ◌≤◌, ◌<◌}
+use Prim.Native.Nat.{ℕ, ◌+◌, ◌*◌, ◌≤◌, ◌<◌}
 use native.Mathlib.Omega.{arith}
-use lib.IntN.{ℤ, nat_abs}
-use lib.ListN.{length}
+use lib.IntN.{ℤ, pos, nat_abs}
+use lib.ListN.{length, take}
+use lib.Seq.{length-take-le, get_or-take}
 use borrow.Author.Tests.{lt-ltb, le-ltb}
+use Rattle.std.proofs.lemmas.Grind.{common_steps}
 use Rattle.words.specs.Words.{word, Written}
+use Rattle.words.proofs.Writing.{written_same}
 use Rattle.lengths.specs.Block.{is_length}
+use Rattle.lengths.proofs.ElevenLengths.{length_pos, length_le}
 use Rattle.refusals.specs.declared.range.Pass.{Pass}
-use Rattle.refusals.specs.declared.range.Pass.TheVariants.{None, At}
 use Rattle.refusals.specs.declared.refusal.Refusal.{Refusal}
 use Rattle.refusals.specs.declared.refusal.Refusal.TheVariants.{ResultTooShort, BeyondLimit}
-use Rattle.refusals.specs.declared.refusal.Outcome.{Outcome}
-use Rattle.refusals.specs.declared.refusal.Outcome.TheVariants.{Refused, Accepted as Ok}
+use Rattle.std.specs.Prelude.{Result, Ok, Err, Some, None, ⊤}
 use Rattle.refusals.specs.Refusals.{accepted, first_beyond_or}
 use Rattle.refusals.specs.Calls.{stored_tests}
 use Rattle.refusals.specs.Tests.{Tells}
@@ -27,49 +29,63 @@ use Rattle.refusals.proofs.Calls.{refused_by, passed_by, stored_passes, stored_a
 use Rattle.inverse.specs.Inverse.{inverse_dct, largest_coefficient, inverse_verdict}
 use Rattle.inverse.specs.Promises.{InversePromise}
 use Rattle.inverse.specs.Steps.{Stored}
-
--- ---- behind the last test: what is known, and what is promised once the values are written
-pub record Accepted (cs vs : List ℤ) (N : ℕ) : Type 0 where
-  pub stored : Stored N cs
-  pub room : N ≤ length vs
-  pub writes : {vs' : List ℤ} → Written 0 N (inverse_dct N (word cs)) vs vs' → InversePromise cs N vs vs' Ok
+use Rattle.inverse.proofs.Values.{value_same}
 
 -- ---- the tests, each where those before it are passed
-module _ (cs vs : List ℤ) (N : ℕ) {tested : Outcome} (t : Tells (stored_tests N N (length cs ∷ [])) tested) where
-  pub not_stored : {refusal : Refusal} → tested ≡ Refused refusal → InversePromise cs N vs vs (Refused refusal)
+module _ (cs vs : List ℤ) (N : ℕ) {tested : Result ⊤ Refusal} (t : Tells (stored_tests N N (length cs ∷ [])) tested) where
+  pub not_stored : {refusal : Refusal} → tested ≡ Err refusal → InversePromise cs N vs vs (Err refusal)
   unfolding inverse_verdict
   not_stored e = refused_by t _ refl e
 
-  module _ (passed : tested ≡ Ok) where
-    pub length_ok : is_length N ≡ true
+  module _ (passed : tested ≡ Ok tt) where
+    length_ok : is_length N ≡ true
     length_ok = (stored_passes N N _ (passed_by t accepted passed)).0
 
-    pub enough : N ≤ length cs
-    enough = (stored_passes N N _ (passed_by t accepted passed)).1.0
+    pub enough : (N ≤ 1024) × (N ≤ length cs)
+    enough = (length_le N length_ok, (stored_passes N N _ (passed_by t accepted passed)).1.0)
 
-    pub too_short : length vs < N → InversePromise cs N vs vs (Refused ResultTooShort)
+    lent : length (take N cs) ≡ N
+    lent = length-take-le N cs enough.1
+
+    front : (k : ℕ) → k < N → word (take N cs) k ≡ word cs k
+    front k h = get_or-take N cs k (pos 0) h
+
+    pub too_short : length vs < N → InversePromise cs N vs vs (Err ResultTooShort)
     unfolding inverse_verdict
     too_short h = turned_down ResultTooShort refl (passed_by t _ passed ∙ rw (lt-ltb _ _ h))
 
-    module _ (room : N ≤ length vs) (limit : ℕ) (pass : Pass) (found : OnePass limit (word cs) 0 N pass)
-        (l : limit ≡ largest_coefficient N) where
-      past : inverse_verdict cs N vs ≡ first_beyond_or 10 limit (word cs) 0 N accepted
+    module _ (room : N ≤ length vs) {pass : Pass} (found : OnePass (N * 1000000 + N) (word cs) 0 N pass) where
+      past : inverse_verdict cs N vs ≡ first_beyond_or 10 (largest_coefficient N) (word cs) 0 N accepted
       unfolding inverse_verdict
-      past = passed_by t _ passed ∙ rw (l, le-ltb _ _ room)
+      past = passed_by t _ passed ∙ rw (le-ltb _ _ room)
 
-      pub beyond_limit : {place looks : ℕ} → pass ≡ At place looks → InversePromise cs N vs vs (Refused (BeyondLimit place))
+      pub beyond_limit : {place : ℕ} → pass.place ≡ Some place → InversePromise cs N vs vs (Err (BeyondLimit place))
       beyond_limit {place} e = turned_down (BeyondLimit place) refl (past ∙ found_at 10 accepted found e)
 
-      pub all_within : {looks : ℕ} → pass ≡ None looks → Accepted cs vs N
-      all_within e =
-          let range : (n : ℕ) → n < N → nat_abs (word cs n) ≤ largest_coefficient N
-          = λ n h. omega (arith, all_in found e n (omega arith) (omega arith), l) in
-          record {
-            stored = record { length_ok = length_ok; enough = enough; range = range };
-            room = room;
-            writes = λ w. carried_out refl (past ∙ found_none 10 accepted found e)
-                (record { words = w; length_ok = length_ok; range = range });
-          }
+      -- behind the last test the N coefficients are lent
+      module _ (none : pass.place ≡ None) where
+        range : (k : ℕ) → k < N → nat_abs (word cs k) ≤ largest_coefficient N
+        range k h = all_in found none k (omega arith) (omega arith)
+
+        pub ready : Stored (length (take N cs)) (take N cs) × (length (take N cs) ≤ length vs)
+        ready =
+            let stored : Stored N (take N cs) = record {
+              length_ok = length_ok;
+              enough = omega (arith, lent);
+              range = λ k h. rw (front k h) (range k h);
+            } in
+            rw lent (stored, room)
+
+        pub written : {vs' : List ℤ}
+            → let n = length (take N cs) in Written 0 n (inverse_dct n (word (take N cs))) vs vs' → InversePromise cs N vs vs' (Ok tt)
+        written w = carried_out refl (past ∙ found_none 10 accepted found none) (record {
+          words = written_same (rw lent at w) refl (λ k h. value_same N _ _ k (length_pos N length_ok) front);
+          length_ok = length_ok;
+          range = range;
+        })
+
+-- what the check tries in the run of `inverse_dct`
+pub ruleset inverse_tests = (common_steps, length-take-le, not_stored, enough, too_short, beyond_limit, ready, written)
 
 -- ---- the whole verdict where nothing is amiss
 pub accepts : (cs vs : List ℤ) (N : ℕ) → is_length N ≡ true → N ≤ length cs → N ≤ length vs

@@ -1,9 +1,11 @@
 -- T round the circle: its symmetries, its size and its nearness to K, each from T on the first quarter.
 -- Assumes nothing.
 use mathlib.Core.Path.{◌≡◌, ap, ◌∙◌}
-use Prim.Native.Nat.{ℕ, ◌+◌, ◌*◌, ◌^◌, ◌≤◌}
+use mathlib.Core.Logic.{⊎_elim}
+use Prim.Native.Nat.{ℕ, ◌+◌, ◌-◌, ◌*◌, ◌^◌, min, ◌≤◌, ◌<◌}
 use native.Mathlib.Omega.{arith}
 use lib.IntN.{ℤ, pos, neg_ℤ, ◌-ℤ◌, ◌*ℤ◌}
+use Rattle.whole.proofs.Cases.{le_or_lt}
 use Rattle.whole.proofs.Difference.{int, parts, diff}
 use Rattle.whole.proofs.Size.{near, ◌within◌, size_within, within_neg, within_eq, within-⊖}
 use Rattle.circle.specs.Circle.{first_quarter, K, T}
@@ -28,6 +30,21 @@ wave_opposite i j m h = on_opposite T known_places.last i j m h
 pub wave_start : T° 0 ≡ pos (2 ^ 30)
 unfolding T°
 wave_start = on_quarter T 0 (omega arith) ∙ known_places.first
+
+-- a place folded to the first half of the circle: up to 1,024 it is T, beyond it the negative of T
+module _ (p j : ℕ) (h : j ≡ min p (4096 - p)) (l : p < 4096) where
+  folded : T° p ≡ T° j
+  folded = ⊎_elim (λ o. wave_mirror p j 1 (omega arith)) (λ o. ap T° {x = p} {y = j} (omega arith)) (le_or_lt (4096 - p) p)
+
+  entry : (k : ℕ) → k ≤ 1024 → T° k ≡ T k
+  unfolding T°
+  entry k i = on_quarter T k i
+
+  pub wave_low : j ≤ 1024 → T° p ≡ T j
+  wave_low i = folded ∙ entry j i
+
+  pub wave_high : 1024 < j → T° p ≡ neg_ℤ (T (2048 - j))
+  wave_high i = folded ∙ wave_opposite j (2048 - j) 0 (omega arith) ∙ ap neg_ℤ (entry (2048 - j) (omega arith))
 
 pub wave_small : (p : ℕ) → T° p within 2 ^ 30
 unfolding T°

@@ -7,26 +7,24 @@ mod value;
 
 ghost use Rattle.inverse.specs.Promises.{InversePromise};
 
-use refusals::range::{Pass, first_beyond};
-use refusals::refusal::{Outcome, Refusal};
+use refusals::range::first_beyond;
+use refusals::refusal::Refusal;
 use refusals::stored::test_stored;
 use value::put_values;
 
 // The strain of a block of `length` samples, from its stored DCT-II coefficients.
-pub fn inverse_dct(coefficients: &[i32], length: usize, values: &mut [i32]) -> Outcome
+#[tactic(auto, using(crate::proofs::Verdicts::inverse_tests))]
+pub fn inverse_dct(coefficients: &[i32], length: usize, values: &mut [i32]) -> Result<(), Refusal>
     ensures { InversePromise coefficients.now length values.old values.new result }
 {
-    let tested = test_stored(length, coefficients.len(), length);
-    if let Outcome::Refused(refusal) = tested {
-        return Outcome::Refused(refusal);
-    }
+    test_stored(length, coefficients.len(), length)?;
     if values.len() < length {
-        return Outcome::Refused(Refusal::ResultTooShort);
+        return Err(Refusal::ResultTooShort);
     }
     let limit = (length * 1000000 + length) as u32;
-    if let Pass::At { place, looks: _ } = first_beyond(limit, coefficients, 0, length) {
-        return Outcome::Refused(Refusal::BeyondLimit(place));
+    if let Some(place) = first_beyond(limit, coefficients, 0, length).place {
+        return Err(Refusal::BeyondLimit(place));
     }
-    put_values(coefficients, length, values);
-    Outcome::Accepted
+    put_values(&coefficients[..length], values);
+    Ok(())
 }

@@ -105,6 +105,14 @@ half N h l =
     let e = eqb→eq _ _ (both_right _ _ t) in
     record { ok = is_true _ (both_left _ _ t); level_is = e; twice = as_len N h ∙ ap len e }
 
+-- twice a length is one, but for the longest
+doublable : ℕ → Bool
+doublable N = cond (ltb 512 N) true (is_length (2 * N))
+
+pub twice_length : (N : ℕ) → is_length N ≡ true → N ≤ 512 → is_length (2 * N) ≡ true
+unfolding is_length both every doublable
+twice_length N h l = is_true _ (rw (le-ltb 512 N l) at (every_at doublable N lengths tt h))
+
 pub twice_half : (N : ℕ) → is_length N ≡ true → 2 ≤ N → 2 * (N / 2) ≡ N
 twice_half N h l = omega (arith, (half N h l).twice)
 

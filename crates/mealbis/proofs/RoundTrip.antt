@@ -16,7 +16,7 @@ use Rattle.refusals.proofs.Calls.{Passes, passes}
 use Rattle.spectra.specs.Answers.{spent}
 use Rattle.spectra.specs.Promises.{cosine_call, CosineDone}
 use Rattle.inverse.specs.Inverse.{inverse_dct, largest_coefficient}
-use Rattle.refusals.specs.Answers.{outcome}
+use Rattle.refusals.specs.Answers.{answered}
 use Rattle.inverse.proofs.Values.{value_same}
 use Rattle.inverse.proofs.Verdicts.{accepts}
 use Rattle.inverse.proofs.RoundTrip.{round_trip}
@@ -53,7 +53,7 @@ cosine_and_back r start N allowance cs scratch cs' scratch' cosine p ok values v
     words : (k : ℕ) → k < N → word cs' k ≡ (dct (level N) (block r start)).at k
     words = front d.words
 
-    is_accepted : outcome back ≡ accepted
+    is_accepted : answered back ≡ accepted
     is_accepted = q.verdict
         ∙ accepts cs' values N length_ok (omega (arith, d.words.len, passed.results.0)) room
         (stored N (block r start) cs' length_ok d.block words)

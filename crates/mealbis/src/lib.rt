@@ -3,43 +3,50 @@
 // The calls for programs in C and in Rust: plain numbers, slices as pointer and length, and the answer as the number of document 01 or 02,
 // 0 where the call is accepted. What else an answer tells comes back through one lent record of words, which are written in every answer.
 // No function asks anything of its input, and each promises what the call that it makes promises (specs/Promises.antt). include/mealbis.h
-// is written for who calls them.
+// is written for who calls them. Parameters stand one by one, and what is told is plain words, since C is on the other side.
 pub mod version;
 
 ghost use Rattle.std.specs.Prelude.{◌≡◌};
 ghost use Rattle.refusals.specs.Refusals.{number};
-ghost use Rattle.spectra.specs.Answers.{verdict_of, number_of_mark};
+ghost use Rattle.refusals.specs.Answers.{answered};
+ghost use Rattle.spectra.specs.Answers.{number_of_mark};
 ghost use Rattle.spectra.specs.Promises.{buffers, pair_buffers};
 ghost use Rattle.months.specs.Months.{length_of};
 ghost use Rattle.months.specs.Promises.{given};
 ghost use Rattle.mealbis.specs.Promises.{spent_and_place, SpectrumTold, CosineTold, PairTold, MarkTold, CountsTold};
 ghost use Rattle.mealbis.specs.Promises.{BeginTold, AddTold, NumberTold, SumsTold, InverseTold, PageTold, ReadTold, WriteTold};
 
+use counts::tally::Tally;
 use months::record;
-use months::record::{NumberAnswer, Record, SumsAnswer};
-use pairfile::reader::ReadAnswer;
+use months::record::Record;
 use pairfile::{reader, writer};
-use refusals::refusal::{Filled, Outcome, number_of, place_of};
-use spectra::marks::{Mark, MarkAnswer};
-use spectra::{Answer, CountsAnswer, marks};
+use refusals::call::Request;
+use refusals::refusal::Refusal;
+use spectra::marks;
+use spectra::marks::{Mark, Marked};
 
-// What C is told of a call on recordings: products, sums, the largest rest and the place.
-fn tell(answer: Answer, told: &mut [u64; 4]) -> u32
-    ensures { (result ≡ number (verdict_of answer)) × (told.new ≡ spent_and_place answer) }
+// The number that is returned: that of the refusal, or 0 where the call is accepted.
+fn number_told<A>(answer: &Result<A, Refusal>) -> u32
+    ensures { result ≡ number (answered answer.now) }
 {
     match answer {
-        Answer::Refused(refusal) => {
-            *told = [0, 0, 0, place_of(refusal) as u64];
-            number_of(refusal)
-        }
-        Answer::Done(tally) => {
-            *told = [tally.products, tally.sums, tally.largest_rest, 0];
-            0
-        }
+        Ok(_) => 0,
+        Err(refusal) => u32::from(*refusal),
     }
 }
 
-// The mark as a number: flat 1, clipped 2, plain 3.
+// What C is told of a call on recordings: products, sums, the largest rest and the place.
+fn tell(answer: Result<Tally, Refusal>, told: &mut [u64; 4]) -> u32
+    ensures { (result ≡ number (answered answer)) × (told.new ≡ spent_and_place answer) }
+{
+    *told = match answer {
+        Ok(tally) => [tally.products, tally.sums, tally.largest_rest, 0],
+        Err(refusal) => [0, 0, 0, refusal.place() as u64],
+    };
+    number_told(&answer)
+}
+
+// The mark as a number: flat 1, clipped 2, plain 3. (Only C needs it, so it is no `From` in spectra.)
 fn number_of_mark(mark: Mark) -> u64
     ensures { result ≡ number_of_mark mark }
 {
@@ -67,7 +74,12 @@ pub extern "C" fn mealbis_spectrum(
         (buffers cosine.old sine.old scratch.old)
         (buffers cosine.new sine.new scratch.new) told.new result }
 {
-    let answer = spectra::spectrum(recording, start, length, allowance, cosine, sine, scratch);
+    let request = Request {
+        start,
+        length,
+        allowance,
+    };
+    let answer = spectra::spectrum(recording, request, cosine, sine, scratch);
     tell(answer, told)
 }
 
@@ -84,7 +96,12 @@ pub extern "C" fn mealbis_cosine(
     ensures { CosineTold recording.now start length allowance coefficients.old scratch.old
         coefficients.new scratch.new told.new result }
 {
-    let answer = spectra::cosine(recording, start, length, allowance, coefficients, scratch);
+    let request = Request {
+        start,
+        length,
+        allowance,
+    };
+    let answer = spectra::cosine(recording, request, coefficients, scratch);
     tell(answer, told)
 }
 
@@ -104,7 +121,12 @@ pub extern "C" fn mealbis_pair(
         (pair_buffers real.old imaginary.old scratch.old)
         (pair_buffers real.new imaginary.new scratch.new) told.new result }
 {
-    let answer = spectra::pair(a, b, start, length, allowance, real, imaginary, scratch);
+    let request = Request {
+        start,
+        length,
+        allowance,
+    };
+    let answer = spectra::pair(a, b, request, real, imaginary, scratch);
     tell(answer, told)
 }
 
@@ -126,25 +148,25 @@ pub extern "C" fn mealbis_mark(
         (buffers cosine.old sine.old scratch.old)
         (buffers cosine.new sine.new scratch.new) told.new result }
 {
+    let request = Request {
+        start,
+        length,
+        allowance,
+    };
     let answer = marks::mark_block(
-        recording, start, length, allowance, flat_limit, clip_level, cosine, sine, scratch,
+        recording, request, flat_limit, clip_level, cosine, sine, scratch,
     );
-    match answer {
-        MarkAnswer::Refused(refusal) => {
-            *told = [0, 0, 0, place_of(refusal) as u64, 0];
-            number_of(refusal)
-        }
-        MarkAnswer::Marked(mark, tally) => {
-            *told = [
-                tally.products,
-                tally.sums,
-                tally.largest_rest,
-                0,
-                number_of_mark(mark),
-            ];
-            0
-        }
-    }
+    *told = match answer {
+        Ok(Marked { mark, spent }) => [
+            spent.products,
+            spent.sums,
+            spent.largest_rest,
+            0,
+            number_of_mark(mark),
+        ],
+        Err(refusal) => [0, 0, 0, refusal.place() as u64, 0],
+    };
+    number_told(&answer)
 }
 
 // ---- months, in lent words
@@ -154,10 +176,7 @@ pub extern "C" fn mealbis_mark(
 pub extern "C" fn mealbis_month_begin(month: &mut Record, length: usize) -> u32
     ensures { BeginTold length month.new result }
 {
-    match record::begin_in(month, length) {
-        Outcome::Refused(refusal) => number_of(refusal),
-        Outcome::Accepted => 0,
-    }
+    number_told(&record::begin_in(month, length))
 }
 
 // Spectrum, and its coefficients added to a month for the party; it tells what Spectrum tells.
@@ -179,9 +198,12 @@ pub extern "C" fn mealbis_month_add(
         month.old month.new (buffers cosine.new sine.new scratch.new)
         told.new result }
 {
-    let answer = record::add_to(
-        month, party, recording, start, length, allowance, cosine, sine, scratch,
-    );
+    let request = Request {
+        start,
+        length,
+        allowance,
+    };
+    let answer = record::add_to(month, party, recording, request, cosine, sine, scratch);
     tell(answer, told)
 }
 
@@ -198,16 +220,9 @@ pub extern "C" fn mealbis_month_length(month: &Record) -> usize
 pub extern "C" fn mealbis_month_blocks(month: &Record, party: usize, told: &mut [i64; 1]) -> u32
     ensures { NumberTold party month.now told.new result }
 {
-    match record::block_number(month, party) {
-        NumberAnswer::Refused(refusal) => {
-            *told = [0];
-            number_of(refusal)
-        }
-        NumberAnswer::Blocks(blocks) => {
-            *told = [blocks];
-            0
-        }
-    }
+    let answer = record::block_number(month, party);
+    *told = [answer.unwrap_or(0)];
+    number_told(&answer)
 }
 
 // Both sums of the party for k, of the cosine and of the sine.
@@ -220,16 +235,12 @@ pub extern "C" fn mealbis_month_sums(
 ) -> u32
     ensures { SumsTold party month.now k told.new result }
 {
-    match record::sums_at(month, party, k) {
-        SumsAnswer::Refused(refusal) => {
-            *told = [0, 0];
-            number_of(refusal)
-        }
-        SumsAnswer::Yielded(sums) => {
-            *told = [sums.cosine, sums.sine];
-            0
-        }
-    }
+    let answer = record::sums_at(month, party, k);
+    *told = match answer {
+        Ok(sums) => [sums.cosine, sums.sine],
+        Err(_) => [0, 0],
+    };
+    number_told(&answer)
 }
 
 // ---- the other calls
@@ -239,23 +250,19 @@ pub extern "C" fn mealbis_month_sums(
 pub extern "C" fn mealbis_counts(length: usize, told: &mut [u64; 6]) -> u32
     ensures { CountsTold length told.new result }
 {
-    match spectra::count_query(length) {
-        CountsAnswer::Refused(refusal) => {
-            *told = [0; 6];
-            number_of(refusal)
-        }
-        CountsAnswer::Counted(counts) => {
-            *told = [
-                counts.dct.products,
-                counts.dct.sums,
-                counts.spectrum.products,
-                counts.spectrum.sums,
-                counts.pair.products,
-                counts.pair.sums,
-            ];
-            0
-        }
-    }
+    let answer = spectra::count_query(length);
+    *told = match answer {
+        Ok(counts) => [
+            counts.dct.products,
+            counts.dct.sums,
+            counts.spectrum.products,
+            counts.spectrum.sums,
+            counts.pair.products,
+            counts.pair.sums,
+        ],
+        Err(_) => [0; 6],
+    };
+    number_told(&answer)
 }
 
 // Strain back from a stored cosine block; it tells the place.
@@ -268,16 +275,12 @@ pub extern "C" fn mealbis_inverse_dct(
 ) -> u32
     ensures { InverseTold coefficients.now length values.old values.new told.new result }
 {
-    match inverse::inverse_dct(coefficients, length, values) {
-        Outcome::Refused(refusal) => {
-            *told = [place_of(refusal) as u64];
-            number_of(refusal)
-        }
-        Outcome::Accepted => {
-            *told = [0];
-            0
-        }
-    }
+    let answer = inverse::inverse_dct(coefficients, length, values);
+    *told = match answer {
+        Ok(()) => [0],
+        Err(refusal) => [refusal.place() as u64],
+    };
+    number_told(&answer)
 }
 
 // The page of a stored spectrum, into a lent buffer; it tells its bytes.
@@ -292,16 +295,9 @@ pub extern "C" fn mealbis_page(
     ensures { PageTold cosine.now sine.now length page.old page.new
         told.new result }
 {
-    match pages::fill_page(cosine, sine, length, page) {
-        Filled::Refused(refusal) => {
-            *told = [0];
-            number_of(refusal)
-        }
-        Filled::Bytes(bytes) => {
-            *told = [bytes as u64];
-            0
-        }
-    }
+    let answer = pages::fill_page(cosine, sine, length, page);
+    *told = [answer.unwrap_or(0) as u64];
+    number_told(&answer)
 }
 
 // A pair file, to two recordings; it tells the samples of each, the length of a block and the place.
@@ -315,16 +311,12 @@ pub extern "C" fn mealbis_read(
     ensures { ReadTold file.now a.old b.old a.new b.new
         told.new result }
 {
-    match reader::read(file, a, b) {
-        ReadAnswer::Refused(refusal) => {
-            *told = [0, 0, place_of(refusal) as u64];
-            number_of(refusal)
-        }
-        ReadAnswer::Read(sizes) => {
-            *told = [sizes.samples as u64, sizes.length as u64, 0];
-            0
-        }
-    }
+    let answer = reader::read(file, a, b);
+    *told = match answer {
+        Ok(sizes) => [sizes.samples as u64, sizes.length as u64, 0],
+        Err(refusal) => [0, 0, refusal.place() as u64],
+    };
+    number_told(&answer)
 }
 
 // The pair file of two recordings, into a lent buffer; it tells its bytes and the place.
@@ -339,14 +331,10 @@ pub extern "C" fn mealbis_write(
     ensures { WriteTold a.now b.now length file.old file.new
         told.new result }
 {
-    match writer::write(a, b, length, file) {
-        Filled::Refused(refusal) => {
-            *told = [0, place_of(refusal) as u64];
-            number_of(refusal)
-        }
-        Filled::Bytes(bytes) => {
-            *told = [bytes as u64, 0];
-            0
-        }
-    }
+    let answer = writer::write(a, b, length, file);
+    *told = match answer {
+        Ok(bytes) => [bytes as u64, 0],
+        Err(refusal) => [0, refusal.place() as u64],
+    };
+    number_told(&answer)
 }

@@ -1,22 +1,20 @@
--- A run of adding to an account: the promise at each of its ends.
+-- A run of adding to an account that is not full: the promise where Spectrum is refused, and where its block is added.
 -- Assumes nothing.
-use mathlib.Core.Path.{◌≡◌, refl, sym, ap, subst, ◌∙◌}
-use mathlib.Core.Bool.{true, false}
+use mathlib.Core.Path.{◌≡◌, refl, sym, ap, ◌∙◌}
+use mathlib.Core.Bool.{false}
 use mathlib.Core.List.{List}
 use Prim.Native.Nat.{ℕ, ◌+◌, ◌/◌, ◌≤◌}
 use native.Mathlib.Omega.{arith}
 use lib.IntN.{ℤ}
 use lib.ListN.{length}
+use Rattle.std.specs.Prelude.{Ok, Err}
 use Rattle.words.specs.Words.{Samples, word}
 use Rattle.words.proofs.Writing.{front}
 use Rattle.lengths.proofs.ElevenLengths.{length_le}
 use Rattle.counts.specs.declared.tally.Tally.{Tally}
 use Rattle.refusals.specs.declared.refusal.Refusal.{Refusal}
-use Rattle.refusals.specs.declared.refusal.Refusal.TheVariants.{MonthFull}
 use Rattle.refusals.proofs.Promises.{refuses, turned_down, carried_out}
 use Rattle.refusals.proofs.Calls.{passes}
-use Rattle.spectra.specs.declared.Answer.{Answer}
-use Rattle.spectra.specs.declared.Answer.TheVariants.{Refused, Done}
 use Rattle.spectra.specs.Promises.{Buffers, SpectrumPromise}
 use Rattle.months.specs.Accounts.{full, plus, BlockAdded}
 use Rattle.months.specs.Promises.{Given, call_of, AccountPromise}
@@ -33,39 +31,30 @@ block_same cosines sines added = record {
   len = added.len;
 }
 
--- ---- a run
-module _ (g : Given) (account : List ℤ) where
-  pub is_full : full account ≡ true → AccountPromise g account account g.lent (Refused MonthFull)
-  is_full e = turned_down MonthFull (refl, refl) (rw e refl)
+-- ---- a run: Spectrum, and its coefficients added to an account that is not full
+module _ (g : Given) {lent' : Buffers} where
+  pub spectrum_refused : {account : List ℤ} {refusal : Refusal} → full account ≡ false
+      → SpectrumPromise g.recording g.start g.N g.allowance g.lent lent' (Err refusal)
+      → AccountPromise g account account lent' (Err refusal)
+  spectrum_refused {refusal = refusal} room q = turned_down refusal (refl, q.unchanged (refuses refusal)) (rw room (sym q.verdict))
 
-  module _ (room : full account ≡ false) {lent' : Buffers} {answer : Answer}
-      (p : SpectrumPromise g.recording g.start g.N g.allowance g.lent lent' answer) where
-    with_answer : {a : Answer} → answer ≡ a → SpectrumPromise g.recording g.start g.N g.allowance g.lent lent' a
-    with_answer e = subst (λ a. SpectrumPromise g.recording g.start g.N g.allowance g.lent lent' a) e p
+  module _ {tally : Tally} (q : SpectrumPromise g.recording g.start g.N g.allowance g.lent lent' (Ok tally)) where
+    pub add_ready : (g.N ≤ 1024) × (g.N / 2 + 1 ≤ length lent'.cosine) × (g.N / 2 + 1 ≤ length lent'.sine)
+    add_ready =
+        let passed = passes (call_of g) (sym q.verdict) in
+        let done = q.done refl in (
+          length_le g.N passed.length_ok,
+          omega (arith, passed.results.0, done.cosine_words.len),
+          omega (arith, passed.results.1.0, done.sine_words.len),
+        )
 
-    pub spectrum_refused : {refusal : Refusal} → answer ≡ Refused refusal → AccountPromise g account account lent' answer
-    spectrum_refused {refusal} e =
-        let q = with_answer e in rw e (turned_down refusal (refl, q.unchanged (refuses refusal)) (rw room (sym q.verdict)))
-
-    module _ {tally : Tally} (e : answer ≡ Done tally) where
-      pub add_ready : (g.N ≤ 1024) × (g.N / 2 + 1 ≤ length lent'.cosine) × (g.N / 2 + 1 ≤ length lent'.sine)
-      add_ready =
-          let q = with_answer e in
-          let passed = passes (call_of g) (sym q.verdict) in
-          let done = q.done refl in (
-            length_le g.N passed.length_ok,
-            omega (arith, passed.results.0, done.cosine_words.len),
-            omega (arith, passed.results.1.0, done.sine_words.len),
-          )
-
-      pub block_held : {account' : List ℤ} → BlockAdded g.N (word lent'.cosine) (word lent'.sine) account account'
-          → AccountPromise g account account' lent' answer
-      block_held {account'} b =
-          let q = with_answer e in
-          let done = q.done refl in
-          let added = block_same (λ k h. front done.cosine_words k (omega arith)) (λ k h. front done.sine_words k (omega arith)) b in
-          rw e (carried_out refl (rw room (sym q.verdict)) (record {
-            spectrum = done;
-            words = added;
-            holds = λ history held. one_more held room done.block added;
-          }))
+    pub block_held : {account account' : List ℤ} → full account ≡ false
+        → BlockAdded g.N (word lent'.cosine) (word lent'.sine) account account' → AccountPromise g account account' lent' (Ok tally)
+    block_held room b =
+        let done = q.done refl in
+        let added = block_same (λ k h. front done.cosine_words k (omega arith)) (λ k h. front done.sine_words k (omega arith)) b in
+        carried_out refl (rw room (sym q.verdict)) (record {
+          spectrum = done;
+          words = added;
+          holds = λ history held. one_more held room done.block added;
+        })

@@ -10,16 +10,16 @@ use lib.ListN.{replicate}
 use mir.Syntax.{w64}
 use mir.Val.{SFits, to_z, of_z}
 use mir.Facts.{to_z-of_z}
+use Rattle.std.specs.Prelude.{Result, ⊤, Ok, Err, IsErrAnd}
 use Rattle.whole.proofs.Difference.{int}
 use Rattle.whole.proofs.Operations.{natural}
 use Rattle.words.specs.Words.{word}
 use Rattle.lengths.specs.Block.{is_length}
 use Rattle.lengths.proofs.ElevenLengths.{length_le}
 use Rattle.refusals.specs.declared.refusal.Refusal.TheVariants.{BadLength}
-use Rattle.refusals.specs.declared.refusal.Outcome.{Outcome}
-use Rattle.refusals.specs.declared.refusal.Outcome.TheVariants.{Refused, Accepted}
+use Rattle.refusals.specs.declared.refusal.Refusal.{Refusal}
 use Rattle.refusals.specs.Refusals.{refused, accepted}
-use Rattle.refusals.specs.Answers.{outcome}
+use Rattle.refusals.specs.Answers.{answered}
 use Rattle.months.specs.Accounts.{account_words, Holds, sum_over, AllAccepted}
 use Rattle.months.specs.Months.{marked, length_of, account, account_at, new_month}
 use Rattle.months.specs.Laws.{AlwaysOther}
@@ -50,7 +50,7 @@ empty N p n small = record {
   beyond = λ k h l. (new_account N p (1 + k) (omega arith), new_account N p (514 + k) (omega arith));
 }
 
-pub promise : (N : ℕ) {answer : Outcome} → outcome answer ≡ cond (not (is_length N)) (refused 1) accepted
+pub promise : (N : ℕ) {answer : Result ⊤ Refusal} → answered answer ≡ cond (not (is_length N)) (refused 1) accepted
     → BeginPromise N (new_month N) answer
 promise N told = record {
   verdict = told;
@@ -59,10 +59,13 @@ promise N told = record {
   empty = λ p h. empty N p (length_of (new_month N)) (length_small (new_month N));
 }
 
-pub not_begun : (N : ℕ) → is_length N ≡ false → BeginPromise N (pos 0 ∷ replicate (2 * account_words) (pos 0)) (Refused BadLength)
-not_begun N e =
-    subst (λ m. BeginPromise N m (Refused BadLength)) {x = new_month N} {y = pos 0 ∷ replicate (2 * account_words) (pos 0)} (rw e refl)
-    (promise N (rw e refl))
+pub not_begun : (N : ℕ) (answer : Result ⊤ Refusal) → is_length N ≡ false → IsErrAnd answer (λ refusal. refusal ≡ BadLength)
+    → BeginPromise N (pos 0 ∷ replicate (2 * account_words) (pos 0)) answer
+not_begun N (Ok t) e is = absurd is
+not_begun N (Err refusal) e is =
+    rw is
+    (subst (λ m. BeginPromise N m (Err BadLength)) {x = new_month N} {y = pos 0 ∷ replicate (2 * account_words) (pos 0)} (rw e refl)
+    (promise N (rw e refl)))
 
 -- the mark as the word that is stored
 module _ (N : ℕ) (e : is_length N ≡ true) where
@@ -70,17 +73,24 @@ module _ (N : ℕ) (e : is_length N ≡ true) where
   unfolding int
   read = (natural {w = w64} {n = N} (omega (arith, length_le N e))).is
 
-  pub mark_fits : SFits w64 (pos (marked 0) +ℤ to_z w64 N)
+  mark_fits : SFits w64 (pos (marked 0) +ℤ to_z w64 N)
   mark_fits = rw read (record { sfits = omega (arith, length_le N e) })
 
   stored : to_z w64 (of_z w64 (pos (marked 0) +ℤ to_z w64 N)) ≡ pos (marked N)
   stored = to_z-of_z mark_fits ∙ rw read refl
 
-  pub begun : BeginPromise N (to_z w64 (of_z w64 (pos (marked 0) +ℤ to_z w64 N)) ∷ replicate (2 * account_words) (pos 0)) Accepted
-  begun =
+  begun_lem : BeginPromise N (to_z w64 (of_z w64 (pos (marked 0) +ℤ to_z w64 N)) ∷ replicate (2 * account_words) (pos 0)) (Ok tt)
+  begun_lem =
       rw stored
-      (subst (λ m. BeginPromise N m Accepted) {x = new_month N} {y = pos (marked N) ∷ replicate (2 * account_words) (pos 0)} (rw e refl)
+      (subst (λ m. BeginPromise N m (Ok tt)) {x = new_month N} {y = pos (marked N) ∷ replicate (2 * account_words) (pos 0)} (rw e refl)
       (promise N (rw e refl)))
+
+-- the length that was taken for N
+pub begun : {n N : ℕ} → is_length n ≡ true → n ≡ N
+    → BeginPromise N (to_z w64 (of_z w64 (pos (marked 0) +ℤ to_z w64 n)) ∷ replicate (2 * account_words) (pos 0)) (Ok tt)
+begun {n} e same =
+    subst (λ N. BeginPromise N (to_z w64 (of_z w64 (pos (marked 0) +ℤ to_z w64 n)) ∷ replicate (2 * account_words) (pos 0)) (Ok tt)) same
+    (begun_lem n e)
 
 -- ---- a month whose beginning was refused
 pub always_other : AlwaysOther

@@ -9,6 +9,7 @@ use lib.Dec.{leb, lit≤}
 use lib.IntN.{ℤ}
 use lib.ListN.{length}
 use borrow.Author.Tests.{le-leb}
+use Rattle.std.specs.Prelude.{Result, ⊤, Ok}
 use Rattle.whole.specs.Round.{nearest, round}
 use Rattle.whole.specs.Sum.{sum}
 use Rattle.circle.specs.Circle.{root_of, halved, unit_step, step, stepped, first_quarter, on_half, on_circle, K, T}
@@ -17,14 +18,12 @@ use Rattle.lengths.specs.Block.{is_length, level}
 use Rattle.ffct.specs.Exact.{exact_cosine, distance, Within}
 use Rattle.ffct.specs.Transforms.{alternate, rearranged, cosine_beyond, sine_beyond, dct_beyond, apart, unrounded, rotated}
 use Rattle.ffct.specs.Transforms.{dct_by, cosine_dft, sine_dft, dct, spectrum}
-use Rattle.refusals.specs.declared.refusal.Outcome.{Outcome}
-use Rattle.refusals.specs.declared.refusal.Outcome.TheVariants.{Accepted}
+use Rattle.counts.specs.declared.tally.Tally.{Tally}
+use Rattle.refusals.specs.declared.refusal.Refusal.{Refusal}
 use Rattle.refusals.specs.Refusals.{first_beyond, number}
 use Rattle.refusals.proofs.Exclusion.{differ, code, words_differ, done_of, stays}
-use Rattle.spectra.specs.declared.Answer.{Answer}
 use Rattle.spectra.specs.Promises.{Buffers}
-use Rattle.months.specs.declared.record.NumberAnswer.{NumberAnswer}
-use Rattle.months.specs.declared.record.SumsAnswer.{SumsAnswer}
+use Rattle.months.specs.declared.account.Sums.{Sums}
 use Rattle.months.specs.Accounts.{block_number, cosine_sum, plus, sum_over, eighths}
 use Rattle.months.specs.Months.{length_of, account, new_month}
 use Rattle.months.specs.Runs.{read_length, length_read, tells_length, Made, Calls, none, more, Run}
@@ -32,7 +31,7 @@ use Rattle.months.specs.Isolation.{calls_of, seen_by}
 use Rattle.months.specs.Excluded.{BeginExcluded, AddExcluded, ReadExcluded, OthersNumber, OthersSee}
 use Rattle.months.proofs.Beginning.{promise}
 
-pub begin_excluded : (month' : List ℤ) (answer : Outcome) → BeginExcluded month' answer
+pub begin_excluded : (month' : List ℤ) (answer : Result ⊤ Refusal) → BeginExcluded month' answer
 unfolding code is_length length_of account
 begin_excluded _ _ = record {
   bad_begun = λ p w. differ (ap number p.verdict) w tt;
@@ -42,7 +41,7 @@ begin_excluded _ _ = record {
   unmarked = λ p w. words_differ (ap (λ m. word m 0) p.words) w tt;
 }
 
-pub add_excluded : (month' : List ℤ) (lent : Buffers) (answer : Answer) → AddExcluded month' lent answer
+pub add_excluded : (month' : List ℤ) (lent : Buffers) (answer : Result Tally Refusal) → AddExcluded month' lent answer
 unfolding code cosine_dft spectrum is_length level first_beyond length_of account plus
 add_excluded _ _ _ = record {
   refused_counted = λ p w. words_differ (ap (λ m. block_number (account 1 m)) (stays p tt).0) w tt;
@@ -66,7 +65,7 @@ add_excluded _ _ _ = record {
   earlier_written = λ p w. words_differ (ap (λ m. word m 2) (stays p tt).0) w tt;
 }
 
-pub read_excluded : (told : NumberAnswer) (answer : SumsAnswer) → ReadExcluded told answer
+pub read_excluded : (told : Result ℤ Refusal) (answer : Result Sums Refusal) → ReadExcluded told answer
 unfolding code is_length length_of account
 read_excluded _ _ = record {
   number_of_other = λ p w. words_differ (p.number p.verdict) w tt;
@@ -93,7 +92,7 @@ others_number month one two near = false≢true (no_distance _ _ (rw (one.cosine
 
 begun : {made : List Made} {month : List ℤ} → Calls (new_month 1) made month → Run 1 made month
 unfolding is_length
-begun calls = record { start = new_month 1; answer = Accepted; begun = promise 1 refl; calls = calls }
+begun calls = record { start = new_month 1; answer = Ok tt; begun = promise 1 refl; calls = calls }
 
 pub others_see : OthersSee
 unfolding calls_of seen_by

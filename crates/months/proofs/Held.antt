@@ -1,46 +1,53 @@
--- In a month by value that adding gives, each account holds a history where it does in the month before; and what is read of such a month
--- is small.
+-- In a month that is begun each account holds a history, and so it does in one to which was added; and the sums that are read of such a
+-- month are small.
 -- Assumes nothing.
 use mathlib.Core.Path.{◌≡◌, refl, sym}
 use mathlib.Core.Bool.{Bool, true, false, cond, not, ◌&&◌, false≢true}
 use mathlib.Core.List.{[], ◌++◌}
-use Prim.Native.Nat.{ℕ, ◌/◌, ◌^◌, ◌≤◌}
+use Prim.Native.Nat.{ℕ, ◌/◌}
 use native.Mathlib.Omega.{arith}
 use lib.Dec.{eqb, leb}
-use lib.IntN.{ℤ, nat_abs}
+use lib.IntN.{ℤ}
 use borrow.Author.Tests.{leb-true}
+use Rattle.std.specs.Prelude.{List, Result, Ok, Err, IfOk, ⊤}
+use Rattle.std.specs.Coded.{×_prop, le_prop}
+use Rattle.std.proofs.Math.Logic.{∥∥₁_map, ∥∥₁_elim}
+use Rattle.counts.specs.declared.tally.Tally.{Tally}
+use Rattle.refusals.specs.declared.refusal.Refusal.{Refusal}
 use Rattle.refusals.specs.Refusals.{refused, accepted}
 use Rattle.refusals.proofs.Promises.{not_both, past_test}
 use Rattle.spectra.specs.Promises.{Buffers}
-use Rattle.months.specs.declared.Month.{Month}
-use Rattle.months.specs.declared.Added.{Added}
 use Rattle.months.specs.declared.account.Sums.{Sums}
-use Rattle.months.specs.declared.record.NumberAnswer.TheVariants.{Blocks}
-use Rattle.months.specs.declared.record.SumsAnswer.TheVariants.{Yielded}
-use Rattle.months.specs.Accounts.{most_blocks}
-use Rattle.months.specs.Months.{length_of, unknown_party, yielded}
-use Rattle.months.specs.Promises.{Given, AddPromise, NumberPromise, SumsPromise, Held, Adding}
+use Rattle.months.specs.Months.{length_of, unknown_party, HoldsHistories, yielded}
+use Rattle.months.specs.Answers.{SmallSums}
+use Rattle.months.specs.Promises.{Given, BeginPromise, AddPromise, SumsPromise}
 use Rattle.months.specs.Runs.{add, added, adds, Made, block_in}
 use Rattle.months.proofs.Holding.{sums_fit}
 use Rattle.months.proofs.Runs.{one_more}
 
-pub adding : (p : ℕ) (g : Given) (month : Month) (lent' : Buffers) (next : Added)
-    → AddPromise p g month.words next.month.words lent' next.answer → Adding p g month lent' next
-adding p g month lent' next promise =
-    let made : Made = record { party = p; call = add g; seen = added next.answer lent' } in
-    record {
-      promise = promise;
-      held = λ held. record {
+-- ---- beginning
+module _ {N : ℕ} {month : List ℤ} {answer : Result ⊤ Refusal} (promise : BeginPromise N month answer) where
+  pub begun_holds : HoldsHistories month
+  begun_holds = record { history = λ p. []; holds = promise.empty }
+
+  pub begun_held : ∥ HoldsHistories month ∥₁
+  begun_held = ∣ begun_holds ∣₁
+
+-- ---- adding
+module _ (p : ℕ) (g : Given) {month month' : List ℤ} {lent' : Buffers} {answer : Result Tally Refusal}
+    (promise : AddPromise p g month month' lent' answer) where
+  pub next_holds : HoldsHistories month → HoldsHistories month'
+  next_holds held =
+      let made : Made = record { party = p; call = add g; seen = added answer lent' } in
+      record {
         history = λ q. held.history q ++ cond (eqb p q) (block_in made.call made.seen) [];
-        holds = λ q known. one_more q known made (eqb p q) refl (adds g _ lent' next.answer promise) (held.holds q known);
-      };
-    }
+        holds = λ q known. one_more q known made (eqb p q) refl (adds g _ lent' answer promise) (held.holds q known);
+      }
+
+  pub next_held : ∥ HoldsHistories month ∥₁ → ∥ HoldsHistories month' ∥₁
+  next_held held = ∥∥₁_map held next_holds
 
 -- ---- what is read of a month in which each account holds a history
-pub record Small (sums : Sums) : Type 0 where
-  pub cosine : nat_abs sums.cosine ≤ 2 ^ 62
-  pub sine : nat_abs sums.sine ≤ 2 ^ 62
-
 and_right : (a b : Bool) → (a && b) ≡ true → b ≡ true
 and_right true b e = e
 and_right false b e = absurd (false≢true e)
@@ -49,20 +56,16 @@ accepting : (b : Bool) → cond b accepted (refused 16) ≡ accepted → b ≡ t
 accepting true e = refl
 accepting false e = absurd (not_both e)
 
-module _ {month : Month} (held : Held month) {p : ℕ} where
-  pub number_small : {n : ℤ} → NumberPromise p month.words (Blocks n) → nat_abs n ≤ most_blocks
-  number_small q =
-      let holds = held.holds p (past_test 15 (unknown_party p) (sym q.verdict)).0 in
-      rw (q.number refl, holds.number) holds.at_most
-
-  pub sums_small : {k : ℕ} {sums : Sums} → SumsPromise p month.words k (Yielded sums) → Small sums
-  sums_small {k} q =
+module _ {month : List ℤ} {p k : ℕ} where
+  pub sums_small : {sums : Sums} → SumsPromise p month k (Ok sums) → HoldsHistories month → SmallSums sums
+  sums_small q held =
       let (known, then) = past_test 15 (unknown_party p) (sym q.verdict) in
-      let N = length_of month.words in
-      let inside = leb-true k _ (and_right (not (eqb N 0)) (leb k (N / 2)) (accepting (yielded month.words k) then)) in
+      let N = length_of month in
+      let inside = leb-true k _ (and_right (not (eqb N 0)) (leb k (N / 2)) (accepting (yielded month k) then)) in
       let holds = held.holds p known in
       let fit = sums_fit holds in
-      rw (q.sums refl) (record {
-        cosine = omega (arith, fit.cosine k inside, holds.at_most);
-        sine = omega (arith, fit.sine k inside, holds.at_most);
-      })
+      rw (q.sums refl) (omega (arith, fit.cosine k inside, holds.at_most), omega (arith, fit.sine k inside, holds.at_most))
+
+  pub both_small : {answer : Result Sums Refusal} → ∥ HoldsHistories month ∥₁ → SumsPromise p month k answer → IfOk answer SmallSums
+  both_small {answer = Ok sums} held q = ∥∥₁_elim held (×_prop le_prop le_prop) (sums_small q)
+  both_small {answer = Err refusal} held q = tt

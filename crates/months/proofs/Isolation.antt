@@ -12,21 +12,20 @@ use lib.IntN.{ℤ, pos}
 use lib.ListN.{length, length-take}
 use lib.Seq.{ext_get_or}
 use borrow.Author.Tests.{eqb-true, eqb-false}
+use Rattle.std.specs.Prelude.{Result, Ok, Err}
 use Rattle.whole.proofs.Cases.{le_or_lt}
 use Rattle.words.specs.Words.{Samples, word}
+use Rattle.counts.specs.declared.tally.Tally.{Tally}
+use Rattle.refusals.specs.declared.refusal.Refusal.{Refusal}
 use Rattle.refusals.specs.Refusals.{accepted}
+use Rattle.refusals.specs.Answers.{answered}
 use Rattle.refusals.proofs.Promises.{refuses, same_refusal, accepted_or_not}
-use Rattle.spectra.specs.declared.Answer.{Answer}
-use Rattle.spectra.specs.Answers.{verdict_of}
 use Rattle.spectra.specs.Promises.{Buffers}
 use Rattle.spectra.proofs.Determined.{same_answer, none_spent, spent_alike, left_alike}
-use Rattle.months.specs.declared.record.NumberAnswer.{NumberAnswer}
-use Rattle.months.specs.declared.record.NumberAnswer.TheVariants.{Refused as NotTold, Blocks}
-use Rattle.months.specs.declared.record.SumsAnswer.{SumsAnswer}
-use Rattle.months.specs.declared.record.SumsAnswer.TheVariants.{Refused, Yielded}
+use Rattle.months.specs.declared.account.Sums.{Sums}
 use Rattle.months.specs.Accounts.{account_words, cosine_sum, sine_sum, BlockAdded}
 use Rattle.months.specs.Months.{unknown_party, account, new_month, add_verdict}
-use Rattle.months.specs.Answers.{verdict_of_number, blocks_of, verdict_of_sums, sums_of}
+use Rattle.months.specs.Answers.{blocks_of, sums_of}
 use Rattle.months.specs.Promises.{Given, call_of, AddPromise, NumberPromise, SumsPromise}
 use Rattle.months.specs.Runs.{PartyCall, Seen, number_read, sums_read, length_read}
 use Rattle.months.specs.Runs.{Keeps, adds, tells_number, tells_sums, tells_length, Made, Calls, none, more}
@@ -66,14 +65,14 @@ unfolding account
 account_short p month = simp length-take (omega arith)
 
 -- ---- adding, on two months of one length that agree in the party's account
-module _ {p : ℕ} {g : Given} {m m' t t' : List ℤ} {l k : Buffers} {a b : Answer} (same : Same p m t)
+module _ {p : ℕ} {g : Given} {m m' t t' : List ℤ} {l k : Buffers} {a b : Result Tally Refusal} (same : Same p m t)
     (one : AddPromise p g m m' l a) (other : AddPromise p g t t' k b) where
-  verdicts : verdict_of a ≡ verdict_of b
+  verdicts : answered a ≡ answered b
   verdicts =
       let e : add_verdict p m (call_of g) ≡ add_verdict p t (call_of g) = rw (same.lengths, same.accounts) refl in
       one.verdict ∙ e ∙ sym other.verdict
 
-  both_accepted : verdict_of a ≡ accepted → (a ≡ b) × (l ≡ k) × (account p m' ≡ account p t')
+  both_accepted : answered a ≡ accepted → (a ≡ b) × (l ≡ k) × (account p m' ≡ account p t')
   both_accepted e =
       let done = (one.done e).own in
       let done' = (other.done (sym verdicts ∙ e)).own in (
@@ -82,9 +81,9 @@ module _ {p : ℕ} {g : Given} {m m' t t' : List ℤ} {l k : Buffers} {a b : Ans
         block_alike (account_short p t) (rw same.accounts at done.words) done'.words,
       )
 
-  both_refused : (verdict_of a ≡ accepted → ⊥) → (a ≡ b) × (l ≡ k) × (account p m' ≡ account p t')
+  both_refused : (answered a ≡ accepted → ⊥) → (a ≡ b) × (l ≡ k) × (account p m' ≡ account p t')
   both_refused e =
-      let e' : verdict_of b ≡ accepted → ⊥ = λ f. e (verdicts ∙ f) in
+      let e' : answered b ≡ accepted → ⊥ = λ f. e (verdicts ∙ f) in
       let (month-stays, buffers-stay) = one.unchanged e in
       let (month-stays', buffers-stay') = other.unchanged e' in (
         same_answer a b verdicts (none_spent a e ∙ sym (none_spent b e')),
@@ -93,33 +92,26 @@ module _ {p : ℕ} {g : Given} {m m' t t' : List ℤ} {l k : Buffers} {a b : Ans
       )
 
   adds_alike : (a ≡ b) × (l ≡ k) × (account p m' ≡ account p t')
-  adds_alike = ⊎_elim both_accepted both_refused (accepted_or_not (verdict_of a))
+  adds_alike = ⊎_elim both_accepted both_refused (accepted_or_not (answered a))
 
 -- ---- reading: an answer is determined by its verdict and by what it tells
-same_number : (a b : NumberAnswer) → verdict_of_number a ≡ verdict_of_number b →
-    (verdict_of_number a ≡ accepted → blocks_of a ≡ blocks_of b)
-    → a ≡ b
-same_number (NotTold r) (NotTold s) e f = ap NotTold (same_refusal r s e)
-same_number (NotTold r) (Blocks n) e f = absurd (refuses r e)
-same_number (Blocks m) (NotTold s) e f = absurd (refuses s (sym e))
-same_number (Blocks m) (Blocks n) e f = ap Blocks (f refl)
-
-same_sums : (a b : SumsAnswer) → verdict_of_sums a ≡ verdict_of_sums b → (verdict_of_sums a ≡ accepted → sums_of a ≡ sums_of b) → a ≡ b
-same_sums (Refused r) (Refused s) e f = ap Refused (same_refusal r s e)
-same_sums (Refused r) (Yielded u) e f = absurd (refuses r e)
-same_sums (Yielded t) (Refused s) e f = absurd (refuses s (sym e))
-same_sums (Yielded t) (Yielded u) e f = ap Yielded (f refl)
+same_told : {A : Type 0} (told : Result A Refusal → A) → ((x : A) → told (Ok x) ≡ x) → (a b : Result A Refusal) → answered a ≡ answered b
+    → (answered a ≡ accepted → told a ≡ told b) → a ≡ b
+same_told told is (Err r) (Err s) e f = ap Err (same_refusal r s e)
+same_told told is (Err r) (Ok y) e f = absurd (refuses r e)
+same_told told is (Ok x) (Err s) e f = absurd (refuses s (sym e))
+same_told told is (Ok x) (Ok y) e f = ap Ok (sym (is x) ∙ f refl ∙ is y)
 
 module _ {p : ℕ} {m t : List ℤ} (same : Same p m t) where
-  numbers_alike : (a b : NumberAnswer) → NumberPromise p m a → NumberPromise p t b → a ≡ b
+  numbers_alike : (a b : Result ℤ Refusal) → NumberPromise p m a → NumberPromise p t b → a ≡ b
   numbers_alike a b one other =
       let verdicts = one.verdict ∙ sym other.verdict in
-      same_number a b verdicts (λ e. one.number e ∙ rw same.accounts (sym (other.number (sym verdicts ∙ e))))
+      same_told blocks_of (λ n. refl) a b verdicts (λ e. one.number e ∙ rw same.accounts (sym (other.number (sym verdicts ∙ e))))
 
-  sums_alike : (k : ℕ) (a b : SumsAnswer) → SumsPromise p m k a → SumsPromise p t k b → a ≡ b
+  sums_alike : (k : ℕ) (a b : Result Sums Refusal) → SumsPromise p m k a → SumsPromise p t k b → a ≡ b
   sums_alike k a b one other =
-      let verdicts : verdict_of_sums a ≡ verdict_of_sums b = one.verdict ∙ rw same.lengths (sym other.verdict) in
-      same_sums a b verdicts (λ e. one.sums e ∙ rw same.accounts (sym (other.sums (sym verdicts ∙ e))))
+      let verdicts : answered a ≡ answered b = one.verdict ∙ rw same.lengths (sym other.verdict) in
+      same_told sums_of (λ sums. refl) a b verdicts (λ e. one.sums e ∙ rw same.accounts (sym (other.sums (sym verdicts ∙ e))))
 
 -- ---- of one call
 module _ {p : ℕ} where

@@ -1,47 +1,21 @@
 -- The length of a month, by the mark in its word 0.
 -- Assumes nothing.
-use mathlib.Core.Path.{◌≡◌, refl, ap}
-use mathlib.Core.Bool.{Bool, true, false, cond, true≢false}
+use mathlib.Core.Path.{◌≡◌, refl, sym, ap, ◌∙◌}
+use mathlib.Core.Bool.{Bool, true, false, not, cond, true≢false}
 use mathlib.Core.List.{List}
 use mathlib.Core.Logic.{⊎_elim}
 use Prim.Native.Nat.{ℕ, ◌-◌, ◌≤◌}
+use lib.Dec.{eqb}
+use borrow.Author.Tests.{ne_eqb}
 use native.Mathlib.Omega.{arith}
-use lib.IntN.{ℤ, pos, negsuc, nat_abs, ◌-ℤ◌}
-use lib.Signed.{lt_z}
-use mir.Syntax.{w64}
-use mir.Val.{SFits}
-use borrow.Author.Tests.{ltb-true}
+use lib.IntN.{ℤ, pos, negsuc}
+use Rattle.std.specs.Prelude.{Option, Some, None}
+use Rattle.std.specs.Option.{option_eq}
 use Rattle.whole.proofs.Cases.{same_or_not}
 use Rattle.words.specs.Words.{word}
 use Rattle.lengths.specs.Block.{is_length}
 use Rattle.lengths.proofs.ElevenLengths.{length_le}
-use Rattle.months.specs.Months.{marked, length_in, length_of}
-
--- ---- by the number in the word: below the mark; and from the mark on, what stands beside it
-pub below_mark : (z : ℤ) → lt_z z (pos (marked 0)) ≡ true → 0 ≡ length_in z
-unfolding is_length
-below_mark (pos n) e = let none : n - marked 0 ≡ 0 = omega (arith, ltb-true n (marked 0) e) in rw none refl
-below_mark (negsuc n) e = refl
-
-pub beside : (z : ℤ) → lt_z z (pos (marked 0)) ≡ false → z -ℤ pos (marked 0) ≡ pos (nat_abs z - marked 0)
-beside (pos n) e = rw e refl
-beside (negsuc n) e = absurd (true≢false e)
-
-pub beside_fits : (z : ℤ) → SFits w64 z → lt_z z (pos (marked 0)) ≡ false → SFits w64 (z -ℤ pos (marked 0))
-beside_fits (pos n) f e = rw e (record { sfits = omega (arith, f.sfits) })
-beside_fits (negsuc n) f e = absurd (true≢false e)
-
-pub in_good : (z : ℤ) → lt_z z (pos (marked 0)) ≡ false → is_length (nat_abs z - marked 0) ≡ true → nat_abs z - marked 0 ≡ length_in z
-in_good (pos n) e is = rw is refl
-in_good (negsuc n) e is = absurd (true≢false e)
-
-pub in_bad : (z : ℤ) → is_length (nat_abs z - marked 0) ≡ false → 0 ≡ length_in z
-in_bad (pos n) is = rw is refl
-in_bad (negsuc n) is = refl
-
-pub length_in_lem : (month : List ℤ) {n : ℕ} → n ≡ length_in (word month 0) → n ≡ length_of month
-unfolding length_of
-length_in_lem month e = e
+use Rattle.months.specs.Months.{marked, length_in, length_of, LengthTold, other_length}
 
 -- ---- a length that is not 0 is one of the eleven
 some_length : (b : Bool) (n : ℕ) → is_length n ≡ b → (cond b n 0 ≡ 0 → ⊥) → is_length (cond b n 0) ≡ true
@@ -58,6 +32,19 @@ length_some month h = in_some (word month 0) h
 
 pub length_small : (month : List ℤ) → length_of month ≤ 1024
 length_small month = ⊎_elim (λ e. omega arith) (λ h. length_le (length_of month) (length_some month h)) (same_or_not (length_of month) 0)
+
+-- ---- the length, or none
+no_length : is_length 0 ≡ false
+unfolding is_length
+no_length = refl
+
+pub length_positive : {n : ℕ} → is_length n ≡ true → n ≡ 0 → ⊥
+length_positive is e = true≢false (sym (rw e at is) ∙ no_length)
+
+pub other_told : (month : List ℤ) (told : Option ℕ) (N : ℕ) → LengthTold month told
+    → not (option_eq eqb told (Some N)) ≡ other_length month N
+other_told month (Some n) N (e, is) = rw (e, ne_eqb n 0 (length_positive is)) refl
+other_told month None N e = rw e refl
 
 -- ---- it stays where the word stays
 pub length_same : (month month' : List ℤ) → word month' 0 ≡ word month 0 → length_of month' ≡ length_of month

@@ -11,18 +11,27 @@ use lib.IntN.{ℤ, pos}
 use lib.ListN.{length, take, drop}
 use lib.Seq.{ext_get_or}
 use borrow.Author.Tests.{eqb-true, not-false}
+use Rattle.std.specs.Prelude.{Result}
 use Rattle.whole.proofs.Cases.{le_or_lt}
 use Rattle.words.specs.Words.{word}
 use Rattle.words.proofs.Parts.{between_at, between_length, restored, restored_length, restored_low, restored_part, restored_beside}
+use Rattle.counts.specs.declared.tally.Tally.{Tally}
+use Rattle.refusals.specs.declared.refusal.Refusal.{Refusal}
+use Rattle.refusals.specs.Answers.{answered}
 use Rattle.refusals.proofs.Promises.{accepted_or_not}
-use Rattle.spectra.specs.declared.Answer.{Answer}
-use Rattle.spectra.specs.Answers.{verdict_of}
 use Rattle.spectra.specs.Promises.{Buffers}
+use Rattle.months.specs.declared.party.Party.{Party}
+use Rattle.months.specs.declared.party.Party.TheVariants.{First, Second}
 use Rattle.months.specs.Accounts.{account_words}
 use Rattle.months.specs.Months.{month_words, unknown_party, account_at, account, OthersStay}
+use Rattle.months.specs.Parties.{number_of}
 use Rattle.months.specs.Promises.{Given, AccountPromise, ForParty}
 
 -- ---- a party that is not unknown
+pub known_party : (party : Party) → unknown_party (number_of party) ≡ false
+known_party First = refl
+known_party Second = refl
+
 one_or_two : (a b : Bool) → (a || b) ≡ true → (a ≡ true) ⊎ (b ≡ true)
 one_or_two true b e = inl refl
 one_or_two false b e = inr e
@@ -104,12 +113,12 @@ module _ (p : ℕ) (month : List ℤ) (long : length month ≡ month_words) (h :
     }
 
 -- ---- a call on an account that is lent
-module _ (p : ℕ) (g : Given) (month account' : List ℤ) (lent' : Buffers) (answer : Answer)
+module _ (p : ℕ) (g : Given) (month account' : List ℤ) (lent' : Buffers) (answer : Result Tally Refusal)
     (long : length month ≡ month_words) (h : unknown_party p ≡ false) where
   -- the account keeps its words
   same_words : AccountPromise g (account p month) account' lent' answer → length account' ≡ account_words
   same_words q =
-      ⊎_elim (λ e. (q.done e).words.len) (λ e. ap length (q.unchanged e).0) (accepted_or_not (verdict_of answer))
+      ⊎_elim (λ e. (q.done e).words.len) (λ e. ap length (q.unchanged e).0) (accepted_or_not (answered answer))
       ∙ account_length p month long h
 
   by_account : AccountPromise g (account p month) account' lent' answer

@@ -1,49 +1,28 @@
--- What reading promises, at each of its ends.
+-- What reading the sums for a k promises, where they are told.
 -- Assumes nothing.
-use mathlib.Core.Path.{◌≡◌, refl, sym}
-use mathlib.Core.Bool.{true, false}
+use mathlib.Core.Path.{◌≡◌, refl}
+use mathlib.Core.Bool.{true}
 use mathlib.Core.List.{List}
-use Prim.Native.Nat.{ℕ, ◌/◌, ◌≤◌, ◌<◌}
+use Prim.Native.Nat.{ℕ, ◌/◌, ◌≤◌}
 use lib.IntN.{ℤ}
-use borrow.Author.Tests.{eq-eqb, ne_eqb, le-leb, lt-leb}
-use Rattle.refusals.specs.declared.refusal.Refusal.TheVariants.{UnknownParty, NotYielded}
-use Rattle.refusals.specs.Refusals.{refused}
-use Rattle.refusals.proofs.Promises.{not_both}
+use borrow.Author.Tests.{ne_eqb, le-leb}
+use Rattle.std.specs.Prelude.{Ok}
+use Rattle.lengths.specs.Block.{is_length}
 use Rattle.months.specs.declared.account.Sums.{Sums}
-use Rattle.months.specs.declared.record.NumberAnswer.TheVariants.{Refused as NotTold, Blocks}
-use Rattle.months.specs.declared.record.SumsAnswer.TheVariants.{Refused, Yielded}
-use Rattle.months.specs.Accounts.{block_number, cosine_sum, sine_sum}
-use Rattle.months.specs.Months.{length_of, unknown_party, account, sums_verdict}
-use Rattle.months.specs.Promises.{NumberPromise, SumsPromise}
+use Rattle.months.specs.declared.party.Party.{Party}
+use Rattle.months.specs.Accounts.{cosine_sum, sine_sum}
+use Rattle.months.specs.Months.{length_of, account}
+use Rattle.months.specs.Parties.{number_of}
+use Rattle.months.specs.Promises.{SumsPromise}
+use Rattle.months.proofs.Lengths.{length_positive}
+use Rattle.months.proofs.Parties.{known_party}
 
--- ---- the block number
-pub no_number : (p : ℕ) (month : List ℤ) → unknown_party p ≡ true → NumberPromise p month (NotTold UnknownParty)
-no_number p month e = record { verdict = rw e refl; number = λ a. absurd (not_both a) }
-
-pub number_told : {p : ℕ} {month : List ℤ} {n : ℤ} → unknown_party p ≡ false → n ≡ block_number (account p month)
-    → NumberPromise p month (Blocks n)
-number_told known e = record { verdict = rw known refl; number = λ _. e }
-
--- ---- the sums for k
-module _ (p : ℕ) (month : List ℤ) (k : ℕ) where
-  pub no_party : unknown_party p ≡ true → SumsPromise p month k (Refused UnknownParty)
-  no_party e = record { verdict = rw e refl; sums = λ a. absurd (not_both a) }
-
-  module _ (known : unknown_party p ≡ false) where
-    not_yielded : sums_verdict p month k ≡ refused 16 → SumsPromise p month k (Refused NotYielded)
-    not_yielded e = record { verdict = sym e; sums = λ a. absurd (not_both a) }
-
-    pub no_length : length_of month ≡ 0 → SumsPromise p month k (Refused NotYielded)
-    no_length e = not_yielded (rw (known, eq-eqb (length_of month) 0 e) refl)
-
-    module _ (some : length_of month ≡ 0 → ⊥) where
-      pub beyond : length_of month / 2 < k → SumsPromise p month k (Refused NotYielded)
-      beyond l = not_yielded (rw (known, ne_eqb (length_of month) 0 some, lt-leb k (length_of month / 2) l) refl)
-
-      pub sums_told : {sums : Sums} → k ≤ length_of month / 2
-          → sums ≡ record { cosine = cosine_sum (account p month) k; sine = sine_sum (account p month) k }
-          → SumsPromise p month k (Yielded sums)
-      sums_told l e = record {
-        verdict = rw (known, ne_eqb (length_of month) 0 some, le-leb k (length_of month / 2) l) refl;
-        sums = λ _. e;
-      }
+pub sums_told : (party : Party) {p : ℕ} {month : List ℤ} {k N : ℕ} {sums : Sums} → number_of party ≡ p
+    → (length_of month ≡ N) × (is_length N ≡ true) → k ≤ N / 2
+    → sums ≡ record { cosine = cosine_sum (account (number_of party) month) k; sine = sine_sum (account (number_of party) month) k }
+    → SumsPromise p month k (Ok sums)
+sums_told party {N = N} at (length, is) inside e =
+    rw (← at) (record {
+      verdict = rw (known_party party, length, ne_eqb N 0 (length_positive is), le-leb _ _ inside) refl;
+      sums = λ _. e;
+    })

@@ -6,11 +6,13 @@ use mathlib.Core.List.{List, [], ◌∷◌, ◌++◌, append-nil}
 use mathlib.Core.Logic.{⊎_elim}
 use Prim.Native.Nat.{ℕ}
 use lib.IntN.{ℤ}
+use Rattle.std.specs.Prelude.{Result}
 use Rattle.words.specs.Words.{Samples}
+use Rattle.counts.specs.declared.tally.Tally.{Tally}
+use Rattle.refusals.specs.declared.refusal.Refusal.{Refusal}
 use Rattle.refusals.specs.Refusals.{Verdict, refused_at, accepted}
+use Rattle.refusals.specs.Answers.{answered}
 use Rattle.refusals.proofs.Promises.{not_both, past_test, accepted_or_not}
-use Rattle.spectra.specs.declared.Answer.{Answer}
-use Rattle.spectra.specs.Answers.{verdict_of}
 use Rattle.spectra.specs.Promises.{Buffers}
 use Rattle.months.specs.Accounts.{History, Holds}
 use Rattle.months.specs.Months.{length_of, unknown_party, account, other_length}
@@ -25,10 +27,10 @@ one_more : (v : Verdict) (x : Samples) {N : ℕ} {account : List ℤ} {history :
 one_more (refused_at n i) x stays more = rw append-nil (stays not_both)
 one_more accepted x stays more = more refl
 
-module _ (p : ℕ) (g : Given) (month month' : List ℤ) (lent' : Buffers) (answer : Answer)
+module _ (p : ℕ) (g : Given) (month month' : List ℤ) (lent' : Buffers) (answer : Result Tally Refusal)
     (made : AddPromise p g month month' lent' answer) where
-  either : {A : Type 0} → (verdict_of answer ≡ accepted → A) → ((verdict_of answer ≡ accepted → ⊥) → A) → A
-  either done unchanged = ⊎_elim done unchanged (accepted_or_not (verdict_of answer))
+  either : {A : Type 0} → (answered answer ≡ accepted → A) → ((answered answer ≡ accepted → ⊥) → A) → A
+  either done unchanged = ⊎_elim done unchanged (accepted_or_not (answered answer))
 
   length_kept : length_of month' ≡ length_of month
   length_kept = either (λ e. length_same month month' (made.done e).others.mark) (λ e. ap length_of (made.unchanged e).0)
@@ -37,17 +39,17 @@ module _ (p : ℕ) (g : Given) (month month' : List ℤ) (lent' : Buffers) (answ
   other_kept q known ne = either (λ e. (made.done e).others.accounts q known ne) (λ e. ap (account q) (made.unchanged e).0)
 
   -- an accepted block is of the month's length
-  of_length : verdict_of answer ≡ accepted → length_of month ≡ g.N
+  of_length : answered answer ≡ accepted → length_of month ≡ g.N
   of_length e =
       let (known, then) = past_test 15 (unknown_party p) (sym made.verdict ∙ e) in
       (own_length month g.N (past_test 13 (other_length month g.N) then).0).0
 
   -- the party's own account holds its history, with this block at its end where it was accepted
   own_more : (history : History) → Holds (length_of month) (account p month) history
-      → Holds (length_of month') (account p month') (history ++ if_accepted (verdict_of answer) (block_of g))
+      → Holds (length_of month') (account p month') (history ++ if_accepted (answered answer) (block_of g))
   own_more history held =
       rw length_kept
-      (one_more (verdict_of answer) (block_of g) {history = history}
+      (one_more (answered answer) (block_of g) {history = history}
       (λ e. rw (made.unchanged e).0 held)
       (λ e. rw (of_length e) ((made.done e).own.holds history (rw (of_length e) at held))))
 

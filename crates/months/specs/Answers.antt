@@ -1,28 +1,19 @@
--- The answers of reading a party's block number, and its sums for a k, by the numbers and values of document 02. Beginning answers with an
--- outcome, adding as Spectrum does.
-use Rattle.std.specs.Prelude.{ℤ, pos}
-use Rattle.refusals.specs.Refusals.{Verdict, accepted}
-use Rattle.refusals.specs.Answers as refusal
+-- What the answers of reading tell: of a party's block number, and of its sums for a k.
+use Rattle.std.specs.Prelude.{Result, Ok, Err, ◌*◌, ◌^◌, ◌≤◌, ℤ, pos, nat_abs}
+use Rattle.refusals.specs.declared.refusal.Refusal.{Refusal}
 use Rattle.months.specs.declared.account.Sums.{Sums}
-use Rattle.months.specs.declared.record.SumsAnswer.{SumsAnswer}
-use Rattle.months.specs.declared.record.SumsAnswer.TheVariants.{Refused, Yielded}
-use Rattle.months.specs.declared.record.NumberAnswer.{NumberAnswer}
-use Rattle.months.specs.declared.record.NumberAnswer.TheVariants.{Refused as NotTold, Blocks}
-
-abbrev pub verdict_of_number : NumberAnswer → Verdict
-verdict_of_number (NotTold r) = refusal.verdict_of r
-verdict_of_number (Blocks n) = accepted
+use Rattle.months.specs.Accounts.{most_blocks}
 
 -- the block number; else 0
-abbrev pub blocks_of : NumberAnswer → ℤ
-blocks_of (NotTold r) = pos 0
-blocks_of (Blocks n) = n
-
-abbrev pub verdict_of_sums : SumsAnswer → Verdict
-verdict_of_sums (Refused r) = refusal.verdict_of r
-verdict_of_sums (Yielded sums) = accepted
+abbrev pub blocks_of : Result ℤ Refusal → ℤ
+blocks_of (Err refusal) = pos 0
+blocks_of (Ok n) = n
 
 -- the two sums; else 0 for each
-abbrev pub sums_of : SumsAnswer → Sums
-sums_of (Refused r) = record { cosine = pos 0; sine = pos 0 }
-sums_of (Yielded sums) = sums
+abbrev pub sums_of : Result Sums Refusal → Sums
+sums_of (Err refusal) = record { cosine = pos 0; sine = pos 0 }
+sums_of (Ok sums) = sums
+
+-- each sum is at most 2^31 in size for each block that a party may add, and so is every sum that is told of a month by value
+abbrev pub SmallSums : Sums → Type 0
+SmallSums sums = (nat_abs sums.cosine ≤ most_blocks * 2 ^ 31) × (nat_abs sums.sine ≤ most_blocks * 2 ^ 31)

@@ -1,20 +1,18 @@
 -- Wrong outcomes that the promises of months exclude, each at one named input; and two laws that would say too much.
-use Rattle.std.specs.Prelude.{List, [], ◌∷◌, ◌++◌, ◌≡◌, ℕ, ℤ, pos, length, replicate}
+use Rattle.std.specs.Prelude.{List, [], ◌∷◌, ◌++◌, ◌≡◌, ℕ, ℤ, pos, length, replicate, Result, ⊤}
 use Rattle.words.specs.Words.{word}
 use Rattle.lengths.specs.Block.{spectrum_yields}
 use Rattle.ffct.specs.Exact.{Within}
-use Rattle.refusals.specs.declared.refusal.Outcome.{Outcome}
+use Rattle.counts.specs.declared.tally.Tally.{Tally}
+use Rattle.refusals.specs.declared.refusal.Refusal.{Refusal}
 use Rattle.refusals.specs.Refusals.{scratch_words, number}
-use Rattle.refusals.specs.Answers.{outcome}
+use Rattle.refusals.specs.Answers.{answered}
 use Rattle.refusals.specs.Exclusion.{nines, Never}
-use Rattle.spectra.specs.declared.Answer.{Answer}
-use Rattle.spectra.specs.Answers.{verdict_of}
 use Rattle.spectra.specs.Promises.{Buffers, buffers}
-use Rattle.months.specs.declared.record.NumberAnswer.{NumberAnswer}
-use Rattle.months.specs.declared.record.SumsAnswer.{SumsAnswer}
+use Rattle.months.specs.declared.account.Sums.{Sums}
 use Rattle.months.specs.Accounts.{block_number, cosine_sum, sine_sum, History, Holds, eighths, exact_cosine_sum}
 use Rattle.months.specs.Months.{marked, length_of, account, new_month}
-use Rattle.months.specs.Answers.{verdict_of_number, blocks_of, verdict_of_sums, sums_of}
+use Rattle.months.specs.Answers.{blocks_of, sums_of}
 use Rattle.months.specs.Promises.{given, BeginPromise, AddPromise, NumberPromise, SumsPromise}
 use Rattle.months.specs.Runs.{Made, Run}
 use Rattle.months.specs.Isolation.{calls_of, seen_by}
@@ -31,10 +29,10 @@ abbrev earlier : ℕ → List ℤ
 earlier N = pos N ∷ pos 1 ∷ pos 7 ∷ replicate 2052 (pos 0)
 
 -- ---- beginning, whatever stood in the words before
-module _ (month' : List ℤ) (answer : Outcome) where
+module _ (month' : List ℤ) (answer : Result ⊤ Refusal) where
   pub record BeginExcluded : Type 0 where
     -- "Beginning with a bad length gives 1"; a month for 8 that was there stays usable; the old sums are left, of either party
-    pub bad_begun : Never (BeginPromise 3 month' answer) (number (outcome answer)) 0
+    pub bad_begun : Never (BeginPromise 3 month' answer) (number (answered answer)) 0
     pub old_usable : Never (BeginPromise 3 month' answer) (length_of month') 8
     pub old_sums : Never (BeginPromise 8 month' answer) (cosine_sum (account 1 month') 0) (pos 7)
     pub only_one : Never (BeginPromise 8 month' answer) (block_number (account 2 month')) (pos 1)
@@ -42,7 +40,7 @@ module _ (month' : List ℤ) (answer : Outcome) where
     pub unmarked : Never (BeginPromise 8 month' answer) (word month' 0) (pos 8)
 
 -- ---- adding
-module _ (month' : List ℤ) (lent : Buffers) (answer : Answer) where
+module _ (month' : List ℤ) (lent : Buffers) (answer : Result Tally Refusal) where
   abbrev Add : ℕ → List ℤ → (recording : List ℤ) → (start N : ℕ) → Type 0
   Add p before recording start N =
       let results = nines (spectrum_yields N) in
@@ -62,32 +60,32 @@ module _ (month' : List ℤ) (lent : Buffers) (answer : Answer) where
     pub counted_there : Never (Add 2 (new_month 1) (pos 3 ∷ []) 0 1) (block_number (account 1 month')) (pos 1)
     pub refused_there : Never (Add 2 (new_month 1) (pos 1000001 ∷ []) 0 1) (block_number (account 1 month')) (pos 1)
     -- "15 when the party is neither 1 nor 2, tested first": party 3 taken as party 2, party 0 as party 1; 15 behind 13
-    pub three_as_two : Never (Add 3 (new_month 1) (pos 3 ∷ []) 0 1) (number (verdict_of answer)) 0
-    pub zero_as_one : Never (Add 0 (new_month 1) (pos 3 ∷ []) 0 1) (number (verdict_of answer)) 0
-    pub thirteen_first : Never (Add 3 (new_month 1) (pos 3 ∷ pos 1 ∷ []) 0 2) (number (verdict_of answer)) 13
+    pub three_as_two : Never (Add 3 (new_month 1) (pos 3 ∷ []) 0 1) (number (answered answer)) 0
+    pub zero_as_one : Never (Add 0 (new_month 1) (pos 3 ∷ []) 0 1) (number (answered answer)) 0
+    pub thirteen_first : Never (Add 3 (new_month 1) (pos 3 ∷ pos 1 ∷ []) 0 2) (number (answered answer)) 13
     -- "Adding tests 13, 14, then 2 to 6.": 14 before 13; 1 where beginning was refused
-    pub fourteen_first : Never (Add 1 (month 1 50000 0) (pos 3 ∷ pos 1 ∷ []) 0 2) (number (verdict_of answer)) 14
-    pub not_always_other : Never (Add 1 (new_month 3) (pos 3 ∷ []) 0 3) (number (verdict_of answer)) 1
+    pub fourteen_first : Never (Add 1 (month 1 50000 0) (pos 3 ∷ pos 1 ∷ []) 0 2) (number (answered answer)) 14
+    pub not_always_other : Never (Add 1 (new_month 3) (pos 3 ∷ []) 0 3) (number (answered answer)) 1
     -- "Each may add 50,000 blocks": one more; 14 by the blocks of both parties, and by those of the other
-    pub one_more : Never (Add 1 (month 1 50000 0) (pos 3 ∷ []) 0 1) (number (verdict_of answer)) 0
-    pub by_both : Never (Add 1 (month 1 30000 30000) (pos 3 ∷ []) 0 1) (number (verdict_of answer)) 14
-    pub by_the_other : Never (Add 1 (month 1 0 50000) (pos 3 ∷ []) 0 1) (number (verdict_of answer)) 14
+    pub one_more : Never (Add 1 (month 1 50000 0) (pos 3 ∷ []) 0 1) (number (answered answer)) 0
+    pub by_both : Never (Add 1 (month 1 30000 30000) (pos 3 ∷ []) 0 1) (number (answered answer)) 14
+    pub by_the_other : Never (Add 1 (month 1 0 50000) (pos 3 ∷ []) 0 1) (number (answered answer)) 14
     -- "Months begun earlier are closed before the change.": a record of an earlier version goes on
-    pub earlier_goes_on : Never (Add 1 (earlier 1) (pos 3 ∷ []) 0 1) (number (verdict_of answer)) 0
+    pub earlier_goes_on : Never (Add 1 (earlier 1) (pos 3 ∷ []) 0 1) (number (answered answer)) 0
     pub earlier_written : Never (Add 1 (earlier 1) (pos 3 ∷ []) 0 1) (word month' 2) (pos 10)
 
 -- ---- reading
-module _ (told : NumberAnswer) (answer : SumsAnswer) where
+module _ (told : Result ℤ Refusal) (answer : Result Sums Refusal) where
   pub record ReadExcluded : Type 0 where
     -- the block number of the other party; that of a party 3; a sum's place read for it
     pub number_of_other : Never (NumberPromise 1 (month 2 1 5) told) (blocks_of told) (pos 5)
-    pub number_of_three : Never (NumberPromise 3 (month 2 1 5) told) (number (verdict_of_number told)) 0
+    pub number_of_three : Never (NumberPromise 3 (month 2 1 5) told) (number (answered told)) 0
     pub number_of_sum : Never (NumberPromise 1 (month 2 1 5) told) (blocks_of told) (pos 7)
     -- the sums exchanged; the last k refused; one more given; 16 before 15
     pub exchanged : Never (SumsPromise 2 (month 2 1 5) 0 answer) (sums_of answer).sine (pos 7)
-    pub last_refused : Never (SumsPromise 2 (month 2 1 5) 1 answer) (number (verdict_of_sums answer)) 16
-    pub one_more : Never (SumsPromise 2 (month 2 1 5) 2 answer) (number (verdict_of_sums answer)) 0
-    pub sixteen_first : Never (SumsPromise 3 (month 2 1 5) 2 answer) (number (verdict_of_sums answer)) 16
+    pub last_refused : Never (SumsPromise 2 (month 2 1 5) 1 answer) (number (answered answer)) 16
+    pub one_more : Never (SumsPromise 2 (month 2 1 5) 2 answer) (number (answered answer)) 0
+    pub sixteen_first : Never (SumsPromise 3 (month 2 1 5) 2 answer) (number (answered answer)) 16
     -- a number that is no length, read as one; the length that is there, lost; that of an earlier version, read
     pub any_length : length_of (month 3 1 5) ≡ 3 → ⊥
     pub length_lost : length_of (month 2 1 5) ≡ 0 → ⊥

@@ -1,5 +1,6 @@
 pub mod Accounts
 pub mod Months
+pub mod Parties
 pub mod Answers
 pub mod Promises
 pub mod Laws

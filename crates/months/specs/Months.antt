@@ -1,12 +1,12 @@
 -- Document 02, (vi), "Month sums beside the blocks", and (viii), "Road and rail owner on one bridge": the record of a month, its length and
 -- the accounts of its parties, and when a call on a month is turned down.
-use Rattle.std.specs.Prelude.{Bool, false, not, cond, ◌||◌, ◌&&◌}
+use Rattle.std.specs.Prelude.{Bool, true, false, not, cond, ◌||◌, ◌&&◌, Option, Some, None}
 use Rattle.std.specs.Prelude.{List, ◌∷◌, ◌≡◌, ℕ, ◌+◌, ◌-◌, ◌*◌, ◌/◌, eqb, leb, ℤ, pos, negsuc, length, replicate, take, drop}
 use Rattle.words.specs.Words.{word}
 use Rattle.lengths.specs.Block.{is_length}
 use Rattle.refusals.specs.Refusals.{Verdict, refused, accepted}
 use Rattle.refusals.specs.Calls.{Call, tests_from_two}
-use Rattle.months.specs.Accounts.{account_words, full}
+use Rattle.months.specs.Accounts.{account_words, History, Holds, full}
 
 -- ---- the record of a month, 2,055 words of 64 bits:
 --   word 0               the mark: 65,536 times the edition, and the length N
@@ -32,6 +32,11 @@ length_in (negsuc n) = 0
 unfoldable pub length_of : List ℤ → ℕ
 length_of month = length_in (word month 0)
 
+-- the same with none in place of 0
+abbrev pub LengthTold : List ℤ → Option ℕ → Type 0
+LengthTold month (Some N) = (length_of month ≡ N) × (is_length N ≡ true)
+LengthTold month None = length_of month ≡ 0
+
 -- 15: "when the party is neither 1 nor 2"
 abbrev pub unknown_party : ℕ → Bool
 unknown_party p = not (eqb p 1 || eqb p 2)
@@ -52,6 +57,11 @@ pub record OthersStay (p : ℕ) (month month' : List ℤ) : Type 0 where
   pub mark : word month' 0 ≡ word month 0
   pub accounts : (q : ℕ) → unknown_party q ≡ false → (q ≡ p → ⊥) → account q month' ≡ account q month
   pub len : length month' ≡ length month
+
+-- "Only beginning and adding make a month": so in every month that there is each party's account holds some history
+pub record HoldsHistories (month : List ℤ) : Type 0 where
+  pub history : ℕ → History
+  pub holds : (p : ℕ) → unknown_party p ≡ false → Holds (length_of month) (account p month) (history p)
 
 -- ---- when a call is turned down
 

@@ -1,19 +1,17 @@
 -- Document 02, (vi), "After any calls the sums equal those over the history of accepted blocks", and (viii): runs. A run is a month begun
 -- and then any calls of adding and reading, by any party, accepted or refused. Of each call it has the promise that the call keeps
 -- (Promises), and nothing else. `AfterAnyCalls` is proved of every run (proofs/Runs).
-use Rattle.std.specs.Prelude.{false, cond, List, [], ◌∷◌, ◌++◌, ◌≡◌, ℕ, eqb, ℤ}
+use Rattle.std.specs.Prelude.{false, cond, List, [], ◌∷◌, ◌++◌, ◌≡◌, ℕ, eqb, ℤ, Result, ⊤}
 use Rattle.words.specs.Words.{Samples}
 use Rattle.lengths.specs.Block.{is_length}
-use Rattle.refusals.specs.declared.refusal.Outcome.{Outcome}
+use Rattle.counts.specs.declared.tally.Tally.{Tally}
+use Rattle.refusals.specs.declared.refusal.Refusal.{Refusal}
 use Rattle.refusals.specs.Refusals.{Verdict, refused_at, accepted}
-use Rattle.spectra.specs.declared.Answer.{Answer}
-use Rattle.spectra.specs.Answers.{verdict_of}
+use Rattle.refusals.specs.Answers.{answered}
 use Rattle.spectra.specs.Promises.{Buffers}
-use Rattle.months.specs.declared.record.SumsAnswer.{SumsAnswer}
-use Rattle.months.specs.declared.record.NumberAnswer.{NumberAnswer}
+use Rattle.months.specs.declared.account.Sums.{Sums}
 use Rattle.months.specs.Accounts.{History, Holds}
 use Rattle.months.specs.Months.{length_of, unknown_party, account}
-use Rattle.months.specs.Answers.{verdict_of_number, verdict_of_sums}
 use Rattle.months.specs.Promises.{Given, block_of, BeginPromise, AddPromise, NumberPromise, SumsPromise}
 use Rattle.months.specs.Laws.{AccountLimits}
 
@@ -26,17 +24,17 @@ pub data PartyCall : Type 0 where
 
 -- all that the party sees of a call: the answer and, of adding, what is left in the buffers
 pub data Seen : Type 0 where
-  added : Answer → (lent' : Buffers) → Seen
-  number_read : NumberAnswer → Seen
-  sums_read : SumsAnswer → Seen
+  added : Result Tally Refusal → (lent' : Buffers) → Seen
+  number_read : Result ℤ Refusal → Seen
+  sums_read : Result Sums Refusal → Seen
   length_read : ℕ → Seen
 
 -- a call of the party p keeps its promise: the month before it, the call, the month after it, what is seen
 pub data Keeps (p : ℕ) (month : List ℤ) : PartyCall → List ℤ → Seen → Type 0 where
-  adds : (g : Given) (month' : List ℤ) (lent' : Buffers) (answer : Answer) → AddPromise p g month month' lent' answer
+  adds : (g : Given) (month' : List ℤ) (lent' : Buffers) (answer : Result Tally Refusal) → AddPromise p g month month' lent' answer
       → Keeps p month (add g) month' (added answer lent')
-  tells_number : (answer : NumberAnswer) → NumberPromise p month answer → Keeps p month read_number month (number_read answer)
-  tells_sums : (k : ℕ) (answer : SumsAnswer) → SumsPromise p month k answer → Keeps p month (read_sums k) month (sums_read answer)
+  tells_number : (answer : Result ℤ Refusal) → NumberPromise p month answer → Keeps p month read_number month (number_read answer)
+  tells_sums : (k : ℕ) (answer : Result Sums Refusal) → SumsPromise p month k answer → Keeps p month (read_sums k) month (sums_read answer)
   tells_length : Keeps p month read_length month (length_read (length_of month))
 
 -- ---- runs. A call that was made
@@ -54,15 +52,15 @@ pub data Calls : List ℤ → List Made → List ℤ → Type 0 where
 -- a month begun for N, and the calls on it; `month` is what they leave
 pub record Run (N : ℕ) (made : List Made) (month : List ℤ) : Type 0 where
   pub start : List ℤ
-  pub answer : Outcome
+  pub answer : Result ⊤ Refusal
   pub begun : BeginPromise N start answer
   pub calls : Calls start made month
 
 -- ---- the history of a party in a run: the blocks of its accepted calls of adding, in their order
 abbrev pub verdict_seen : Seen → Verdict
-verdict_seen (added answer lent') = verdict_of answer
-verdict_seen (number_read answer) = verdict_of_number answer
-verdict_seen (sums_read answer) = verdict_of_sums answer
+verdict_seen (added answer lent') = answered answer
+verdict_seen (number_read answer) = answered answer
+verdict_seen (sums_read answer) = answered answer
 verdict_seen (length_read N) = accepted
 
 abbrev pub if_accepted : Verdict → Samples → History

@@ -6,11 +6,15 @@ ghost use Rattle.spectra.specs.Promises.{buffers};
 ghost use Rattle.months.specs.Accounts.{account_words, block_number, cosine_sum, sine_sum, full, plus, BlockAdded};
 ghost use Rattle.months.specs.Promises.{given, AccountPromise};
 
+use counts::tally::Tally;
+use refusals::call::Request;
 use refusals::refusal::Refusal;
-use spectra::{Answer, spectrum};
+use spectra::spectrum;
 
 // The words of an account, and the places in it: of the block number, and of the sums for k = 0 of the cosine and of the sine.
 pub const WORDS: usize = 1027;
+
+pub type Account = [i64; WORDS];
 
 const BLOCK_NUMBER: usize = 0;
 
@@ -30,16 +34,15 @@ pub struct Sums {
 // ---- reading
 
 // The number of blocks that were added.
-pub fn block_number(account: &[i64]) -> i64
-    requires { List·length account.now ≡ account_words }
+pub fn block_number(account: &Account) -> i64
     ensures { result ≡ block_number account.now }
 {
     account[BLOCK_NUMBER]
 }
 
 // Both sums for k.
-pub fn sums_at(account: &[i64], k: usize) -> Sums
-    requires { (List·length account.now ≡ account_words) × (k ≤ 512) }
+pub fn sums_at(account: &Account, k: usize) -> Sums
+    requires { k ≤ 512 }
     ensures { result ≡ record { cosine = cosine_sum account.now k; sine = sine_sum account.now k } }
 {
     let cosine = account[COSINE_SUMS + k];
@@ -47,43 +50,41 @@ pub fn sums_at(account: &[i64], k: usize) -> Sums
     Sums { cosine, sine }
 }
 
-// ---- adding
-
-// -2^62 and 2^62
-const LOW: i64 = -4611686018427387904;
-
-const HIGH: i64 = 4611686018427387904;
+// ---- adding. The account is a slice here: of an array that is lent out of another no contract of std says what is left in it
 
 // Whether a sum is at most 2^62 in size.
 fn has_room(sum: i64) -> bool
     ensures { result ≡ at_most (2 ^ 62) sum }
 {
-    LOW <= sum && sum <= HIGH
+    sum.unsigned_abs() <= 1 << 62
 }
 
 // A sum with a coefficient more. Every sum of a month has room; one that has none, in words that are no month's, stays.
+#[tactic(auto, unfolding(crate::specs::Accounts::plus))]
 fn added(sum: i64, coefficient: i32) -> i64
     ensures { result ≡ plus sum coefficient }
 {
     if has_room(sum) {
-        sum + coefficient as i64
+        sum + i64::from(coefficient)
     } else {
         sum
     }
 }
 
-// The first n coefficients added to the sums from word at on.
-fn add_sums(account: &mut [i64], at: usize, coefficients: &[i32], n: usize)
-    requires { (at + n ≤ List·length account.old) × (n ≤ List·length coefficients.now) }
-    ensures { Written at n (λ k. plus (word account.old (at + k)) (word coefficients.now k))
+// Coefficients added to the sums from word at on. (Word and place, since the proofs speak of the whole account.)
+#[tactic(auto, using(words::proofs::Writing::ends_front))]
+fn add_sums(account: &mut [i64], at: usize, coefficients: &[i32])
+    requires { at + List·length coefficients.now ≤ List·length account.old }
+    ensures { Written at (List·length coefficients.now) (λ k. plus (word account.old (at + k)) (word coefficients.now k))
         account.old account.new }
 {
-    for k in 0..n {
-        account[at + k] = added(account[at + k], coefficients[k]);
+    for (k, coefficient) in coefficients.iter().enumerate() {
+        account[at + k] = added(account[at + k], *coefficient);
     }
 }
 
 // A block of which Spectrum has yielded the coefficients.
+#[tactic(auto, using(crate::proofs::Blocks::both_added, crate::proofs::Blocks::block_added))]
 fn add_block(account: &mut [i64], length: usize, cosine: &[i32], sine: &[i32])
     requires { (List·length account.old ≡ account_words) × (length ≤ 1024)
         × (length / 2 + 1 ≤ List·length cosine.now) × (length / 2 + 1 ≤ List·length sine.now) × (full account.old ≡ false) }
@@ -91,36 +92,30 @@ fn add_block(account: &mut [i64], length: usize, cosine: &[i32], sine: &[i32])
         account.old account.new }
 {
     let yields = length / 2 + 1;
-    add_sums(account, COSINE_SUMS, cosine, yields);
-    add_sums(account, SINE_SUMS, sine, yields);
-    account[BLOCK_NUMBER] = account[BLOCK_NUMBER] + 1;
+    add_sums(account, COSINE_SUMS, &cosine[..yields]);
+    add_sums(account, SINE_SUMS, &sine[..yields]);
+    account[BLOCK_NUMBER] += 1;
 }
 
-// Spectrum, and its coefficients added to the account, where it is not full.
+// Spectrum, and its coefficients added to the account, where it is not full. (The lent buffers stay parameters, as in `Month::add`.)
+#[tactic(auto, using(crate::proofs::AccountRuns::spectrum_refused))]
 pub fn add_to(
     account: &mut [i64],
     recording: &[i32],
-    start: usize,
-    length: usize,
-    allowance: u64,
+    request: Request,
     cosine: &mut [i32],
     sine: &mut [i32],
     scratch: &mut [i64],
-) -> Answer
+) -> Result<Tally, Refusal>
     requires { List·length account.old ≡ account_words }
-    ensures { AccountPromise (given recording.now start length allowance
+    ensures { AccountPromise (given recording.now request.start request.length request.allowance
         (buffers cosine.old sine.old scratch.old))
         account.old account.new (buffers cosine.new sine.new scratch.new) result }
 {
     if MOST_BLOCKS <= account[BLOCK_NUMBER] {
-        return Answer::Refused(Refusal::MonthFull);
+        return Err(Refusal::MonthFull);
     }
-    let answer = spectrum(recording, start, length, allowance, cosine, sine, scratch);
-    match answer {
-        Answer::Refused(_) => answer,
-        Answer::Done(_) => {
-            add_block(account, length, cosine, sine);
-            answer
-        }
-    }
+    let spent = spectrum(recording, request, cosine, sine, scratch)?;
+    add_block(account, request.length, cosine, sine);
+    Ok(spent)
 }

@@ -1,17 +1,22 @@
 // The record of a month in words that the caller lends (specs/Months.antt has its places). A program in C keeps its months so.
-ghost use Rattle.std.specs.Prelude.{false, ◌≡◌, length as List·length};
+ghost use Rattle.std.specs.Prelude.{◌≡◌};
 ghost use Rattle.spectra.specs.Promises.{buffers};
-ghost use Rattle.months.specs.Months.{month_words, length_in, length_of, unknown_party, account_at, account, other_length};
+ghost use Rattle.months.specs.Months.{LengthTold, length_of, account};
+ghost use Rattle.months.specs.Parties.{number_of};
 ghost use Rattle.months.specs.Promises.{given, BeginPromise, ForParty, AddPromise, NumberPromise, SumsPromise};
 
 use crate::account;
-use crate::account::Sums;
-use lengths::is_length;
-use refusals::refusal::{Outcome, Refusal};
-use spectra::Answer;
+use crate::account::{Account, Sums};
+use crate::party::Party;
+use counts::tally::Tally;
+use lengths::{Length, is_length};
+use refusals::call::Request;
+use refusals::refusal::Refusal;
 
 // The words of a record: a mark with the length, and two accounts.
-pub type Record = [i64; 2055];
+pub const WORDS: usize = 1 + 2 * account::WORDS;
+
+pub type Record = [i64; WORDS];
 
 const MARK: usize = 0;
 
@@ -20,117 +25,71 @@ const EDITION: i64 = 40000;
 
 const MARKED: i64 = 65536 * EDITION;
 
-// The answer of reading a party's block number.
-#[derive(Clone, Copy)]
-pub enum NumberAnswer {
-    Refused(Refusal),
-    Blocks(i64),
-}
+// ---- the length and the accounts
 
-// The answer of reading its sums for a k.
-#[derive(Clone, Copy)]
-pub enum SumsAnswer {
-    Refused(Refusal),
-    Yielded(Sums),
-}
-
-// ---- the length and the parties
-
-// The length that stands with the mark; 0 where this is no mark.
-fn length_in(mark: i64) -> usize
-    ensures { result ≡ length_in mark }
+// The length that stands with the mark; none where beginning was refused, and in words that are no month's.
+#[tactic(auto, unfolding(crate::specs::Months::length_of))]
+fn own_length(month: &Record) -> Option<usize>
+    ensures { LengthTold month.now result }
 {
+    let mark = month[MARK];
     if mark < MARKED {
-        return 0;
+        return None;
     }
     let length = (mark - MARKED) as usize;
-    if is_length(length) { length } else { 0 }
+    is_length(length).then_some(length)
 }
 
-// The length for which the month is begun; 0 where beginning was refused, and of words that are no month's.
+// The length for which the month is begun. 0 for none, since a program in C reads it.
 pub fn length_of(month: &Record) -> usize
     ensures { result ≡ length_of month.now }
 {
-    length_in(month[MARK])
-}
-
-// Whether the party is neither 1 nor 2.
-fn is_unknown(party: usize) -> bool
-    ensures { result ≡ unknown_party party }
-{
-    party != 1 && party != 2
-}
-
-// The place of a party's account.
-fn account_at(party: usize) -> usize
-    requires { unknown_party party ≡ false }
-    ensures { result ≡ account_at party }
-{
-    1 + account::WORDS * (party - 1)
+    own_length(month).unwrap_or(0)
 }
 
 // A party's account, to be read.
-fn account_of(month: &[i64], party: usize) -> &[i64]
-    requires { (List·length month.now ≡ month_words) × (unknown_party party ≡ false) }
-    ensures { result.now ≡ account party month.now }
+#[tactic(auto, using(crate::proofs::Parties::lent_account))]
+fn account_of(month: &Record, party: Party) -> &Account
+    ensures { result.now ≡ account (number_of party) month.now }
 {
-    let from = account_at(party);
-    let to = from + account::WORDS;
-    &month[from..to]
+    let from = party.account_at();
+    month[from..from + account::WORDS].try_into().unwrap()
 }
 
 // ---- beginning
 
 // A month of no blocks, in whatever words are lent.
-pub fn begin_in(month: &mut Record, length: usize) -> Outcome
+#[tactic(auto, using(lengths::proofs::ElevenLengths::length_le))]
+pub fn begin_in(month: &mut Record, length: usize) -> Result<(), Refusal>
     ensures { BeginPromise length month.new result }
 {
-    *month = [0; 2055];
-    if !is_length(length) {
-        return Outcome::Refused(Refusal::BadLength);
-    }
-    month[MARK] = MARKED + length as i64;
-    Outcome::Accepted
+    *month = [0; WORDS];
+    let length = Length::try_from(length)?;
+    month[MARK] = MARKED + length.samples as i64;
+    Ok(())
 }
 
 // ---- adding
 
-// Whether the month has no length, or another than the block's.
-fn is_other_length(month: &Record, length: usize) -> bool
-    ensures { result ≡ other_length month.now length }
-{
-    let own = length_of(month);
-    if own == 0 {
-        return true;
-    }
-    own != length
-}
-
-// A block added to the account of a party, which alone is lent.
+// A block added to the account of a party, which alone is lent. (The lent buffers stay parameters, as in `Month::add`.)
 fn add_for(
-    month: &mut [i64],
-    party: usize,
+    month: &mut Record,
+    party: Party,
     recording: &[i32],
-    start: usize,
-    length: usize,
-    allowance: u64,
+    request: Request,
     cosine: &mut [i32],
     sine: &mut [i32],
     scratch: &mut [i64],
-) -> Answer
-    requires { (List·length month.old ≡ month_words) × (unknown_party party ≡ false) }
-    ensures { ForParty party (given recording.now start length allowance
+) -> Result<Tally, Refusal>
+    ensures { ForParty (number_of party) (given recording.now request.start request.length request.allowance
         (buffers cosine.old sine.old scratch.old))
         month.old month.new (buffers cosine.new sine.new scratch.new) result }
 {
-    let from = account_at(party);
-    let to = from + account::WORDS;
+    let from = party.account_at();
     account::add_to(
-        &mut month[from..to],
+        &mut month[from..from + account::WORDS],
         recording,
-        start,
-        length,
-        allowance,
+        request,
         cosine,
         sine,
         scratch,
@@ -138,57 +97,45 @@ fn add_for(
 }
 
 // Spectrum, and its coefficients added to the account of the party.
+#[tactic(auto, using(crate::proofs::Lengths::other_told))]
 pub fn add_to(
     month: &mut Record,
     party: usize,
     recording: &[i32],
-    start: usize,
-    length: usize,
-    allowance: u64,
+    request: Request,
     cosine: &mut [i32],
     sine: &mut [i32],
     scratch: &mut [i64],
-) -> Answer
-    ensures { AddPromise party (given recording.now start length allowance
+) -> Result<Tally, Refusal>
+    ensures { AddPromise party (given recording.now request.start request.length request.allowance
         (buffers cosine.old sine.old scratch.old))
         month.old month.new (buffers cosine.new sine.new scratch.new) result }
 {
-    if is_unknown(party) {
-        return Answer::Refused(Refusal::UnknownParty);
+    let party = Party::try_from(party)?;
+    if own_length(month) != Some(request.length) {
+        return Err(Refusal::OtherLength);
     }
-    if is_other_length(month, length) {
-        return Answer::Refused(Refusal::OtherLength);
-    }
-    add_for(
-        month, party, recording, start, length, allowance, cosine, sine, scratch,
-    )
+    add_for(month, party, recording, request, cosine, sine, scratch)
 }
 
 // ---- reading
 
 // The number of blocks that the party has added.
-pub fn block_number(month: &Record, party: usize) -> NumberAnswer
+pub fn block_number(month: &Record, party: usize) -> Result<i64, Refusal>
     ensures { NumberPromise party month.now result }
 {
-    if is_unknown(party) {
-        return NumberAnswer::Refused(Refusal::UnknownParty);
-    }
-    NumberAnswer::Blocks(account::block_number(account_of(month, party)))
+    let party = Party::try_from(party)?;
+    Ok(account::block_number(account_of(month, party)))
 }
 
 // Both sums of the party for k, where Spectrum yields that k.
-pub fn sums_at(month: &Record, party: usize, k: usize) -> SumsAnswer
+#[tactic(auto, using(lengths::proofs::ElevenLengths::length_le, crate::proofs::Reading::sums_told))]
+pub fn sums_at(month: &Record, party: usize, k: usize) -> Result<Sums, Refusal>
     ensures { SumsPromise party month.now k result }
 {
-    if is_unknown(party) {
-        return SumsAnswer::Refused(Refusal::UnknownParty);
+    let party = Party::try_from(party)?;
+    match own_length(month) {
+        Some(length) if k <= length / 2 => Ok(account::sums_at(account_of(month, party), k)),
+        _ => Err(Refusal::NotYielded),
     }
-    let length = length_of(month);
-    if length == 0 {
-        return SumsAnswer::Refused(Refusal::NotYielded);
-    }
-    if length / 2 < k {
-        return SumsAnswer::Refused(Refusal::NotYielded);
-    }
-    SumsAnswer::Yielded(account::sums_at(account_of(month, party), k))
 }

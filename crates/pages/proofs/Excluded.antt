@@ -7,7 +7,8 @@ use lib.Dec.{lit<}
 use lib.ListN.{get_or}
 use Rattle.words.specs.Put.{joined}
 use Rattle.lengths.specs.Block.{is_length}
-use Rattle.refusals.specs.declared.refusal.Filled.{Filled}
+use Rattle.refusals.specs.declared.refusal.Refusal.{Refusal}
+use Rattle.std.specs.Prelude.{Result}
 use Rattle.refusals.specs.Refusals.{number}
 use Rattle.refusals.specs.Calls.{stored_tests}
 use Rattle.refusals.proofs.Exclusion.{differ, byte_put, byte_behind_lem, done_of, stays}
@@ -16,7 +17,7 @@ use Rattle.text.specs.Alignment.{right_aligned}
 use Rattle.pages.specs.Page.{columns, heading, page, page_verdict}
 use Rattle.pages.specs.Excluded.{Excluded}
 
-pub excluded : (page : List ℕ) (answer : Filled) → Excluded page answer
+pub excluded : (page : List ℕ) (answer : Result ℕ Refusal) → Excluded page answer
 unfolding is_length stored_tests spelled digits decimal right_aligned columns heading joined page page_verdict
 excluded _ _ = record {
   capital = λ p w. differ (byte_put (done_of p).printed 3 (lit< tt)) w tt;

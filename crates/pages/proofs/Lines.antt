@@ -9,6 +9,7 @@ use lib.ListN.{length, length-append}
 use mir.Syntax.{w32}
 use mir.Val.{SFits, to_z}
 use mir.Facts.{to_z-of_z, to_z_pos}
+use Rattle.std.proofs.lemmas.Grind.{common_steps}
 use Rattle.words.specs.Put.{Put}
 use Rattle.words.proofs.Putting.{◌then◌, joined_none, joined_more}
 use Rattle.lengths.specs.Block.{is_length, spectrum_yields}
@@ -47,37 +48,26 @@ few_lines N ok = omega (arith, length_le N ok)
 pub held_fits : (x : ℤ) → SFits w32 x → length (decimal (held x)) ≤ 12
 held_fits x f = rw (to_z-of_z f) (coefficient_fits x f)
 
-abbrev column : ℤ → List ℕ → List ℕ
-column x end = right_aligned 12 (decimal (held x)) ++ end
+k_is : (k : ℕ) → k < 10000 → decimal (to_z w32 k) ≡ number k
+unfolding decimal
+k_is k few = rw (to_z_pos w32 {n = k} (omega arith)) refl
 
-module _ (k at : ℕ) (page : List ℕ) (few : k < 10000) (room : at + 31 ≤ length page) where
-  abbrev column_of_k : List ℕ
-  column_of_k = right_aligned 4 (decimal (to_z w32 k)) ++ space
+pub k_fits : (k : ℕ) → k < 10000 → length (decimal (to_z w32 k)) ≤ 4
+k_fits k few = rw (k_is k few) (number_fits k few)
 
-  k_is : decimal (to_z w32 k) ≡ number k
-  unfolding decimal
-  k_is = rw (to_z_pos w32 {n = k} (omega arith)) refl
+abbrev column : ℕ → ℤ → List ℕ → List ℕ
+column width x end = right_aligned width (decimal x) ++ end
 
-  pub k_fits : length (decimal (to_z w32 k)) ≤ 4
-  k_fits = rw k_is (number_fits k few)
+pub line_put : (k : ℕ) (c s : ℤ) {at r₁ r₂ r₃ : ℕ} {page page₁ page₂ page₃ : List ℕ} → k < 10000 → SFits w32 c → SFits w32 s
+    → Put page at (column 4 (to_z w32 k) space) r₁ page₁ → Put page₁ r₁ (column 12 (held c) space) r₂ page₂
+    → Put page₂ r₂ (column 12 (held s) line_feed) r₃ page₃ → Put page at (line k c s) r₃ page₃
+line_put k c s few f g p₁ p₂ p₃ =
+    let in-parts : line k c s ≡ column 4 (to_z w32 k) space ++ column 12 (held c) space ++ column 12 (held s) line_feed =
+    unfold columns in rw (k_is k few, to_z-of_z f, to_z-of_z g) (simp append_assoc) in
+    rw in-parts (p₁ then p₂ then p₃)
 
-  five : length column_of_k ≡ 5
-  five = column_length 4 (decimal (to_z w32 k)) space k_fits
-
-  module _ (c s : ℤ) (f : SFits w32 c) (g : SFits w32 s) {r₁ : ℕ} {page₁ : List ℕ} (p₁ : Put page at column_of_k r₁ page₁) where
-    pub cosine_ready : r₁ + 12 + 1 ≤ length page₁
-    cosine_ready = omega (arith, five)
-
-    module _ {r₂ : ℕ} {page₂ : List ℕ} (p₂ : Put page₁ r₁ (column c space) r₂ page₂) where
-      pub sine_ready : r₂ + 12 + 1 ≤ length page₂
-      sine_ready = omega (arith, five, column_length 12 (decimal (held c)) space (held_fits c f))
-
-      in_parts : line k c s ≡ column_of_k ++ column c space ++ column s line_feed
-      unfolding columns
-      in_parts = rw (k_is, to_z-of_z f, to_z-of_z g) (simp append_assoc)
-
-      pub line_put : {r₃ : ℕ} {page₃ : List ℕ} → Put page₂ r₂ (column s line_feed) r₃ page₃ → Put page at (line k c s) r₃ page₃
-      line_put p₃ = rw in_parts (p₁ then p₂ then p₃)
+-- what the check tries in a run of `put_line`
+pub ruleset columns_put = (common_steps, column_length, k_fits, held_fits, line_put)
 
 -- ---- the lines below the heading: none yet, and one more
 pub record LinesPut (c s : ℕ → ℤ) (k : ℕ) (page : List ℕ) (at next : ℕ) (page₁ : List ℕ) : Type 0 where
@@ -106,17 +96,6 @@ heading_is : heading_bytes ≡ heading
 unfolding heading columns right_aligned
 heading_is = refl
 
-module _ (c s : ℕ → ℤ) (n : ℕ) {at : ℕ} {page page₀ : List ℕ} (first : Put page 0 heading_bytes at page₀)
-    {k next : ℕ} {page₁ : List ℕ} (p : LinesPut c s k page₀ at next page₁) where
-  pub line_ready : 31 * (1 + n) ≤ length page → k < n → next + 31 ≤ length page₁
-  line_ready room h = omega (arith, p.put.len)
-
-  module _ (h : k ≤ n) (l : n ≤ k) where
-    all : k ≡ n
-    all = omega arith
-
-    pub page_put : Put page 0 (heading ++ lines c s n) next page₁
-    page_put = rw (← heading_is, ← all) (first then p.put)
-
-    pub page_bytes : next ≡ 31 * (1 + n)
-    page_bytes = omega arith
+pub page_put : (c s : ℕ → ℤ) (n : ℕ) {k at next : ℕ} {page page₀ page₁ : List ℕ} → Put page 0 heading_bytes at page₀
+    → LinesPut c s k page₀ at next page₁ → k ≡ n → Put page 0 (heading ++ lines c s n) next page₁ × (next ≡ 31 * (1 + n))
+page_put c s n first p all = (rw (← heading_is, ← all) (first then p.put), omega (arith, p.behind, first.next_is))

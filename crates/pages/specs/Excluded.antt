@@ -1,14 +1,14 @@
 -- Wrong pages that the promise excludes, each at one named input: N = 1, with the cosine coefficient 7 and the sine coefficient 0, of which
 -- the page has 62 bytes.
-use Rattle.std.specs.Prelude.{List, [], ◌∷◌, ℕ, ℤ, pos, get_or, replicate}
-use Rattle.refusals.specs.declared.refusal.Filled.{Filled}
+use Rattle.std.specs.Prelude.{List, [], ◌∷◌, ℕ, ℤ, pos, get_or, replicate, Result}
+use Rattle.refusals.specs.declared.refusal.Refusal.{Refusal}
 use Rattle.refusals.specs.Refusals.{number}
-use Rattle.refusals.specs.Answers.{filled, bytes_of}
+use Rattle.refusals.specs.Answers.{answered, bytes_of}
 use Rattle.refusals.specs.Exclusion.{Never}
 use Rattle.pages.specs.Promises.{PagePromise}
 
 -- what the call leaves in the buffer, and its answer, may be anything
-module _ (page : List ℕ) (answer : Filled) where
+module _ (page : List ℕ) (answer : Result ℕ Refusal) where
   abbrev Page : (cosine sine : List ℤ) → (room : ℕ) → Type 0
   Page cosine sine room = PagePromise cosine sine 1 (replicate room 9) page answer
 
@@ -33,8 +33,8 @@ module _ (page : List ℕ) (answer : Filled) where
     -- "Bytes after the last line stay."
     pub byte_behind : Never (Seven 63) (at 62) 0
     -- 3 "for a page buffer too short": lines of 30 bytes taken; "which then is unchanged": the heading put before the test
-    pub lines_of_thirty : Never (Seven 61) (number (filled answer)) 0
+    pub lines_of_thirty : Never (Seven 61) (number (answered answer)) 0
     pub heading_put : Never (Seven 61) (at 0) 32
     -- "Order: 1, 2 .., 3": 3 before 2; the words of the sine not counted
-    pub three_first : Never (Page [] [] 0) (number (filled answer)) 3
-    pub sine_not_counted : Never (Page (pos 7 ∷ []) [] 62) (number (filled answer)) 0
+    pub three_first : Never (Page [] [] 0) (number (answered answer)) 3
+    pub sine_not_counted : Never (Page (pos 7 ∷ []) [] 62) (number (answered answer)) 0

@@ -1,12 +1,12 @@
 -- What a page promises, for every input: the verdict, what stays after a refusal, and all that an accepted call leaves behind. The buffer
 -- after the call is marked '.
-use Rattle.std.specs.Prelude.{true, List, [], ◌∷◌, ◌≡◌, ℕ, ℤ, length}
+use Rattle.std.specs.Prelude.{true, List, [], ◌∷◌, ◌≡◌, ℕ, ℤ, length, Result}
 use Rattle.words.specs.Words.{word}
 use Rattle.words.specs.Put.{Put}
 use Rattle.lengths.specs.Block.{is_length}
-use Rattle.refusals.specs.declared.refusal.Filled.{Filled}
+use Rattle.refusals.specs.declared.refusal.Refusal.{Refusal}
 use Rattle.refusals.specs.Refusals.{Promise}
-use Rattle.refusals.specs.Answers.{filled, bytes_of}
+use Rattle.refusals.specs.Answers.{answered, bytes_of}
 use Rattle.pages.specs.Page.{page, page_bytes, page_verdict}
 
 -- the page stands at the front of the buffer. "Bytes after the last line stay."
@@ -17,8 +17,8 @@ pub record PageDone (N : ℕ) (cosine sine : ℕ → ℤ) (buffer buffer' : List
   pub length_ok : is_length N ≡ true
 
 -- "3 for a page buffer too short, which then is unchanged", as after every refusal
-abbrev pub PagePromise : (cosine sine : List ℤ) → ℕ → (buffer buffer' : List ℕ) → Filled → Type 0
+abbrev pub PagePromise : (cosine sine : List ℤ) → ℕ → (buffer buffer' : List ℕ) → Result ℕ Refusal → Type 0
 PagePromise cosine sine N buffer buffer' answer =
-    Promise (filled answer) (page_verdict (length cosine ∷ length sine ∷ []) N (length buffer))
+    Promise (answered answer) (page_verdict (length cosine ∷ length sine ∷ []) N (length buffer))
     (buffer' ≡ buffer)
     (PageDone N (word cosine) (word sine) buffer buffer' (bytes_of answer))

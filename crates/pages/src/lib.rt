@@ -2,14 +2,14 @@
 
 // A page for the site binder: a stored spectrum in lines of 30 columns (document 02, (vii)). The call asks nothing of its input: it tests
 // its refusals in their order, before anything is written, and promises its whole outcome (specs/Promises.antt).
+// (Page and place stay two parameters: of a struct that holds the page, callers do not learn what it then holds.)
 ghost use Rattle.std.specs.Prelude.{◌≡◌, ◌++◌, ◌+◌, ◌*◌, ◌≤◌, ◌<◌, length};
 ghost use Rattle.words.specs.Words.{word};
 ghost use Rattle.words.specs.Put.{Put};
 ghost use Rattle.pages.specs.Page.{heading, line, lines};
 ghost use Rattle.pages.specs.Promises.{PagePromise};
 
-use refusals::length::shorter;
-use refusals::refusal::{Filled, Outcome, Refusal};
+use refusals::refusal::Refusal;
 use refusals::stored::test_stored;
 use text::columns::put_column;
 use text::put;
@@ -18,6 +18,7 @@ use text::put;
 const LINE: usize = 31;
 
 // The line of k, put from byte `at` on; the answer is the place behind it.
+#[tactic(auto, using(crate::proofs::Lines::columns_put))]
 fn put_line(k: usize, cosine: i32, sine: i32, page: &mut [u8], at: usize) -> usize
     requires { (k < 10000) × (at + 31 ≤ length page.old) }
     ensures { Put page.old at (line k cosine sine) result page.new }
@@ -27,36 +28,36 @@ fn put_line(k: usize, cosine: i32, sine: i32, page: &mut [u8], at: usize) -> usi
     put_column(sine, 12, b"\n", page, of_sine)
 }
 
-// The heading, and a line for each k below `yields`, put from byte 0 on; the answer is the number of their bytes.
-fn put_page(cosine: &[i32], sine: &[i32], yields: usize, page: &mut [u8]) -> usize
-    requires { (yields ≤ 513) × (yields ≤ length cosine.now) × (yields ≤ length sine.now)
-        × (31 * (1 + yields) ≤ length page.old) }
+// The heading, and a line for each k, put from byte 0 on; the answer is the number of their bytes.
+fn put_page(cosine: &[i32], sine: &[i32], page: &mut [u8]) -> usize
+    requires { (length cosine.now ≤ 513) × (length sine.now ≡ length cosine.now)
+        × (31 * (1 + length cosine.now) ≤ length page.old) }
     ensures { Put page.old 0
-        (heading ++ lines (word cosine.now) (word sine.now) yields) result page.new
-        × (result ≡ 31 * (1 + yields)) }
+        (heading ++ lines (word cosine.now) (word sine.now) (length cosine.now)) result page.new
+        × (result ≡ 31 * (1 + length cosine.now)) }
 {
     let mut next = put(b"   k       cosine         sine\n", page, 0);
-    let mut k = 0;
-    while k < yields {
-        let c = cosine[k];
-        let s = sine[k];
-        next = put_line(k, c, s, page, next);
-        k += 1;
+    // By index, since k is printed too: the zip of both slices with its count is longer.
+    for k in 0..cosine.len() {
+        next = put_line(k, cosine[k], sine[k], page, next);
     }
     next
 }
 
 // The page of a stored spectrum of blocks of `length` samples, put at the front of a lent buffer.
-pub fn fill_page(cosine: &[i32], sine: &[i32], length: usize, page: &mut [u8]) -> Filled
+#[tactic(auto, using(crate::proofs::Verdicts::page_tests), unfolding(crate::specs::Page::page_verdict))]
+pub fn fill_page(
+    cosine: &[i32],
+    sine: &[i32],
+    length: usize,
+    page: &mut [u8],
+) -> Result<usize, Refusal>
     ensures { PagePromise cosine.now sine.now length page.old page.new result }
 {
     let yields = length / 2 + 1;
-    let tested = test_stored(length, shorter(cosine.len(), sine.len()), yields);
-    if let Outcome::Refused(refusal) = tested {
-        return Filled::Refused(refusal);
-    }
+    test_stored(length, cosine.len().min(sine.len()), yields)?;
     if page.len() < LINE * (1 + yields) {
-        return Filled::Refused(Refusal::ResultTooShort);
+        return Err(Refusal::ResultTooShort);
     }
-    Filled::Bytes(put_page(cosine, sine, yields, page))
+    Ok(put_page(&cosine[..yields], &sine[..yields], page))
 }

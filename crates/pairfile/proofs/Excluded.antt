@@ -9,16 +9,17 @@ use lib.Dec.{lit<}
 use lib.IntN.{ℤ}
 use Rattle.words.specs.Words.{word}
 use Rattle.lengths.specs.Block.{is_length}
-use Rattle.refusals.specs.declared.refusal.Filled.{Filled}
+use Rattle.refusals.specs.declared.refusal.Refusal.{Refusal}
+use Rattle.std.specs.Prelude.{Result}
 use Rattle.refusals.specs.Refusals.{first_beyond, number, place}
 use Rattle.refusals.proofs.Exclusion.{differ, code, words_differ, byte_put, byte_behind_lem, done_of, stays}
 use Rattle.little_endian.specs.Numbers.{signed}
-use Rattle.pairfile.specs.declared.reader.ReadAnswer.{ReadAnswer}
+use Rattle.pairfile.specs.declared.reader.Sizes.{Sizes}
 use Rattle.pairfile.specs.File.{file_verdict}
 use Rattle.pairfile.specs.OwnFile.{pair_file, write_verdict}
 use Rattle.pairfile.specs.Excluded.{ReadExcluded, WriteExcluded}
 
-pub read_excluded : (a b : List ℤ) (answer : ReadAnswer) → ReadExcluded a b answer
+pub read_excluded : (a b : List ℤ) (answer : Result Sizes Refusal) → ReadExcluded a b answer
 unfolding code is_length first_beyond signed file_verdict
 read_excluded _ _ _ = record {
   b_first = λ p w. let done = done_of p in words_differ (done.words_of_a.new 0 (omega (arith, done.samples_is))) w tt;
@@ -29,7 +30,7 @@ read_excluded _ _ _ = record {
   most_refused = λ w. true≢false (sym w);
 }
 
-pub write_excluded : (buffer : List ℕ) (answer : Filled) → WriteExcluded buffer answer
+pub write_excluded : (buffer : List ℕ) (answer : Result ℕ Refusal) → WriteExcluded buffer answer
 unfolding flat_map is_length first_beyond pair_file write_verdict
 write_excluded _ _ = record {
   length_first = λ p w. differ (byte_put (done_of p).file 0 (lit< tt)) w tt;

@@ -7,6 +7,7 @@ use native.Mathlib.Omega.{arith}
 use lib.IntN.{ℤ, nat_abs}
 use lib.ListN.{length, drop, length-append}
 use lib.Seq.{drop_at, drop-drop}
+use Rattle.std.proofs.lemmas.Grind.{common_steps}
 use Rattle.words.specs.Words.{word}
 use Rattle.words.specs.Put.{Put}
 use Rattle.words.proofs.Putting.{◌then◌}
@@ -84,3 +85,6 @@ module _ (a b : List ℤ) (N : ℕ) where
       (bytes_behind (unsigned_bytes (length a) ++ unsigned_bytes N) (samples_bytes a)
       (bytes_behind (unsigned_bytes (length a)) (unsigned_bytes N) (four_bytes (length a)) (four_bytes N)) (samples_bytes_lem a))
       (samples_bytes_lem b)
+
+-- what the check tries
+pub ruleset own_file = (common_steps, b_ready)

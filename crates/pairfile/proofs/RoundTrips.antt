@@ -15,8 +15,8 @@ use Rattle.refusals.specs.Refusals.{accepted, some_below}
 use Rattle.refusals.proofs.Conditions.{AllReach, all_reach, reach_all}
 use Rattle.pairfile.specs.File.{sample_count, file_bytes, file_verdict}
 use Rattle.pairfile.specs.OwnFile.{pair_file, write_verdict}
-use Rattle.refusals.specs.Answers.{filled}
-use Rattle.pairfile.specs.Answers.{verdict_of, sizes_of}
+use Rattle.refusals.specs.Answers.{answered}
+use Rattle.pairfile.specs.Answers.{sizes_of}
 use Rattle.pairfile.specs.Promises.{ReadDone, ReadPromise}
 use Rattle.pairfile.specs.Laws.{Reads, InputReadBack, InputHasOneFile, WrittenAndRead, ReadAndWritten}
 use Rattle.pairfile.proofs.Verdicts.{count_good, Passed3, accepted_3, file_accepted}
@@ -80,7 +80,7 @@ written_and_read a b N buffer buffer' wrote p ok c d c' d' answer q for-a for-b 
     promise : ReadPromise (pair_file a b N) c d c' d' answer
     promise = rw (p.done ok).file.front at q
 
-    is_accepted : verdict_of answer ≡ accepted
+    is_accepted : answered answer ≡ accepted
     is_accepted =
         promise.verdict ∙ file_read a b N (length buffer) s (length c ∷ length d ∷ [])
         (all_reach (length a) (length c ∷ length d ∷ []) (for-a, (for-b, tt)))
@@ -171,5 +171,5 @@ read_and_written file a b a' b' answer bytes p ok buffer buffer' wrote q room =
         (read_passed file a b a' b' m N done reach.0 reach.1.0 (length buffer)
         (omega (arith, passed.past.bytes, done.samples_is)))
 
-    is_accepted : filled wrote ≡ accepted
+    is_accepted : answered wrote ≡ accepted
     is_accepted = q.verdict ∙ stated

@@ -12,6 +12,7 @@ use lib.Seq.{length-take-le, take-suc, take_all}
 use mir.Syntax.{w32}
 use mir.Val.{SFits, to_z, of_z}
 use mir.Facts.{to_z-of_z}
+use Rattle.std.proofs.lemmas.Grind.{common_steps}
 use Rattle.words.specs.Words.{word}
 use Rattle.words.specs.Put.{Put}
 use Rattle.words.proofs.Putting.{put_none, ◌then◌}
@@ -50,6 +51,9 @@ module _ (xs : List ℤ) {file : List ℕ} {at : ℕ} where
   pub all_samples : {i next : ℕ} {file₁ : List ℕ} → Put file at (samples_bytes (take i xs)) next file₁ → length xs ≤ i
       → Put file at (samples_bytes xs) next file₁
   all_samples {i} p h = rw (take_all i xs h) at p
+
+-- what the check tries in the loop
+pub ruleset samples_put = (common_steps, sample_room, all_samples)
 
 -- ---- where sample n stands
 pub sample_stands : (xs : List ℤ) (n : ℕ) (rest : List ℕ) → n < length xs

@@ -1,28 +1,26 @@
--- The verdict on a file, condition by condition: what 7, 8 and 9 follow from, what an accepted file has passed, and when a file is
--- accepted; then a run of the reader, which at each test promises a refusal that leaves the recordings as they are, and at the end what was
--- written.
+-- The verdict on a file, condition by condition: what 8 and 9 follow from, what an accepted file has passed, and when a file is accepted;
+-- then a run of the reader behind its tests of lengths.
 -- Assumes nothing.
 use mathlib.Core.Path.{◌≡◌, refl, sym, ◌∙◌}
-use mathlib.Core.Bool.{Bool, true, false, not, cond}
+use mathlib.Core.Bool.{Bool, true, false, not}
 use mathlib.Core.List.{List, [], ◌∷◌}
 use Prim.Native.Nat.{ℕ, min, ◌≤◌, ◌<◌}
 use native.Mathlib.Omega.{arith}
 use lib.Dec.{eqb, ltb}
 use lib.IntN.{ℤ, nat_abs}
 use lib.ListN.{length}
-use borrow.Author.Tests.{lt-ltb, le-ltb, ltb-false, eq-eqb, ne_eqb, eqb-true, eqb-false, not-false}
-use Rattle.words.specs.Words.{Samples, Written}
+use borrow.Author.Tests.{le-ltb, ltb-false, eq-eqb, ne_eqb, eqb-true, eqb-false, not-false}
+use Rattle.std.proofs.lemmas.Grind.{common_steps}
+use Rattle.words.specs.Words.{Written}
 use Rattle.lengths.specs.Block.{is_length, largest_sample}
 use Rattle.refusals.specs.declared.range.Pass.{Pass}
-use Rattle.refusals.specs.declared.range.Pass.TheVariants.{None, At}
-use Rattle.refusals.specs.declared.refusal.Refusal.TheVariants.{BadLength, ResultTooShort, OutOfRange, BelowHeader}
-use Rattle.refusals.specs.declared.refusal.Refusal.TheVariants.{BadCount, BadFileLength}
+use Rattle.refusals.specs.declared.refusal.Refusal.TheVariants.{OutOfRange}
 use Rattle.refusals.specs.Refusals.{some_below, first_out_or, first_out_in, refused, accepted}
 use Rattle.refusals.specs.Passes.{OnePass}
 use Rattle.refusals.proofs.Passes.{all_in}
 use Rattle.refusals.proofs.Promises.{turned_down, carried_out, past_test}
 use Rattle.refusals.proofs.Conditions.{two_below, none_of, found_none, found_at, in_verdict}
-use Rattle.pairfile.specs.declared.reader.ReadAnswer.TheVariants.{Refused, Read}
+use Rattle.std.specs.Prelude.{Ok, Err, Some, None}
 use Rattle.pairfile.specs.File.{sample_count, block_length, samples_at, start_of_a, start_of_b, samples_of_a, samples_of_b}
 use Rattle.pairfile.specs.File.{header_bytes, most_samples, bad_count, file_bytes, file_verdict}
 use Rattle.pairfile.specs.Promises.{ReadPromise}
@@ -43,12 +41,8 @@ pub record Passed9 (file : List ℕ) : Type 0 where
   pub past : Passed8 file
   pub bytes : length file ≡ file_bytes (sample_count file)
 
--- ---- a file that is turned down by 7, 8 or 9
+-- ---- a file that is turned down by 8 or 9
 module _ (file lent : List ℕ) where
-  pub refused_7 : length file < header_bytes → file_verdict file lent ≡ refused 7
-  unfolding file_verdict
-  refused_7 h = rw (lt-ltb _ _ h)
-
   pub refused_8 : header_bytes ≤ length file → bad_count (sample_count file) ≡ true → file_verdict file lent ≡ refused 8
   unfolding file_verdict
   refused_8 h bad = rw (le-ltb _ _ h, bad)
@@ -95,83 +89,44 @@ module _ (file lent : List ℕ) where
         ((λ n _ h. range-b n (omega arith)), tt),
       ))
 
--- ---- a file of m samples that was accepted, with blocks of N: what is promised once the samples are written
-pub record Readable (file : List ℕ) (a b : List ℤ) (m N : ℕ) : Type 0 where
-  pub reads : {a' b' : List ℤ} → Written 0 m (samples_at file start_of_a) a a' → Written 0 m (samples_at file (start_of_b m)) b b'
-      → ReadPromise file a b a' b' (Read (record { samples = m; length = N }))
+-- ---- a run of the reader: behind its tests of lengths, a sample that is out of range, or none
+module _ (file : List ℕ) (a b : List ℤ) (m N shortest : ℕ) (bad ok : Bool) (count : m ≡ sample_count file) (is-bad : bad ≡ bad_count m)
+    (few : bad ≡ false) (bytes : length file ≡ file_bytes m) (blocks : N ≡ block_length file) (is : ok ≡ is_length N)
+    (good : not ok ≡ false) (least : shortest ≡ min (length a) (length b)) (enough : m ≤ shortest) where
+  past_3 : file_verdict file (length a ∷ length b ∷ [])
+      ≡ first_out_in (samples_at file start_of_a ∷ samples_at file (start_of_b m) ∷ []) 0 m accepted
+  unfolding file_verdict
+  past_3 = grind (arith, common_steps, two_below)
 
--- ---- a run of the reader: the answer at each test, and what is known behind it
-module _ (file : List ℕ) (a b : List ℤ) where
-  abbrev lent : List ℕ
-  lent = length a ∷ length b ∷ []
+  module _ (of_a_lem : Pass) (found-a : OnePass largest_sample (samples_at file start_of_a) 0 m of_a_lem) where
+    pub a_out : {place : ℕ} → of_a_lem.place ≡ Some place → ReadPromise file a b a b (Err (OutOfRange place))
+    a_out {place} e = turned_down (OutOfRange place) (refl, refl) (past_3 ∙ found_at 6 _ found-a e)
 
-  pub below_header : length file < header_bytes → ReadPromise file a b a b (Refused BelowHeader)
-  below_header h = turned_down BelowHeader (refl, refl) (refused_7 file lent h)
+    module _ (of_b_lem : Pass) (none-a : of_a_lem.place ≡ None)
+        (found-b : OnePass largest_sample (samples_at file (start_of_b m)) 0 m of_b_lem) where
+      past_a : file_verdict file (length a ∷ length b ∷ []) ≡ first_out_or (samples_at file (start_of_b m)) 0 m accepted
+      past_a = past_3 ∙ found_none 6 _ found-a none-a
 
-  module _ (m : ℕ) (count : m ≡ sample_count file) (header : header_bytes ≤ length file) (bad : Bool) (is-bad : bad ≡ bad_count m) where
-    same_test : bad_count (sample_count file) ≡ bad
-    same_test = rw (is-bad, count)
+      pub b_out : {place : ℕ} → of_b_lem.place ≡ Some place → ReadPromise file a b a b (Err (OutOfRange place))
+      b_out {place} e = turned_down (OutOfRange place) (refl, refl) (past_a ∙ found_at 6 accepted found-b e)
 
-    pub count_bad : bad ≡ true → ReadPromise file a b a b (Refused BadCount)
-    count_bad h = turned_down BadCount (refl, refl) (refused_8 file lent header (same_test ∙ h))
+      pub read_done : of_b_lem.place ≡ None → {a' b' : List ℤ} → Written 0 m (samples_at file start_of_a) a a'
+          → Written 0 m (samples_at file (start_of_b m)) b b' → ReadPromise file a b a' b' (Ok (record { samples = m; length = N }))
+      read_done e v w =
+          carried_out refl (past_a ∙ found_none 6 accepted found-b e)
+          (record {
+            samples_is = count;
+            length_is = blocks;
+            words_of_a = v;
+            words_of_b = rw (← count) w;
+            sound = record {
+              some = (good_count m (sym is-bad ∙ few)).0;
+              most = (good_count m (sym is-bad ∙ few)).1;
+              length_ok = sym is ∙ not-false ok good;
+              range_of_a = λ n h. all_in found-a none-a n (omega arith) (omega arith);
+              range_of_b = rw (← count) (λ n h. all_in found-b e n (omega arith) (omega arith));
+            };
+          })
 
-    module _ (few : bad ≡ false) where
-      passed_8 : Passed8 file
-      passed_8 = record { header = header; count = same_test ∙ few }
-
-      pub bad_bytes : (length file ≡ file_bytes m → ⊥) → ReadPromise file a b a b (Refused BadFileLength)
-      bad_bytes differ = turned_down BadFileLength (refl, refl) (refused_9 file lent passed_8 (λ e. differ (omega arith)))
-
-      module _ (N : ℕ) (ok : Bool) (bytes : length file ≡ file_bytes m) (is : ok ≡ is_length N) (blocks : N ≡ block_length file) where
-        abbrev recordings : List Samples
-        recordings = samples_at file start_of_a ∷ samples_at file (start_of_b m) ∷ []
-
-        past_9 : file_verdict file lent
-            ≡ cond (not ok) (refused 1) (cond (some_below m lent) (refused 3) (first_out_in recordings 0 m accepted))
-        unfolding file_verdict
-        past_9 = rw (is, blocks, count, le-ltb _ _ header, passed_8.count, eq-eqb _ _ (rw count at bytes))
-
-        pub bad_length : not ok ≡ true → ReadPromise file a b a b (Refused BadLength)
-        bad_length h = turned_down BadLength (refl, refl) (past_9 ∙ rw h)
-
-        module _ (good : not ok ≡ false) (shortest : ℕ) (least : shortest ≡ min (length a) (length b)) where
-          counted : some_below m lent ≡ some_below m (shortest ∷ [])
-          counted = two_below (length a) (length b) least m
-
-          pub too_short : shortest < m → ReadPromise file a b a b (Refused ResultTooShort)
-          too_short h = turned_down ResultTooShort (refl, refl) (past_9 ∙ rw (good, counted, lt-ltb _ _ h))
-
-          module _ (enough : m ≤ shortest)
-              (of_a_lem : Pass) (found-a : OnePass largest_sample (samples_at file start_of_a) 0 m of_a_lem) where
-            past_3 : file_verdict file lent ≡ first_out_in recordings 0 m accepted
-            past_3 = past_9 ∙ rw (good, counted, le-ltb _ _ enough)
-
-            pub a_out : {place looks : ℕ} → of_a_lem ≡ At place looks → ReadPromise file a b a b (Refused (OutOfRange place))
-            a_out {place} e = turned_down (OutOfRange place) (refl, refl) (past_3 ∙ found_at 6 _ found-a e)
-
-            module _ (of_b_lem : Pass) (looks-a : ℕ) (none-a : of_a_lem ≡ None looks-a)
-                (found-b : OnePass largest_sample (samples_at file (start_of_b m)) 0 m of_b_lem) where
-              past_a : file_verdict file lent ≡ first_out_or (samples_at file (start_of_b m)) 0 m accepted
-              past_a = past_3 ∙ found_none 6 _ found-a none-a
-
-              pub b_out : {place looks : ℕ} → of_b_lem ≡ At place looks → ReadPromise file a b a b (Refused (OutOfRange place))
-              b_out {place} e = turned_down (OutOfRange place) (refl, refl) (past_a ∙ found_at 6 accepted found-b e)
-
-              pub all_in_range : {looks : ℕ} → of_b_lem ≡ None looks → Readable file a b m N
-              all_in_range e =
-                  record {
-                    reads = λ v w. carried_out refl (past_a ∙ found_none 6 accepted found-b e)
-                        (record {
-                          samples_is = count;
-                          length_is = blocks;
-                          words_of_a = v;
-                          words_of_b = rw (← count) w;
-                          sound = record {
-                            some = (good_count m (sym is-bad ∙ few)).0;
-                            most = (good_count m (sym is-bad ∙ few)).1;
-                            length_ok = sym is ∙ not-false ok good;
-                            range_of_a = λ n h. all_in found-a none-a n (omega arith) (omega arith);
-                            range_of_b = rw (← count) (λ n h. all_in found-b e n (omega arith) (omega arith));
-                          };
-                        });
-                  }
+-- what the check tries
+pub ruleset read_tests = (common_steps, turned_down, good_count, two_below)

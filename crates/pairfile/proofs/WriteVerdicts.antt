@@ -1,4 +1,4 @@
--- The tests of the writer, in their order: the answer at each, and what is known behind the last; and what an accepted input has passed.
+-- What an accepted input has passed; and a run of the writer behind its first tests.
 -- Assumes nothing.
 use mathlib.Core.Path.{◌≡◌, refl, sym, ◌∙◌}
 use mathlib.Core.Bool.{Bool, true, false, not, cond}
@@ -8,15 +8,15 @@ use native.Mathlib.Omega.{arith}
 use lib.Dec.{eqb, ltb}
 use lib.IntN.{ℤ}
 use lib.ListN.{length}
-use borrow.Author.Tests.{lt-ltb, le-ltb, ltb-false, eq-eqb, ne_eqb, eqb-true, not-false}
+use borrow.Author.Tests.{lt-ltb, le-ltb, ltb-false, eq-eqb, eqb-true, not-false}
+use Rattle.std.proofs.lemmas.Grind.{common_steps}
 use Rattle.words.specs.Words.{word}
 use Rattle.words.specs.Put.{Put}
 use Rattle.lengths.specs.Block.{is_length, largest_sample}
 use Rattle.lengths.proofs.ElevenLengths.{length_le}
 use Rattle.refusals.specs.declared.range.Pass.{Pass}
-use Rattle.refusals.specs.declared.range.Pass.TheVariants.{None, At}
-use Rattle.refusals.specs.declared.refusal.Refusal.TheVariants.{BadLength, ResultTooShort, OutOfRange, BadCount, RecordingsDiffer}
-use Rattle.refusals.specs.declared.refusal.Filled.TheVariants.{Refused, Bytes}
+use Rattle.refusals.specs.declared.refusal.Refusal.TheVariants.{ResultTooShort, OutOfRange}
+use Rattle.std.specs.Prelude.{Ok, Err, Some, None}
 use Rattle.refusals.specs.Refusals.{first_out_or, first_out_in, Verdict, refused, accepted}
 use Rattle.refusals.specs.Passes.{AllWithin, OnePass}
 use Rattle.refusals.proofs.Passes.{all_in}
@@ -66,60 +66,40 @@ module _ (a b : List ℤ) (N room : ℕ) where
       rw (count_good (length a) s.sound.some s.sound.most, eq-eqb _ _ s.same, s.sound.length_ok)
       (in_verdict 0 (length a) _ (word a ∷ word b ∷ []) (in-a, (in_b, tt)) ∙ rw (le-ltb _ _ s.fits))
 
--- ---- behind the last test: what putting the file asks, and what is promised once it is put
-pub record Writable (a b : List ℤ) (N : ℕ) (buffer : List ℕ) : Type 0 where
-  pub ready : (length a ≤ 4096) × (length b ≡ length a) × (N ≤ 1024) × (file_bytes (length a) ≤ length buffer)
-  pub writes : {buffer' : List ℕ} {bytes : ℕ} → Put buffer 0 (pair_file a b N) bytes buffer'
-      → WritePromise a b N buffer buffer' (Bytes bytes)
+-- ---- a run of the writer: behind its first tests, a sample that is out of range, or none
+module _ (a b : List ℤ) (N : ℕ) (buffer : List ℕ) (bad ok : Bool) (is-bad : bad ≡ bad_count (length a)) (few : bad ≡ false)
+    (same : length b ≡ length a) (is : ok ≡ is_length N) (good : not ok ≡ false)
+    (of_a_lem : Pass) (found-a : OnePass largest_sample (word a) 0 (length a) of_a_lem) where
+  abbrev last : Verdict
+  last = cond (ltb (length buffer) (file_bytes (length a))) (refused 3) accepted
 
--- ---- the tests, each where those before it are passed
-module _ (a b : List ℤ) (N : ℕ) (buffer : List ℕ) (bad : Bool) (is-bad : bad ≡ bad_count (length a)) where
-  pub count_bad : bad ≡ true → WritePromise a b N buffer buffer (Refused BadCount)
+  past_1 : write_verdict a b N (length buffer) ≡ first_out_in (word a ∷ word b ∷ []) 0 (length a) last
   unfolding write_verdict
-  count_bad h = turned_down BadCount refl (rw (← is-bad, h))
+  past_1 = rw (← is-bad, few, eq-eqb _ _ same, ← is, good)
 
-  module _ (few : bad ≡ false) where
-    pub differ : (length b ≡ length a → ⊥) → WritePromise a b N buffer buffer (Refused RecordingsDiffer)
-    unfolding write_verdict
-    differ h = turned_down RecordingsDiffer refl (rw (← is-bad, few, ne_eqb _ _ h))
+  pub a_out : {place : ℕ} → of_a_lem.place ≡ Some place → WritePromise a b N buffer buffer (Err (OutOfRange place))
+  a_out {place} e = turned_down (OutOfRange place) refl (past_1 ∙ found_at 6 _ found-a e)
 
-    module _ (same : length b ≡ length a) (ok : Bool) (is : ok ≡ is_length N) where
-      pub bad_length : not ok ≡ true → WritePromise a b N buffer buffer (Refused BadLength)
-      unfolding write_verdict
-      bad_length h = turned_down BadLength refl (rw (← is-bad, few, eq-eqb _ _ same, ← is, h))
+  module _ (of_b_lem : Pass) (none-a : of_a_lem.place ≡ None) (found-b : OnePass largest_sample (word b) 0 (length a) of_b_lem) where
+    past_a : write_verdict a b N (length buffer) ≡ first_out_or (word b) 0 (length a) last
+    past_a = past_1 ∙ found_none 6 _ found-a none-a
 
-      module _ (good : not ok ≡ false) (of_a_lem : Pass) (found-a : OnePass largest_sample (word a) 0 (length a) of_a_lem) where
-        abbrev last : Verdict
-        last = cond (ltb (length buffer) (file_bytes (length a))) (refused 3) accepted
+    pub b_out : {place : ℕ} → of_b_lem.place ≡ Some place → WritePromise a b N buffer buffer (Err (OutOfRange place))
+    b_out {place} e = turned_down (OutOfRange place) refl (past_a ∙ found_at 6 last found-b e)
 
-        past_1 : write_verdict a b N (length buffer) ≡ first_out_in (word a ∷ word b ∷ []) 0 (length a) last
-        unfolding write_verdict
-        past_1 = rw (← is-bad, few, eq-eqb _ _ same, ← is, good)
+    module _ (none-b : of_b_lem.place ≡ None) where
+      past_6 : write_verdict a b N (length buffer) ≡ last
+      past_6 = past_a ∙ found_none 6 last found-b none-b
 
-        pub a_out : {place looks : ℕ} → of_a_lem ≡ At place looks → WritePromise a b N buffer buffer (Refused (OutOfRange place))
-        a_out {place} e = turned_down (OutOfRange place) refl (past_1 ∙ found_at 6 _ found-a e)
+      pub too_short : length buffer < file_bytes (length a) → WritePromise a b N buffer buffer (Err ResultTooShort)
+      too_short h = turned_down ResultTooShort refl (past_6 ∙ rw (lt-ltb _ _ h))
 
-        module _ (of_b_lem : Pass) (looks-a : ℕ) (none-a : of_a_lem ≡ None looks-a)
-            (found-b : OnePass largest_sample (word b) 0 (length a) of_b_lem) where
-          past_a : write_verdict a b N (length buffer) ≡ first_out_or (word b) 0 (length a) last
-          past_a = past_1 ∙ found_none 6 _ found-a none-a
+      pub written : file_bytes (length a) ≤ length buffer → {buffer' : List ℕ} {bytes : ℕ} → Put buffer 0 (pair_file a b N) bytes buffer'
+          → WritePromise a b N buffer buffer' (Ok bytes)
+      written h p =
+          let sound = in_range_lem a b N (sym is-bad ∙ few) (sym is ∙ not-false ok good) (all_in found-a none-a) (all_in found-b none-b) in
+          carried_out refl (past_6 ∙ rw (le-ltb _ _ h))
+          (record { file = p; bytes_is = omega (arith, p.next_is, file_length a b N same); same = same; sound = sound })
 
-          pub b_out : {place looks : ℕ} → of_b_lem ≡ At place looks → WritePromise a b N buffer buffer (Refused (OutOfRange place))
-          b_out {place} e = turned_down (OutOfRange place) refl (past_a ∙ found_at 6 last found-b e)
-
-          module _ (looks-b : ℕ) (none-b : of_b_lem ≡ None looks-b) where
-            past_6 : write_verdict a b N (length buffer) ≡ last
-            past_6 = past_a ∙ found_none 6 last found-b none-b
-
-            pub too_short : length buffer < file_bytes (length a) → WritePromise a b N buffer buffer (Refused ResultTooShort)
-            too_short h = turned_down ResultTooShort refl (past_6 ∙ rw (lt-ltb _ _ h))
-
-            pub all_passed : file_bytes (length a) ≤ length buffer → Writable a b N buffer
-            all_passed h =
-                let length_ok = sym is ∙ not-false ok good in
-                let sound = in_range_lem a b N (sym is-bad ∙ few) length_ok (all_in found-a none-a) (all_in found-b none-b) in
-                record {
-                  ready = (sound.most, same, length_le N length_ok, h);
-                  writes = λ p. carried_out refl (past_6 ∙ rw (le-ltb _ _ h))
-                      (record { file = p; bytes_is = omega (arith, p.next_is, file_length a b N same); same = same; sound = sound });
-                }
+-- what the check tries
+pub ruleset write_tests = (common_steps, turned_down, good_count, length_le)

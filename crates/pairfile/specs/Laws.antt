@@ -1,14 +1,14 @@
 -- What is proved of the pair file, as statements: each is proved for all files and all inputs in proofs/.
-use Rattle.std.specs.Prelude.{false, List, ◌≡◌, ℕ, ◌+◌, ◌≤◌, ◌<◌, ℤ, length, take}
+use Rattle.std.specs.Prelude.{false, List, ◌≡◌, ℕ, ◌+◌, ◌≤◌, ◌<◌, ℤ, length, take, Result}
 use Rattle.words.specs.Words.{Samples, word, Written}
 use Rattle.refusals.specs.Refusals.{accepted, some_below}
 use Rattle.little_endian.specs.Numbers.{AreBytes}
-use Rattle.refusals.specs.declared.refusal.Filled.{Filled}
-use Rattle.refusals.specs.Answers.{filled, bytes_of}
-use Rattle.pairfile.specs.declared.reader.ReadAnswer.{ReadAnswer}
+use Rattle.refusals.specs.declared.refusal.Refusal.{Refusal}
+use Rattle.refusals.specs.Answers.{answered, bytes_of}
+use Rattle.pairfile.specs.declared.reader.Sizes.{Sizes}
 use Rattle.pairfile.specs.File.{sample_count, block_length, samples_of_a, samples_of_b, most_samples, file_bytes, file_verdict}
 use Rattle.pairfile.specs.OwnFile.{pair_file, write_verdict}
-use Rattle.pairfile.specs.Answers.{verdict_of, sizes_of}
+use Rattle.pairfile.specs.Answers.{sizes_of}
 use Rattle.pairfile.specs.Promises.{ReadPromise, WritePromise}
 
 -- ---- files that read alike
@@ -44,8 +44,8 @@ InputHasOneFile =
     → file ≡ pair_file a b N
 
 -- what the reader answers, and leaves in the recordings c and d, when it has read a, b and N
-pub record InputRead (a b : List ℤ) (N : ℕ) (c d c' d' : List ℤ) (answer : ReadAnswer) : Type 0 where
-  pub verdict : verdict_of answer ≡ accepted
+pub record InputRead (a b : List ℤ) (N : ℕ) (c d c' d' : List ℤ) (answer : Result Sizes Refusal) : Type 0 where
+  pub verdict : answered answer ≡ accepted
   pub count : (sizes_of answer).samples ≡ length a
   pub blocks : (sizes_of answer).length ≡ N
   pub words_of_a : Written 0 (length a) (word a) c c'
@@ -55,10 +55,10 @@ pub record InputRead (a b : List ℤ) (N : ℕ) (c d c' d' : List ℤ) (answer :
 -- and (4) recordings c and d of m words or more: it has read the input
 abbrev pub WrittenAndRead : Type 0
 WrittenAndRead =
-    (a b : List ℤ) (N : ℕ) (buffer buffer' : List ℕ) (wrote : Filled)
+    (a b : List ℤ) (N : ℕ) (buffer buffer' : List ℕ) (wrote : Result ℕ Refusal)
     → WritePromise a b N buffer buffer' wrote
-    → filled wrote ≡ accepted
-    → (c d c' d' : List ℤ) (answer : ReadAnswer)
+    → answered wrote ≡ accepted
+    → (c d c' d' : List ℤ) (answer : Result Sizes Refusal)
     → ReadPromise (take (bytes_of wrote) buffer') c d c' d' answer
     → length a ≤ length c → length a ≤ length d
     → InputRead a b N c d c' d' answer
@@ -68,14 +68,14 @@ WrittenAndRead =
 -- has written this file
 abbrev pub ReadAndWritten : Type 0
 ReadAndWritten =
-    (file : List ℕ) (a b a' b' : List ℤ) (answer : ReadAnswer) → AreBytes file
+    (file : List ℕ) (a b a' b' : List ℤ) (answer : Result Sizes Refusal) → AreBytes file
     → ReadPromise file a b a' b' answer
-    → verdict_of answer ≡ accepted
-    → (buffer buffer' : List ℕ) (wrote : Filled)
+    → answered answer ≡ accepted
+    → (buffer buffer' : List ℕ) (wrote : Result ℕ Refusal)
     → WritePromise (take (sizes_of answer).samples a') (take (sizes_of answer).samples b') (sizes_of answer).length
     buffer buffer' wrote
     → length file ≤ length buffer
-    → (filled wrote ≡ accepted) × (take (bytes_of wrote) buffer' ≡ file)
+    → (answered wrote ≡ accepted) × (take (bytes_of wrote) buffer' ≡ file)
 
 -- ---- long files
 

@@ -1,16 +1,16 @@
 -- What the reader and the writer promise, for every input: the verdict, what stays after a refusal, and all that is left behind where a
 -- file is read or written. A buffer after the call is marked '.
-use Rattle.std.specs.Prelude.{true, List, [], ◌∷◌, ◌≡◌, ℕ, ◌≤◌, ◌<◌, ℤ, nat_abs, length}
+use Rattle.std.specs.Prelude.{true, List, [], ◌∷◌, ◌≡◌, ℕ, ◌≤◌, ◌<◌, ℤ, nat_abs, length, Result}
 use Rattle.words.specs.Words.{Samples, word, Written}
 use Rattle.words.specs.Put.{Put}
 use Rattle.lengths.specs.Block.{is_length, largest_sample}
 use Rattle.refusals.specs.Refusals.{Promise}
-use Rattle.refusals.specs.declared.refusal.Filled.{Filled}
-use Rattle.refusals.specs.Answers.{filled, bytes_of}
-use Rattle.pairfile.specs.declared.reader.ReadAnswer.{ReadAnswer}
+use Rattle.refusals.specs.declared.refusal.Refusal.{Refusal}
+use Rattle.refusals.specs.Answers.{answered, bytes_of}
+use Rattle.pairfile.specs.declared.reader.Sizes.{Sizes}
 use Rattle.pairfile.specs.File.{sample_count, block_length, samples_of_a, samples_of_b, most_samples, file_bytes, file_verdict}
 use Rattle.pairfile.specs.OwnFile.{pair_file, write_verdict}
-use Rattle.pairfile.specs.Answers.{verdict_of, sizes_of}
+use Rattle.pairfile.specs.Answers.{sizes_of}
 
 -- what acceptance says of m, N and the samples of a and b, whether they are read or written
 pub record Sound (m N : ℕ) (a b : Samples) : Type 0 where
@@ -28,9 +28,9 @@ pub record ReadDone (file : List ℕ) (a b a' b' : List ℤ) (m N : ℕ) : Type 
   pub words_of_b : Written 0 m (samples_of_b file) b b'
   pub sound : Sound m N (samples_of_a file) (samples_of_b file)
 
-abbrev pub ReadPromise : List ℕ → (a b a' b' : List ℤ) → ReadAnswer → Type 0
+abbrev pub ReadPromise : List ℕ → (a b a' b' : List ℤ) → Result Sizes Refusal → Type 0
 ReadPromise file a b a' b' answer =
-    Promise (verdict_of answer) (file_verdict file (length a ∷ length b ∷ []))
+    Promise (answered answer) (file_verdict file (length a ∷ length b ∷ []))
     ((a' ≡ a) × (b' ≡ b))
     (ReadDone file a b a' b' (sizes_of answer).samples (sizes_of answer).length)
 
@@ -41,8 +41,8 @@ pub record WriteDone (a b : List ℤ) (N : ℕ) (buffer buffer' : List ℕ) (byt
   pub same : length b ≡ length a
   pub sound : Sound (length a) N (word a) (word b)
 
-abbrev pub WritePromise : (a b : List ℤ) → ℕ → (buffer buffer' : List ℕ) → Filled → Type 0
+abbrev pub WritePromise : (a b : List ℤ) → ℕ → (buffer buffer' : List ℕ) → Result ℕ Refusal → Type 0
 WritePromise a b N buffer buffer' answer =
-    Promise (filled answer) (write_verdict a b N (length buffer))
+    Promise (answered answer) (write_verdict a b N (length buffer))
     (buffer' ≡ buffer)
     (WriteDone a b N buffer buffer' (bytes_of answer))

@@ -6,8 +6,5 @@ ghost use Rattle.pairfile.specs.File.{bad_count};
 pub fn bad_count(m: usize) -> bool
     ensures { result ≡ bad_count m }
 {
-    if m < 1 {
-        return true;
-    }
-    4096 < m
+    m == 0 || 4096 < m
 }

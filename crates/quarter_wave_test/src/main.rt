@@ -2,6 +2,7 @@
 
 // Writes the stored quarter wave, an entry to a line. The file stdout beside src/ was made by tests/expect_quarter_wave.py, which
 // shares nothing with the product.
+use circle::QuarterWave;
 use std::io;
 
 fn write_entry(rt: &impl Print, value: i64) -> io::Result<()> {
@@ -13,9 +14,9 @@ fn write_entry(rt: &impl Print, value: i64) -> io::Result<()> {
 }
 
 fn main(rt: HostRuntime) -> io::Result<()> {
-    let wave = circle::quarter_wave();
+    let wave = QuarterWave::new();
     for j in 0..1025 {
-        write_entry(&rt, circle::wave_at(&wave, j))?;
+        write_entry(&rt, wave.at(j))?;
     }
     Ok(())
 }

@@ -11,8 +11,9 @@ use borrow.Author.Tests.{lt-ltb, le-ltb, ltb-false}
 use Rattle.whole.proofs.Cases.{le_or_lt}
 use Rattle.words.specs.Words.{Samples}
 use Rattle.lengths.specs.Block.{largest_sample}
+use Rattle.lengths.proofs.ElevenLengths.{length_le}
 use Rattle.refusals.specs.declared.range.Pass.{Pass}
-use Rattle.refusals.specs.declared.range.Pass.TheVariants.{None, At}
+use Rattle.std.specs.Prelude.{Some, None}
 use Rattle.refusals.specs.Refusals.{some_below, first_beyond, first_beyond_or, first_out_in, Verdict, refused_at, accepted}
 use Rattle.refusals.specs.Passes.{AllWithin, FirstAt, OnePass}
 use Rattle.refusals.proofs.Promises.{not_both}
@@ -66,11 +67,14 @@ module _ (number limit : ℕ) (x : Samples) (s N : ℕ) (rest : Verdict) where
 
 -- the same by what a pass has found
 module _ (number : ℕ) (rest : Verdict) {limit : ℕ} {x : Samples} {s N : ℕ} {pass : Pass} (p : OnePass limit x s N pass) where
-  pub found_none : {looks : ℕ} → pass ≡ None looks → first_beyond_or number limit x s N rest ≡ rest
+  pub found_none : pass.place ≡ None → first_beyond_or number limit x s N rest ≡ rest
   found_none e = none_beyond number limit x s N rest (all_in p e)
 
-  pub found_at : {place looks : ℕ} → pass ≡ At place looks → first_beyond_or number limit x s N rest ≡ refused_at number place
+  pub found_at : {place : ℕ} → pass.place ≡ Some place → first_beyond_or number limit x s N rest ≡ refused_at number place
   found_at e = first_beyond_lem number limit x s N rest (first_at p e)
+
+-- what the tests of a call cite: the length fits, and what the pass has found
+pub ruleset tested = (length_le, found_none, found_at)
 
 -- ---- samples: all are in range, in each of some recordings
 abbrev pub AllIn : List Samples → ℕ → ℕ → Type 0

@@ -1,30 +1,16 @@
--- `at_most`, by the limits on both sides; and `first_beyond`, the first number beyond a limit, as a sample out of range: what it is where
--- all are within the limit, and where one is the first that is not.
+-- `first_beyond`, the first number beyond a limit, as a sample out of range: what it is where all are within the limit, and where one is
+-- the first that is not.
 -- Assumes nothing.
-use mathlib.Core.Path.{◌≡◌, refl, sym, ◌∙◌}
-use mathlib.Core.Bool.{true, false, false≢true}
+use mathlib.Core.Path.{◌≡◌, refl, ◌∙◌}
 use mathlib.Core.Logic.{⊎_elim}
 use Prim.Native.Nat.{ℕ, zero, suc, ◌+◌, ◌≤◌, ◌<◌}
 use native.Mathlib.Omega.{arith}
-use lib.IntN.{ℤ, pos, negsuc, neg_ℤ, nat_abs}
-use lib.Signed.{le_z}
-use borrow.Author.Tests.{leb-true, leb-false, le-leb, lt-leb}
+use lib.IntN.{nat_abs}
+use borrow.Author.Tests.{le-leb, lt-leb}
 use Rattle.whole.proofs.Cases.{le_or_lt}
 use Rattle.words.specs.Words.{Samples}
-use Rattle.refusals.specs.Refusals.{at_most, first_beyond}
+use Rattle.refusals.specs.Refusals.{first_beyond}
 use Rattle.refusals.specs.Passes.{AllWithin, FirstAt}
-
--- ---- whether a number is at most m in size: one that is not below the low limit is decided by the high one
-pub high_decides : (m : ℕ) (z : ℤ) → le_z (neg_ℤ (pos m)) z ≡ true → le_z z (pos m) ≡ at_most m z
-high_decides m (pos n) e = refl
-high_decides zero (negsuc n) e = absurd (false≢true e)
-high_decides (suc m) (negsuc n) e = sym (le-leb (suc n) (suc m) (omega (arith, leb-true n m e)))
-
-pub too_low : (m : ℕ) (z : ℤ) → le_z (neg_ℤ (pos m)) z ≡ false → false ≡ at_most m z
-too_low zero (pos n) e = absurd (omega (arith, leb-false 0 n e))
-too_low (suc m) (pos n) e = absurd (false≢true (sym e))
-too_low zero (negsuc n) e = sym (lt-leb (suc n) 0 (omega arith))
-too_low (suc m) (negsuc n) e = sym (lt-leb (suc n) (suc m) (omega (arith, leb-false n m e)))
 
 module _ (m : ℕ) (x : Samples) where
   -- ---- a turn goes on, or ends the search

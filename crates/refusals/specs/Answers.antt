@@ -1,14 +1,10 @@
--- The refusals of documents 01 and 02 by their numbers and values; and the answers that consist of one or of little more.
-use Rattle.std.specs.Prelude.{ℕ}
+-- The refusals of documents 01 and 02 by their numbers and values, and the verdicts of answers.
+use Rattle.std.specs.Prelude.{ℕ, Result, Ok, Err}
 use Rattle.refusals.specs.declared.refusal.Refusal.{Refusal}
 use Rattle.refusals.specs.declared.refusal.Refusal.TheVariants.{BadLength, InputTooShort, ResultTooShort, ScratchTooShort}
 use Rattle.refusals.specs.declared.refusal.Refusal.TheVariants.{AllowanceTooSmall, OutOfRange, BelowHeader, BadCount}
 use Rattle.refusals.specs.declared.refusal.Refusal.TheVariants.{BadFileLength, BeyondLimit, RecordingsDiffer, BadFigures}
 use Rattle.refusals.specs.declared.refusal.Refusal.TheVariants.{OtherLength, MonthFull, UnknownParty, NotYielded}
-use Rattle.refusals.specs.declared.refusal.Outcome.{Outcome}
-use Rattle.refusals.specs.declared.refusal.Outcome.TheVariants.{Refused, Accepted}
-use Rattle.refusals.specs.declared.refusal.Filled.{Filled}
-use Rattle.refusals.specs.declared.refusal.Filled.TheVariants.{Refused as NotFilled, Bytes}
 use Rattle.refusals.specs.Refusals.{Verdict, refused, refused_at, accepted}
 
 -- document 01, "When a call is turned down", 1 to 9, and the answers of document 02, 10 to 16
@@ -30,20 +26,17 @@ verdict_of MonthFull = refused 14
 verdict_of UnknownParty = refused 15
 verdict_of NotYielded = refused 16
 
--- ---- an outcome: a refusal, whatever is tested behind it; else what comes behind
-abbrev pub behind : Outcome → Verdict → Verdict
-behind (Refused refusal) rest = verdict_of refusal
-behind Accepted rest = rest
+-- ---- an answer: a refusal, whatever is tested behind it; else what comes behind
+abbrev pub behind : {A : Type 0} → Result A Refusal → Verdict → Verdict
+behind (Err refusal) rest = verdict_of refusal
+behind (Ok x) rest = rest
 
 -- the verdict that it is by itself
-abbrev pub outcome : Outcome → Verdict
-outcome o = behind o accepted
+abbrev pub answered : {A : Type 0} → Result A Refusal → Verdict
+answered (Err refusal) = verdict_of refusal
+answered (Ok x) = accepted
 
--- ---- the answer of a call that fills a buffer, and the number of bytes, 0 in every refusal
-abbrev pub filled : Filled → Verdict
-filled (NotFilled refusal) = verdict_of refusal
-filled (Bytes n) = accepted
-
-abbrev pub bytes_of : Filled → ℕ
-bytes_of (NotFilled refusal) = 0
-bytes_of (Bytes n) = n
+-- the number of bytes that a call which fills a buffer has put; 0 in every refusal
+abbrev pub bytes_of : Result ℕ Refusal → ℕ
+bytes_of (Err refusal) = 0
+bytes_of (Ok n) = n

@@ -1,10 +1,9 @@
 -- Laws of exclusion: with a wrong outcome at one named input, a call's promise is absurd. Each crate of calls has its own in
 -- specs/Excluded; here are those of the pass over numbers.
-use Rattle.std.specs.Prelude.{List, [], ◌∷◌, ◌≡◌, ℕ, ℤ, pos, replicate}
+use Rattle.std.specs.Prelude.{List, [], ◌∷◌, ◌≡◌, ℕ, ℤ, pos, replicate, Some, None}
 use Rattle.words.specs.Words.{word}
 use Rattle.lengths.specs.Block.{largest_sample}
 use Rattle.refusals.specs.declared.range.Pass.{Pass}
-use Rattle.refusals.specs.declared.range.Pass.TheVariants.{None, At}
 use Rattle.refusals.specs.Passes.{OnePass}
 
 -- an outcome of which this is promised never shows the wrong thing; `seen` is what is looked at of it
@@ -21,11 +20,11 @@ Looks pass = OnePass largest_sample (word (pos 5 ∷ pos 1000001 ∷ pos 5 ∷ [
 
 pub record Excluded : Type 0 where
   -- "stops at the first out of range": a look at the sample behind it
-  pub goes_on : Looks (At 1 2) → ⊥
+  pub goes_on : Looks (record { place = Some 1; looks = 2 }) → ⊥
   -- the look at that sample itself is not tallied
-  pub look_not_tallied : Looks (At 1 0) → ⊥
+  pub look_not_tallied : Looks (record { place = Some 1; looks = 0 }) → ⊥
   -- the place counted from the block
-  pub place_in_block : Looks (At 0 1) → ⊥
+  pub place_in_block : Looks (record { place = Some 0; looks = 1 }) → ⊥
   -- "or none exactly when all are in range"
-  pub none_found : Looks (None 2) → ⊥
-  pub all_out_of_range : (looks : ℕ) → OnePass largest_sample (word (pos 1000000 ∷ [])) 0 1 (At 0 looks) → ⊥
+  pub none_found : Looks (record { place = None; looks = 2 }) → ⊥
+  pub all_out_of_range : (looks : ℕ) → OnePass largest_sample (word (pos 1000000 ∷ [])) 0 1 (record { place = Some 0; looks = looks }) → ⊥

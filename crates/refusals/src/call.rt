@@ -5,43 +5,49 @@ ghost use Rattle.refusals.specs.Calls.{tests, one_recording};
 ghost use Rattle.refusals.specs.Tests.{Tells};
 
 use crate::length::{reaches_beyond, scratch_words};
-use crate::range::{Pass, first_out};
-use crate::refusal::{Outcome, Refusal};
-use lengths::is_length;
+use crate::range::first_out;
+use crate::refusal::Refusal;
+use lengths::Length;
+
+// What a call on recordings asks for: the block of `length` samples from `start` on, for at most `allowance` products.
+#[derive(Clone, Copy)]
+pub struct Request {
+    pub start: usize,
+    pub length: usize,
+    pub allowance: u64,
+}
 
 // The tests 1 to 6 in their order, 6 on one recording. Of several recordings, and of several result buffers, the shortest length is given.
+#[tactic(auto, using(crate::proofs::Conditions::tested), unfolding(crate::specs::Calls::tests))]
 pub fn test(
     recording: &[i32],
     shortest: usize,
-    start: usize,
-    length: usize,
-    allowance: u64,
+    request: Request,
     room: usize,
     yields: usize,
     scratch: usize,
     products: u64,
-) -> Outcome
+) -> Result<(), Refusal>
     requires { shortest ≤ List·length recording.now }
-    ensures { Tells (tests (one_recording (word recording.now) shortest start length allowance
+    ensures { Tells (tests (one_recording (word recording.now) shortest
+        request.start request.length request.allowance
         room yields scratch products)) result }
 {
-    if !is_length(length) {
-        return Outcome::Refused(Refusal::BadLength);
-    }
-    if reaches_beyond(start, length, shortest) {
-        return Outcome::Refused(Refusal::InputTooShort);
+    Length::try_from(request.length)?;
+    if reaches_beyond(request.start, request.length, shortest) {
+        return Err(Refusal::InputTooShort);
     }
     if room < yields {
-        return Outcome::Refused(Refusal::ResultTooShort);
+        return Err(Refusal::ResultTooShort);
     }
-    if scratch < scratch_words(length) {
-        return Outcome::Refused(Refusal::ScratchTooShort);
+    if scratch < scratch_words(request.length) {
+        return Err(Refusal::ScratchTooShort);
     }
-    if allowance < products {
-        return Outcome::Refused(Refusal::AllowanceTooSmall);
+    if request.allowance < products {
+        return Err(Refusal::AllowanceTooSmall);
     }
-    if let Pass::At { place, looks: _ } = first_out(recording, start, length) {
-        return Outcome::Refused(Refusal::OutOfRange(place));
+    match first_out(recording, request.start, request.length).place {
+        Some(place) => Err(Refusal::OutOfRange(place)),
+        None => Ok(()),
     }
-    Outcome::Accepted
 }

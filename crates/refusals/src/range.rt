@@ -1,5 +1,5 @@
 // The range of samples, and of other numbers that have a limit on either side.
-ghost use Rattle.std.specs.Prelude.{◌≡◌, ◌+◌, ◌^◌, ◌≤◌, ◌<◌, length};
+ghost use Rattle.std.specs.Prelude.{◌≡◌, ◌+◌, ◌≤◌, length};
 ghost use Rattle.words.specs.Words.{word};
 ghost use Rattle.lengths.specs.Block.{largest_sample};
 ghost use Rattle.refusals.specs.Refusals.{at_most, in_range};
@@ -8,20 +8,19 @@ ghost use Rattle.refusals.specs.Passes.{OnePass};
 // A sample is at most this in size.
 const LARGEST_SAMPLE: u32 = 1000000;
 
-// What a pass over numbers finds: none beyond the limit, or the place of the first; and its looks, a look at each number up to there.
+// What a pass over numbers finds: the place of the first beyond the limit, if any; and its looks, a look at each number up to there.
 #[derive(Clone, Copy)]
-pub enum Pass {
-    None { looks: usize },
-    At { place: usize, looks: usize },
+pub struct Pass {
+    pub place: Option<usize>,
+    pub looks: usize,
 }
 
-// Whether x is at most limit in size.
+// Whether x is at most limit in size. (By two comparisons: with `unsigned_abs` the pass over samples takes twice the time.)
 fn at_most(limit: u32, x: i32) -> bool
-    requires { limit < 2 ^ 31 }
     ensures { result ≡ at_most limit x }
 {
-    let high = limit as i32;
-    -high <= x && x <= high
+    let high = i64::from(limit);
+    -high <= i64::from(x) && i64::from(x) <= high
 }
 
 pub fn in_range(x: i32) -> bool
@@ -31,23 +30,22 @@ pub fn in_range(x: i32) -> bool
 }
 
 // One pass over the n words from start on, up to the first that is beyond limit on either side. Each word is looked at once, low and high
-// together, and each look is tallied as it is made.
+// together, and each look is tallied as it is made. A place counts in all the words: with a slice each caller would add the start to it.
 pub fn first_beyond(limit: u32, words: &[i32], start: usize, n: usize) -> Pass
-    requires { (limit < 2 ^ 31) × (start + n ≤ length words.now) }
+    requires { start + n ≤ length words.now }
     ensures { OnePass limit (word words.now) start n result }
 {
-    let end = start + n;
     let mut looks = 0;
-    let mut i = start;
-    while i < end {
-        let x = words[i];
+    for (i, x) in words[start..start + n].iter().enumerate() {
         looks += 1;
-        if !at_most(limit, x) {
-            return Pass::At { place: i, looks };
+        if !at_most(limit, *x) {
+            return Pass {
+                place: Some(start + i),
+                looks,
+            };
         }
-        i += 1;
     }
-    Pass::None { looks }
+    Pass { place: None, looks }
 }
 
 // The pass over the n samples of a recording from start on, up to the first that is out of range.

@@ -3,19 +3,18 @@ ghost use Rattle.std.specs.Prelude.{[], ◌∷◌};
 ghost use Rattle.refusals.specs.Calls.{stored_tests};
 ghost use Rattle.refusals.specs.Tests.{Tells};
 
-use crate::refusal::{Outcome, Refusal};
-use lengths::is_length;
+use crate::refusal::Refusal;
+use lengths::Length;
 
 // The tests 1 and 2, of a block of which `needed` coefficients are read. Of several kinds of coefficients the fewest that are stored are
 // given.
-pub fn test_stored(length: usize, stored: usize, needed: usize) -> Outcome
+#[tactic(auto, unfolding(crate::specs::Calls::stored_tests))]
+pub fn test_stored(length: usize, stored: usize, needed: usize) -> Result<(), Refusal>
     ensures { Tells (stored_tests length needed (stored ∷ [])) result }
 {
-    if !is_length(length) {
-        return Outcome::Refused(Refusal::BadLength);
-    }
+    Length::try_from(length)?;
     if stored < needed {
-        return Outcome::Refused(Refusal::InputTooShort);
+        return Err(Refusal::InputTooShort);
     }
-    Outcome::Accepted
+    Ok(())
 }

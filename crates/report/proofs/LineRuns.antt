@@ -1,21 +1,24 @@
 -- The lines of `pairspec`: how wide they are, what each call of `put_refusal`, `put_line` and `put_lines` asks, and what they come to.
 -- Assumes nothing.
-use mathlib.Core.Path.{◌≡◌, ap₂}
-use mathlib.Core.List.{List, [], ◌∷◌, ◌++◌, append_assoc}
-use Prim.Native.Nat.{ℕ, ◌+◌, ◌*◌, ◌≤◌, ◌<◌}
+use mathlib.Core.Path.{◌≡◌, ap₂, ◌∙◌}
+use mathlib.Core.List.{List, ◌++◌, append_assoc}
+use Prim.Native.Nat.{ℕ, ◌+◌, ◌*◌, ◌^◌, ◌≤◌, ◌<◌}
 use native.Mathlib.Omega.{arith}
 use lib.IntN.{ℤ}
-use lib.ListN.{length, length-append}
+use lib.ListN.{length, take, length-append}
+use lib.Seq.{length-take-le}
 use mir.Syntax.{w32}
-use mir.Val.{Fits, SFits}
+use mir.Val.{SFits}
 use mir.Facts.{to_z-of_z}
-use Rattle.words.specs.Words.{Samples}
+use Rattle.std.proofs.lemmas.Grind.{common_steps}
+use Rattle.std.proofs.lemmas.List.{get_or-take}
+use Rattle.words.specs.Words.{Samples, word}
 use Rattle.words.specs.Put.{Put}
 use Rattle.words.proofs.Putting.{◌then◌, joined_none, joined_more, joined_same}
 use Rattle.text.specs.Decimal.{space, line_feed, number, decimal}
 use Rattle.text.proofs.Spelling.{number_length, decimal_length}
 use Rattle.text.proofs.Runs.{held}
-use Rattle.report.specs.Lines.{refusal, line, lines}
+use Rattle.report.specs.Lines.{line, lines}
 
 -- ---- how wide a line is
 line_length :
@@ -24,63 +27,49 @@ unfolding line
 line_length {block} {k} re im b c f g =
     simp length-append (omega (arith, number_length 3 block b, number_length 3 k c, decimal_length re f, decimal_length im g))
 
--- ---- a refusal: the word, a number of 32 bits and the line feed
-pub number_ready : (n at r : ℕ) (word page page₁ : List ℕ) → Fits w32 n → at + 19 ≤ length page → Put page at word r page₁
-    → length word ≤ 8 → r + length (number n ++ line_feed) ≤ length page₁
-number_ready n at r word page page₁ fits room put short =
-    omega (arith, number_length 9 n (omega (arith, fits)), length-append (number n) line_feed)
+-- the same of the numbers that the parameters of a line hold
+pub short_line : (block k : ℕ) (re im : ℤ) → block < 10000 → k < 10000 → SFits w32 re → SFits w32 im
+    → length (line block k (held re) (held im)) ≤ 34
+short_line block k re im b c f g = rw (to_z-of_z f, to_z-of_z g) (line_length {k = k} re im b c f g)
 
-pub refusal_put : (n : ℕ) {at r q : ℕ} {page page₁ page₂ : List ℕ}
-    → Put page at (114 ∷ 101 ∷ 102 ∷ 117 ∷ 115 ∷ 101 ∷ 100 ∷ 32 ∷ []) r page₁ → Put page₁ r (number n ++ line_feed) q page₂
-    → Put page at (refusal n) q page₂
-refusal_put n put e = put then e
+-- a number of 32 bits has at most 10 digits
+pub ten_digits : (n : ℕ) → n < 2 ^ 32 → length (number n) ≤ 10
+ten_digits n h = number_length 9 n (omega arith)
 
 -- ---- a line: its four numbers, and what ends each
-module _ (block k at : ℕ) (re im : ℤ) (page : List ℕ) (room : at + length (line block k re im) ≤ length page)
-    (f : SFits w32 re) (g : SFits w32 im) where
-  abbrev parts : List ℕ
-  parts = (number block ++ space) ++ (number k ++ space) ++ (decimal (held re) ++ space) ++ (decimal (held im) ++ line_feed)
-
-  in_parts : line block k re im ≡ parts
+module _ (block k : ℕ) (re im : ℤ) (f : SFits w32 re) (g : SFits w32 im) where
+  in_parts : line block k re im ≡ (number block ++ space) ++ (number k ++ space) ++ (decimal (held re) ++ space) ++
+      (decimal (held im) ++ line_feed)
   unfolding line
   in_parts = rw (to_z-of_z f, to_z-of_z g) (simp append_assoc)
 
-  lengths : at + length (number block ++ space) + length (number k ++ space) + length (decimal (held re) ++ space)
-      + length (decimal (held im) ++ line_feed) ≤ length page
-  lengths = simp length-append (omega (arith, simp length-append at (rw in_parts at room)))
+  pub parts_length : length (line block k re im)
+      ≡ length (number block ++ space) + length (number k ++ space) + length (decimal (held re) ++ space) + length
+      (decimal (held im) ++ line_feed)
+  parts_length = rw in_parts (simp length-append (omega arith))
 
-  pub block_ready : at + length (number block ++ space) ≤ length page
-  block_ready = omega (arith, lengths)
+  pub line_put : {at r₁ r₂ r₃ r₄ : ℕ} {page page₁ page₂ page₃ page₄ : List ℕ} → Put page at (number block ++ space) r₁ page₁
+      → Put page₁ r₁ (number k ++ space) r₂ page₂ → Put page₂ r₂ (decimal (held re) ++ space) r₃ page₃
+      → Put page₃ r₃ (decimal (held im) ++ line_feed) r₄ page₄ → Put page at (line block k re im) r₄ page₄
+  line_put p₁ p₂ p₃ p₄ = rw in_parts (p₁ then p₂ then p₃ then p₄)
 
-  module _ (r₁ : ℕ) (page₁ : List ℕ) (p₁ : Put page at (number block ++ space) r₁ page₁) where
-    pub k_ready : r₁ + length (number k ++ space) ≤ length page₁
-    k_ready = omega (arith, lengths)
+-- what the check tries
+pub ruleset refusal_parts = (common_steps, ten_digits, ◌then◌)
 
-    module _ (r₂ : ℕ) (page₂ : List ℕ) (p₂ : Put page₁ r₁ (number k ++ space) r₂ page₂) where
-      pub re_ready : r₂ + length (decimal (held re) ++ space) ≤ length page₂
-      re_ready = omega (arith, lengths)
+pub ruleset line_parts = (common_steps, parts_length)
 
-      module _ (r₃ : ℕ) (page₃ : List ℕ) (p₃ : Put page₂ r₂ (decimal (held re) ++ space) r₃ page₃) where
-        pub im_ready : r₃ + length (decimal (held im) ++ line_feed) ≤ length page₃
-        im_ready = omega (arith, lengths)
-
-        pub line_put : {r₄ : ℕ} {page₄ : List ℕ} → Put page₃ r₃ (decimal (held im) ++ line_feed) r₄ page₄
-            → Put page at (line block k re im) r₄ page₄
-        line_put p₄ = rw in_parts (p₁ then p₂ then p₃ then p₄)
+pub ruleset lines_put = (common_steps, short_line)
 
 -- ---- the lines of a block: none yet, one more, and all
 pub record LinesPut (block : ℕ) (re im : Samples) (k : ℕ) (page : List ℕ) (at next : ℕ) (page₁ : List ℕ) : Type 0 where
   pub put : Put page at (lines block re im k) next page₁
   pub fits : next ≤ at + 34 * k
 
-module _ (block : ℕ) (re im : Samples) (n at : ℕ) (page : List ℕ) (room : at + 34 * n ≤ length page) where
-  pub no_lines : LinesPut block re im 0 page at at page
-  no_lines = record { put = joined_none _ (omega arith); fits = omega arith }
+module _ (block : ℕ) (re im : Samples) {at : ℕ} {page : List ℕ} where
+  pub no_lines : at ≤ length page → LinesPut block re im 0 page at at page
+  no_lines room = record { put = joined_none _ room; fits = omega arith }
 
-  module _ (k r : ℕ) (page₁ : List ℕ) (p : LinesPut block re im k page at r page₁) (m : n ≤ 1024) (h : k < n) (b : block < 10000) where
-    pub line_ready : (x y : ℤ) → SFits w32 x → SFits w32 y → r + length (line block k (held x) (held y)) ≤ length page₁
-    line_ready x y f g = rw (to_z-of_z f, to_z-of_z g) (omega (arith, line_length {k = k} x y b (omega arith) f g, p.put.len, p.fits))
-
+  module _ (k : ℕ) {r : ℕ} {page₁ : List ℕ} (p : LinesPut block re im k page at r page₁) (h : k < 1024) (b : block < 10000) where
     pub line_more : {q : ℕ} {page₂ : List ℕ} → Put page₁ r (line block k (held (re k)) (held (im k))) q page₂
         → SFits w32 (re k) → SFits w32 (im k) → LinesPut block re im (k + 1) page at q page₂
     line_more l f g =
@@ -88,11 +77,15 @@ module _ (block : ℕ) (re im : Samples) (n at : ℕ) (page : List ℕ) (room : 
         let width = line_length {k = k} (re k) (im k) b (omega arith) f g in
         record { put = joined_more _ k p.put next; fits = omega (arith, next.next_is, p.fits, width) }
 
-pub all_lines : (block : ℕ) (re im : Samples) (k n : ℕ) {at r : ℕ} {page page₁ : List ℕ} → LinesPut block re im k page at r page₁
-    → k ≤ n → n ≤ k → Put page at (lines block re im n) r page₁
-all_lines block re im k n p h l = let e : k ≡ n = omega arith in rw e at p.put
-
 -- equal coefficients have equal lines
-pub lines_same : (block : ℕ) (f f' g g' : Samples) (n : ℕ) → ((k : ℕ) → k < n → f k ≡ f' k) → ((k : ℕ) → k < n → g k ≡ g' k)
+lines_same : (block : ℕ) (f f' g g' : Samples) (n : ℕ) → ((k : ℕ) → k < n → f k ≡ f' k) → ((k : ℕ) → k < n → g k ≡ g' k)
     → lines block f g n ≡ lines block f' g' n
 lines_same block f f' g g' n e d = joined_same _ _ n (λ k h. ap₂ (line block k) (e k h) (d k h))
+
+-- the lines of the first n words are those of n equal coefficients
+pub front_lines : (block n : ℕ) (re im : List ℤ) (f g : Samples) → n ≤ length re → ((k : ℕ) → k < n → word re k ≡ f k)
+    → ((k : ℕ) → k < n → word im k ≡ g k)
+    → lines block (word (take n re)) (word (take n im)) (length (take n re)) ≡ lines block f g n
+front_lines block n re im f g h e d =
+    rw (length-take-le n re h)
+    (lines_same block _ _ _ _ n (λ k l. get_or-take n re k _ l ∙ e k l) (λ k l. get_or-take n im k _ l ∙ d k l))

@@ -17,14 +17,12 @@ use Rattle.lengths.proofs.ElevenLengths.{is_power, length_le}
 use Rattle.ffct.proofs.Blocks.{pair_same}
 use Rattle.refusals.specs.declared.refusal.Refusal.{Refusal}
 use Rattle.refusals.specs.Refusals.{Verdict, refused_at, accepted, number, scratch_words}
-use Rattle.refusals.specs.Answers as refused
+use Rattle.refusals.specs.Answers.{verdict_of, answered}
 use Rattle.refusals.proofs.Promises.{refuses}
 use Rattle.words.specs.Put.{Put}
 use Rattle.pairfile.specs.declared.reader.Sizes.{Sizes}
-use Rattle.pairfile.specs.declared.reader.ReadAnswer.{ReadAnswer}
-use Rattle.pairfile.specs.declared.reader.ReadAnswer.TheVariants.{Refused, Read}
+use Rattle.std.specs.Prelude.{Result, Ok, Err}
 use Rattle.pairfile.specs.File.{sample_count, block_length, samples_of_a, samples_of_b, most_samples, file_verdict}
-use Rattle.pairfile.specs.Answers.{verdict_of}
 use Rattle.pairfile.specs.Promises.{ReadDone, ReadPromise}
 use Rattle.pairfile.specs.Laws.{first_bytes}
 use Rattle.pairfile.proofs.Longer.{longer}
@@ -63,15 +61,15 @@ module _ (file : List ℕ) where
   read_output e = rw e refl
 
 -- ---- a run of `put_output`: the reader's answer, then a refusal's line or the spectra
-module _ (file : List ℕ) (a b a' b' : List ℤ) (answer : ReadAnswer) (r : ReadPromise file a b a' b' answer)
+module _ (file : List ℕ) (a b a' b' : List ℤ) (answer : Result Sizes Refusal) (r : ReadPromise file a b a' b' answer)
     (of_a : length a ≡ most_samples) (of_b : length b ≡ most_samples) where
-  promised : {is : ReadAnswer} → answer ≡ is → ReadPromise file a b a' b' is
+  promised : {is : Result Sizes Refusal} → answer ≡ is → ReadPromise file a b a' b' is
   promised e = subst (λ is. ReadPromise file a b a' b' is) e r
 
-  verdict : {is : ReadAnswer} → answer ≡ is → verdict_of is ≡ file_verdict file (most_samples ∷ most_samples ∷ [])
+  verdict : {is : Result Sizes Refusal} → answer ≡ is → answered is ≡ file_verdict file (most_samples ∷ most_samples ∷ [])
   verdict e = rw (of_a, of_b) at (promised e).verdict
 
-  pub refusal_put : {why : Refusal} → answer ≡ Refused why → {n : ℕ} → n ≡ number (refused.verdict_of why)
+  pub refusal_put : {why : Refusal} → answer ≡ Err why → {n : ℕ} → n ≡ number (verdict_of why)
       → {next : ℕ} {page page' : List ℕ} {work : PairBuffers} → Put page 0 (refusal n) next page'
       → OutputPut file page next page' a b work a' b' work
   refusal_put {why} e is p =
@@ -83,7 +81,7 @@ module _ (file : List ℕ) (a b a' b' : List ℤ) (answer : ReadAnswer) (r : Rea
         kept = record { real = refl; imaginary = refl; scratch = refl };
       }
 
-  module _ (sizes : Sizes) (e : answer ≡ Read sizes) where
+  module _ (sizes : Sizes) (e : answer ≡ Ok sizes) where
     abbrev m : ℕ
     m = sizes.samples
 

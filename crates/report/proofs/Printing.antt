@@ -4,21 +4,21 @@ use mathlib.Core.Bool.{true}
 use mathlib.Core.Path.{◌≡◌, refl, ◌∙◌}
 use mathlib.Core.List.{List}
 use Prim.Native.Nat.{ℕ, ◌+◌, ◌*◌, ◌/◌, ◌≤◌, ◌<◌}
-use native.Mathlib.Nat.{mul-le-mul_left, mul-le-mul_right, suc-mul, div-le_self, div-mul-le_self}
+use native.Mathlib.Nat.{mul-le-mul_left, mul-le-mul_right, suc-mul, div-mul-le_self}
 use native.Mathlib.Numerals.{add-one}
 use native.Mathlib.Omega.{arith}
 use lib.IntN.{ℤ}
 use lib.ListN.{length}
 use lib.Pow.{pow_pos}
-use mir.Syntax.{w64}
-use mir.Val.{Fits}
 use Rattle.words.specs.Words.{Samples, word}
 use Rattle.lengths.specs.Block.{is_length, level}
 use Rattle.ffct.specs.Transforms.{pair as pair_of}
 use Rattle.lengths.proofs.ElevenLengths.{is_power}
 use Rattle.refusals.specs.Refusals.{block, accepted}
 use Rattle.refusals.proofs.Calls.{is_accepted}
-use Rattle.spectra.specs.declared.Answer.{Answer}
+use Rattle.std.specs.Prelude.{Result}
+use Rattle.counts.specs.declared.tally.Tally.{Tally}
+use Rattle.refusals.specs.declared.refusal.Refusal.{Refusal}
 use Rattle.spectra.specs.Answers.{spent}
 use Rattle.spectra.specs.Promises.{PairBuffers, PairDone, PairPromise}
 use Rattle.words.specs.Put.{Put}
@@ -28,7 +28,7 @@ use Rattle.report.specs.Output.{lines_at, block_lines, spectra}
 use Rattle.report.specs.Puts.{Printable, Kept, PutFrom}
 
 -- ---- Pair accepts a block of recordings that are printable up to its end
-module _ (i : ℕ) {N allowance : ℕ} {a b : List ℤ} {work work' : PairBuffers} (answer : Answer) where
+module _ (i : ℕ) {N allowance : ℕ} {a b : List ℤ} {work work' : PairBuffers} (answer : Result Tally Refusal) where
   pub pair_done : Printable (i * N + N) N a b work → ((x y : Samples) → allowance ≡ (pair_of (level N) x y).products)
       → PairPromise a b (i * N) N allowance work work' answer
       → PairDone N (block a (i * N)) (block b (i * N)) allowance work work' (spent answer)
@@ -71,9 +71,6 @@ module _ (N : ℕ) (a b : Samples) {at : ℕ} {page : List ℕ} {work : PairBuff
     fits = omega (arith, p.fits, q.fits, next_block i N);
     kept = kept_both p.kept q.kept;
   }
-
-pub next_fits : {m N : ℕ} (i : ℕ) {a b : List ℤ} {work : PairBuffers} → Printable m N a b work → i < m / N → Fits w64 (i + 1)
-next_fits {m} {N} i k l = record { fits = omega (arith, k.most, div-le_self m N) }
 
 -- ---- a run of `put_spectra`: the heading is put, and the blocks before number i
 module _ (m N : ℕ) (a b : List ℤ) {work : PairBuffers} (k : Printable m N a b work)

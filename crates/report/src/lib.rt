@@ -1,11 +1,12 @@
 #![tactic(auto)]
 
-// All that `pairspec` prints, put into a lent page.
+// All that `pairspec` prints, put into a lent page. The lent buffers stay parameters in a row: tried as a struct that holds the `&mut`
+// slices, and its caller learns nothing of the slices afterwards.
 mod lines;
 
-ghost use Rattle.std.specs.Prelude.{true, ◌≡◌, ◌+◌, ◌*◌, ◌/◌, ◌≤◌, ◌<◌, length};
+ghost use Rattle.std.specs.Prelude.{◌≡◌, ◌+◌, ◌*◌, ◌/◌, ◌≤◌, ◌<◌, length};
 ghost use Rattle.words.specs.Words.{Samples, word};
-ghost use Rattle.lengths.specs.Block.{is_length, level};
+ghost use Rattle.lengths.specs.Block.{level};
 ghost use Rattle.ffct.specs.Transforms.{pair as pair_of};
 ghost use Rattle.refusals.specs.Refusals.{scratch_words};
 ghost use Rattle.spectra.specs.Promises.{pair_buffers};
@@ -13,19 +14,17 @@ ghost use Rattle.report.specs.Output.{lines_at, spectra};
 ghost use Rattle.report.specs.Puts.{Printable, PutFrom, OutputPut};
 
 use crate::lines::{put_heading, put_lines, put_refusal};
-use pairfile::reader::{ReadAnswer, read};
-use refusals::refusal::number_of;
-use spectra::{CountsAnswer, count_query, pair};
+use counts::counts_of;
+use lengths::Length;
+use pairfile::reader::{Sizes, read};
+use refusals::call::Request;
+use spectra::pair;
 
-// Just Pair's products, for one block of n samples.
-fn pair_products(n: usize) -> u64
-    requires { is_length n ≡ true }
-    ensures { (x y : Samples) → result ≡ (pair_of (level n) x y).products }
+// Just Pair's products, for one block.
+fn pair_products(length: Length) -> u64
+    ensures { (x y : Samples) → result ≡ (pair_of (level length.samples) x y).products }
 {
-    match count_query(n) {
-        CountsAnswer::Counted(counts) => counts.pair.products,
-        CountsAnswer::Refused(_) => 0,
-    }
+    counts_of(length).pair.products
 }
 
 // The lines of block number `block`.
@@ -47,35 +46,38 @@ fn put_block(
         (pair_buffers real.old imaginary.old scratch.old)
         (pair_buffers real.new imaginary.new scratch.new) }
 {
-    let allowance = pair_products(n);
-    pair(a, b, block * n, n, allowance, real, imaginary, scratch);
-    put_lines(block as u64, real, imaginary, n, page, at)
+    let request = Request {
+        start: block * n,
+        length: n,
+        allowance: pair_products(Length { samples: n }),
+    };
+    let _ = pair(a, b, request, real, imaginary, scratch);
+    put_lines(block as u64, &real[..n], &imaginary[..n], page, at)
 }
 
-// The heading, and the lines of every block of two recordings of m samples.
+// The heading, and the lines of every block of two recordings with the sizes of a file.
 fn put_spectra(
     a: &[i32],
     b: &[i32],
-    m: usize,
-    n: usize,
+    sizes: Sizes,
     real: &mut [i32],
     imaginary: &mut [i32],
     scratch: &mut [i64],
     page: &mut [u8],
 ) -> usize
-    requires { Printable m n a.now b.now (pair_buffers real.old imaginary.old scratch.old)
-        × (14 + 34 * m ≤ length page.old) }
+    requires { Printable sizes.samples sizes.length a.now b.now
+        (pair_buffers real.old imaginary.old scratch.old)
+        × (14 + 34 * sizes.samples ≤ length page.old) }
     ensures { PutFrom page.old 0
-        (spectra m n (word a.now) (word b.now)) (14 + 34 * m) result page.new
+        (spectra sizes.samples sizes.length (word a.now) (word b.now))
+        (14 + 34 * sizes.samples) result page.new
         (pair_buffers real.old imaginary.old scratch.old)
         (pair_buffers real.new imaginary.new scratch.new) }
 {
-    let count = m / n;
+    let n = sizes.length;
     let mut at = put_heading(page, 0);
-    let mut block = 0;
-    while block < count {
+    for block in 0..sizes.samples / n {
         at = put_block(a, b, block, n, real, imaginary, scratch, page, at);
-        block += 1;
     }
     at
 }
@@ -98,18 +100,8 @@ pub fn put_output(
         a.old b.old (pair_buffers real.old imaginary.old scratch.old)
         a.new b.new (pair_buffers real.new imaginary.new scratch.new) }
 {
-    let answer = read(file, a, b);
-    match answer {
-        ReadAnswer::Refused(refusal) => put_refusal(number_of(refusal), page, 0),
-        ReadAnswer::Read(sizes) => put_spectra(
-            a,
-            b,
-            sizes.samples,
-            sizes.length,
-            real,
-            imaginary,
-            scratch,
-            page,
-        ),
+    match read(file, a, b) {
+        Err(refusal) => put_refusal(u32::from(refusal), page, 0),
+        Ok(sizes) => put_spectra(a, b, sizes, real, imaginary, scratch, page),
     }
 }

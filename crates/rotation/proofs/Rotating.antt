@@ -1,9 +1,9 @@
--- The rotation (18), (19) of n samples: what a pair more asks and makes, and that the coefficients are all made.
+-- The rotation (18), (19) of n samples: what a pair more makes, and that the coefficients are all made.
 -- Assumes nothing.
 use mathlib.Core.Path.{◌≡◌, refl, sym, ap, ap₂, ◌∙◌}
 use mathlib.Core.List.{List}
 use Prim.Native.Nat.{ℕ, ◌+◌, ◌-◌, ◌*◌, ◌/◌, ◌≤◌, ◌<◌, max}
-use native.Mathlib.Nat.{mul_comm, mul-le-mul_left}
+use native.Mathlib.Nat.{mul_comm}
 use native.Mathlib.Omega.{arith}
 use lib.IntN.{ℤ, pos, ◌*ℤ◌}
 use Rattle.whole.specs.Round.{round, rest_size}
@@ -17,7 +17,7 @@ use Rattle.ffct.proofs.Steps.{rotated_zero, rotated_some, unrounded_low, unround
 use Rattle.counts.specs.declared.tally.Tally.{Tally}
 use Rattle.counts.specs.Tally.{Tallied}
 use Rattle.rotation.specs.Rotation.{cosine_at, sine_at, low_at, high_at}
-use Rattle.rotation.specs.Rotation.{PairReady, PairPut, SingleReady, SinglePut, RotationReady, Rotated}
+use Rattle.rotation.specs.Rotation.{PairPut, SinglePut, RotationReady, Rotated}
 
 -- the size of the rest of DCT(i + 1)
 abbrev rest_at : ℕ → List ℤ → ℕ → ℕ
@@ -48,10 +48,6 @@ module _ {n : ℕ} {before : List ℤ} {spent : Tally} (r : RotationReady n befo
   w : 2 * (n / 2) * (1024 / n) ≡ 1024
   w = rw even (divides n r.length_ok)
 
-  -- the table's places
-  pub place : (k : ℕ) → k ≤ n → 1024 / n * k ≤ 1024
-  place k l = omega (arith, mul-le-mul_left (1024 / n) l, divides n r.length_ok)
-
   -- what is rounded
   low : (k : ℕ) → k < h → low_at (1024 / n * k) n before k ≡ unrounded n C S k
   low k o = sym (rw (even, mul_comm k (1024 / n)) at (unrounded_low h (1024 / n) C S w k o))
@@ -74,17 +70,7 @@ module _ {n : ℕ} {before : List ℤ} {spent : Tally} (r : RotationReady n befo
     sine_is : (k : ℕ) → sine_at n after k ≡ S k
     sine_is k = run.words.high (n + n / 2 + 1 + k) (omega (arith, r.some))
 
-    -- one pair more: what it asks, and what it makes
-    pub pair_ready : {k : ℕ} → (a + 1 ≡ k) × (k < h) → PairReady n k after total
-    pair_ready {k} o = record {
-      some = omega arith;
-      below = o.1;
-      fits = omega (arith, r.fits, run.words.len);
-      cosine_small = rw (cosine_is k) (r.cosine_small k (omega arith));
-      sine_small = rw (sine_is k) (r.sine_small k (omega arith));
-      room = omega (arith, r.room, run.tallied);
-    }
-
+    -- one pair more
     pub pair_more : {a' j k : ℕ} {after' : List ℤ} {total' : Tally} → (a + 1 ≡ k) × (a' ≡ k) × (k < h) → j ≡ 1024 / n * k →
         PairPut j n k after after' total total' → Run n before spent a' after' total'
     pair_more {a'} {j} {k} o e put = record {
@@ -117,15 +103,7 @@ module _ {n : ℕ} {before : List ℤ} {spent : Tally} (r : RotationReady n befo
             (ap rest_size (low_is ∙ ap (unrounded n C S) (sym o.0)))
             (ap rest_size (high_is ∙ ap (unrounded n C S) (omega (arith, even))))
 
-    -- the coefficients that belong to no pair: what they ask, and that all are made with them
-    pub single_ready : a + 1 ≡ h → SingleReady n after total
-    single_ready o = record {
-      some = r.some;
-      fits = omega (arith, r.fits, run.words.len);
-      cosine_small = rw (cosine_is h) (r.cosine_small h (omega arith));
-      room = omega (arith, r.room, run.tallied);
-    }
-
+    -- all are made with the coefficients that belong to no pair
     pub all_made : {after' : List ℤ} {total' : Tally} → a + 1 ≡ h → SinglePut n after after' total total' →
         Rotated n before after' spent total'
     unfolding rotation_rest

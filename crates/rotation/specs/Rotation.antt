@@ -10,18 +10,19 @@ use Rattle.counts.specs.declared.tally.Tally.{Tally}
 use Rattle.counts.specs.Tally.{Tallied, HasRoom}
 
 -- one pair by (20), from the cosine-DFT C and the sine-DFT S
-pub record PairRotated (c s C S first second : ℤ) (products sums larger : ℕ) : Type 0 where
+pub record PairRotated (c s C S first second : ℤ) (made : Tally) : Type 0 where
   pub low : first ≡ round (c *ℤ C -ℤ s *ℤ S)
   pub high : second ≡ round (s *ℤ C +ℤ c *ℤ S)
-  pub three_products : products ≡ 3
-  pub three_sums : sums ≡ 3
-  pub larger_rest : larger ≡ max (rest_size (c *ℤ C -ℤ s *ℤ S)) (rest_size (s *ℤ C +ℤ c *ℤ S))
+  pub three_products : made.products ≡ 3
+  pub three_sums : made.sums ≡ 3
+  pub larger_rest : made.largest_rest ≡ max (rest_size (c *ℤ C -ℤ s *ℤ S)) (rest_size (s *ℤ C +ℤ c *ℤ S))
 
 -- DCT(n/2), from the cosine-DFT there
-pub record MiddleRotated (C value : ℤ) (products size : ℕ) : Type 0 where
+pub record MiddleRotated (C value : ℤ) (made : Tally) : Type 0 where
   pub middle : value ≡ round (T 512 *ℤ C)
-  pub one_product : products ≡ 1
-  pub size_of_rest : size ≡ rest_size (T 512 *ℤ C)
+  pub one_product : made.products ≡ 1
+  pub no_sum : made.sums ≡ 0
+  pub size_of_rest : made.largest_rest ≡ rest_size (T 512 *ℤ C)
 
 -- ---- on words: the cosine-DFT C stands at n .. n + n/2, the sine-DFT S behind it; the DCT goes to the front
 abbrev pub cosine_at : ℕ → List ℤ → ℕ → ℤ

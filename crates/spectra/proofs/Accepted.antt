@@ -21,12 +21,13 @@ use Rattle.blocks.specs.Blocks.{Workable, CosineMade, SpectrumMade, PairMade}
 use Rattle.blocks.proofs.BlockRuns.{accepted}
 use Rattle.refusals.specs.Refusals.{scratch_words, block}
 use Rattle.refusals.specs.Passes.{AllWithin}
-use Rattle.refusals.specs.Calls.{Call}
+use Rattle.refusals.specs.Calls.{Call, tests}
+use Rattle.refusals.specs.Tests.{Tells}
 use Rattle.refusals.proofs.Promises.{carried_out}
-use Rattle.refusals.proofs.Calls.{Passes, is_accepted}
-use Rattle.spectra.specs.declared.Answer.TheVariants.{Done}
-use Rattle.spectra.specs.Promises.{Spends, CosinePromise, cosine_call, Buffers, buffers, SpectrumPromise, spectrum_call}
-use Rattle.spectra.specs.Promises.{PairBuffers, pair_buffers, PairPromise, pair_call}
+use Rattle.refusals.proofs.Calls.{Passes, is_accepted, accepted_by, accepted_call}
+use Rattle.std.specs.Prelude.{Ok, ⊤}
+use Rattle.spectra.specs.Promises.{Spends, CosinePromise, cosine_call, buffers, SpectrumPromise, spectrum_call}
+use Rattle.spectra.specs.Promises.{pair_buffers, PairPromise, pair_call}
 
 -- ---- the block of N samples from s on, lent as a slice of the recording r
 abbrev pub part : List ℤ → ℕ → ℕ → List ℤ
@@ -93,7 +94,7 @@ put_back {m} {n} {g} {w} {w'} e h p =
     }
 
 -- ---- what an accepted call asks of the functions on a block, and what it has done. m words of scratch are lent, and come back as w'
-module _ {N m allowance : ℕ} (is : m ≡ scratch_words N) where
+module _ (N m allowance : ℕ) (is : m ≡ scratch_words N) where
   spends : {products sums largest_rest from : ℕ} {P S : ℤ} {scratch w' : List ℤ} {spent : Tally}
       → (spent.products ≡ products) × (spent.sums ≡ sums) → spent.largest_rest ≡ largest_rest
       → Written 0 (length (take m scratch)) (λ k. pos 0) (take m scratch) w' → scratch_words N ≤ length scratch → products ≤ allowance
@@ -108,7 +109,11 @@ module _ {N m allowance : ℕ} (is : m ≡ scratch_words N) where
     scratch_cleared = put_back is (omega (arith, is)) cleared;
   }
 
-  module _ {start : ℕ} (r coefficients scratch : List ℤ) (passed : Passes (cosine_call r start N allowance coefficients scratch)) where
+  module _ (start : ℕ) (r coefficients scratch : List ℤ) {u : ⊤}
+      (t : Tells (tests (cosine_call r start N allowance coefficients scratch)) (Ok u)) where
+    passed : Passes (cosine_call r start N allowance coefficients scratch)
+    passed = accepted_by t
+
     fit_x : Fit r start N
     fit_x = fit r passed passed.recordings.0 passed.range.0
 
@@ -118,7 +123,7 @@ module _ {N m allowance : ℕ} (is : m ≡ scratch_words N) where
 
     pub cosine_done : {coefficients' w' : List ℤ} {spent : Tally} → let n = length (part r start N) in
         CosineMade n (dct (level n) (word (part r start N))) coefficients (take m scratch) coefficients' w' spent
-        → CosinePromise r start N allowance coefficients scratch coefficients' (w' ++ drop m scratch) (Done spent)
+        → CosinePromise r start N allowance coefficients scratch coefficients' (w' ++ drop m scratch) (Ok spent)
     cosine_done done =
         let x = block r start in
         let made = rw (fit_length fit_x, dct_same (level N) _ x (fit_same fit_x)) at done in
@@ -132,22 +137,26 @@ module _ {N m allowance : ℕ} (is : m ≡ scratch_words N) where
               (λ _. (forms.dct_p x, forms.dct_s x)) (λ h. absurd (omega (arith, h, length_pos N fit_x.length_ok)));
         })
 
-  module _ {start : ℕ} (r : List ℤ) (lent : Buffers) (passed : Passes (spectrum_call r start N allowance lent)) where
+  module _ (start : ℕ) (r cosine sine scratch : List ℤ) {u : ⊤}
+      (t : Tells (tests (spectrum_call r start N allowance (buffers cosine sine scratch))) (Ok u)) where
+    passed_r : Passes (spectrum_call r start N allowance (buffers cosine sine scratch))
+    passed_r = accepted_by t
+
     fit_r : Fit r start N
-    fit_r = fit r passed passed.recordings.0 passed.range.0
+    fit_r = fit r passed_r passed_r.recordings.0 passed_r.range.0
 
     pub spectrum_ready : let n = length (part r start N) in
-        Workable n (part r start N) (take m lent.scratch) × (n / 2 + 1 ≤ length lent.cosine) × (n / 2 + 1 ≤ length lent.sine)
+        Workable n (part r start N) (take m scratch) × (n / 2 + 1 ≤ length cosine) × (n / 2 + 1 ≤ length sine)
     spectrum_ready = let e = fit_length fit_r in (
-      fit_workable fit_r lent.scratch e is passed.scratch,
-      omega (arith, e, passed.results.0),
-      omega (arith, e, passed.results.1.0),
+      fit_workable fit_r scratch e is passed_r.scratch,
+      omega (arith, e, passed_r.results.0),
+      omega (arith, e, passed_r.results.1.0),
     )
 
     pub spectrum_done : {cosine' sine' w' : List ℤ} {spent : Tally} → let n = length (part r start N) in
-        SpectrumMade n (spectrum (level n) (word (part r start N))) lent.cosine lent.sine (take m lent.scratch)
+        SpectrumMade n (spectrum (level n) (word (part r start N))) cosine sine (take m scratch)
         cosine' sine' w' spent
-        → SpectrumPromise r start N allowance lent (buffers cosine' sine' (w' ++ drop m lent.scratch)) (Done spent)
+        → SpectrumPromise r start N allowance (buffers cosine sine scratch) (buffers cosine' sine' (w' ++ drop m scratch)) (Ok spent)
     unfolding spectrum
     spectrum_done done =
         let x = block r start in
@@ -155,38 +164,43 @@ module _ {N m allowance : ℕ} (is : m ≡ scratch_words N) where
         let power = sym (is_power N fit_r.length_ok) in
         let near = limits (level N) x (fit_block fit_r) in
         let forms = published (level N) in
-        carried_out refl (is_accepted passed _) (record {
+        carried_out refl (is_accepted passed_r _) (record {
           block = fit_block fit_r;
           cosine_words = made.cosine_words;
           sine_words = made.sine_words;
           cosine_near = λ k h. rw (front made.cosine_words k (omega (arith, h))) ((rw power at near.cosine) k h);
           sine_near = λ k h. rw (front made.sine_words k (omega (arith, h))) ((rw power at near.sine) k h);
-          spends = spends made.tallied made.rest made.cleared passed.scratch passed.allowance
+          spends = spends made.tallied made.rest made.cleared passed_r.scratch passed_r.allowance
               (λ h. let some = some_level N fit_r.length_ok h in (forms.spectrum_p x some, forms.spectrum_s x some))
               (λ h. forms.spectrum_at_one x (level_of_one fit_r.length_ok h));
         })
 
-  module _ {start : ℕ} (a b : List ℤ) (lent : PairBuffers) (passed : Passes (pair_call a b start N allowance lent)) where
+  module _ (start : ℕ) (a b real imaginary scratch : List ℤ) {u : ⊤}
+      (t : Tells (tests (pair_call a b start N allowance (pair_buffers real imaginary scratch))) (Ok u)) where
+    passed_ab : Passes (pair_call a b start N allowance (pair_buffers real imaginary scratch))
+    passed_ab = accepted_by t
+
     fit_a : Fit a start N
-    fit_a = fit a passed passed.recordings.0 passed.range.0
+    fit_a = fit a passed_ab passed_ab.recordings.0 passed_ab.range.0
 
     fit_b : Fit b start N
-    fit_b = fit b passed passed.recordings.1.0 passed.range.1.0
+    fit_b = fit b passed_ab passed_ab.recordings.1.0 passed_ab.range.1.0
 
     pub pair_ready : let n = length (part a start N) in
-        Workable n (part a start N) (take m lent.scratch) × Workable n (part b start N) (take m lent.scratch)
-        × (n ≤ length lent.real) × (n ≤ length lent.imaginary)
+        Workable n (part a start N) (take m scratch) × Workable n (part b start N) (take m scratch)
+        × (n ≤ length real) × (n ≤ length imaginary)
     pair_ready = let e = fit_length fit_a in (
-      fit_workable fit_a lent.scratch e is passed.scratch,
-      fit_workable fit_b lent.scratch e is passed.scratch,
-      omega (arith, e, passed.results.0),
-      omega (arith, e, passed.results.1.0),
+      fit_workable fit_a scratch e is passed_ab.scratch,
+      fit_workable fit_b scratch e is passed_ab.scratch,
+      omega (arith, e, passed_ab.results.0),
+      omega (arith, e, passed_ab.results.1.0),
     )
 
     pub pair_done : {real' imaginary' w' : List ℤ} {spent : Tally} → let n = length (part a start N) in
-        PairMade n (pair (level n) (word (part a start N)) (word (part b start N))) lent.real lent.imaginary (take m lent.scratch)
+        PairMade n (pair (level n) (word (part a start N)) (word (part b start N))) real imaginary (take m scratch)
         real' imaginary' w' spent
-        → PairPromise a b start N allowance lent (pair_buffers real' imaginary' (w' ++ drop m lent.scratch)) (Done spent)
+        → PairPromise a b start N allowance (pair_buffers real imaginary scratch)
+        (pair_buffers real' imaginary' (w' ++ drop m scratch)) (Ok spent)
     pair_done done =
         let x = block a start in
         let y = block b start in
@@ -194,14 +208,17 @@ module _ {N m allowance : ℕ} (is : m ≡ scratch_words N) where
         let power = sym (is_power N fit_a.length_ok) in
         let near = pair_limits (level N) x y (fit_block fit_a) (fit_block fit_b) in
         let forms = published (level N) in
-        carried_out refl (is_accepted passed _) (record {
+        carried_out refl (is_accepted passed_ab _) (record {
           block_a = fit_block fit_a;
           block_b = fit_block fit_b;
           real_words = made.real_words;
           imaginary_words = made.imaginary_words;
           real_near = λ k h. rw (front made.real_words k h) ((rw power at near.real) k h);
           imaginary_near = λ k h. rw (front made.imaginary_words k h) ((rw power at near.imaginary) k h);
-          spends = spends made.tallied made.rest made.cleared passed.scratch passed.allowance
+          spends = spends made.tallied made.rest made.cleared passed_ab.scratch passed_ab.allowance
               (λ h. let some = some_level N fit_a.length_ok h in (forms.pair_p x y some, forms.pair_s x y some))
               (λ h. forms.pair_at_one x y (level_of_one fit_a.length_ok h));
         })
+
+-- what the calls cite: that their tests accept them, and the part of scratch that they lend on
+pub ruleset lends = (accepted_call, taken, spectrum_ready, cosine_ready, pair_ready)

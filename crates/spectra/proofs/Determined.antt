@@ -8,21 +8,22 @@ use Rattle.counts.specs.declared.tally.Tally.{Tally}
 use Rattle.counts.specs.Tally.{none}
 use Rattle.refusals.specs.Refusals.{accepted}
 use Rattle.refusals.proofs.Promises.{refuses, same_refusal}
-use Rattle.spectra.specs.declared.Answer.{Answer}
-use Rattle.spectra.specs.declared.Answer.TheVariants.{Refused, Done}
-use Rattle.spectra.specs.Answers.{verdict_of, spent}
+use Rattle.std.specs.Prelude.{Result, Ok, Err}
+use Rattle.refusals.specs.declared.refusal.Refusal.{Refusal}
+use Rattle.refusals.specs.Answers.{answered}
+use Rattle.spectra.specs.Answers.{spent}
 use Rattle.spectra.specs.Promises.{Buffers, SpectrumDone}
 
 -- ---- an answer is determined by its verdict and by what it has spent; a refusal has spent nothing
-pub same_answer : (a b : Answer) → verdict_of a ≡ verdict_of b → spent a ≡ spent b → a ≡ b
-same_answer (Refused r) (Refused s) e f = ap Refused (same_refusal r s e)
-same_answer (Refused r) (Done u) e f = absurd (refuses r e)
-same_answer (Done t) (Refused s) e f = absurd (refuses s (sym e))
-same_answer (Done t) (Done u) e f = ap Done f
+pub same_answer : (a b : Result Tally Refusal) → answered a ≡ answered b → spent a ≡ spent b → a ≡ b
+same_answer (Err r) (Err s) e f = ap Err (same_refusal r s e)
+same_answer (Err r) (Ok u) e f = absurd (refuses r e)
+same_answer (Ok t) (Err s) e f = absurd (refuses s (sym e))
+same_answer (Ok t) (Ok u) e f = ap Ok f
 
-pub none_spent : (a : Answer) → (verdict_of a ≡ accepted → ⊥) → spent a ≡ none
-none_spent (Refused r) h = refl
-none_spent (Done t) h = absurd (h refl)
+pub none_spent : (a : Result Tally Refusal) → (answered a ≡ accepted → ⊥) → spent a ≡ none
+none_spent (Err r) h = refl
+none_spent (Ok t) h = absurd (h refl)
 
 same_tally : {t u : Tally} → t.products ≡ u.products → t.sums ≡ u.sums → t.largest_rest ≡ u.largest_rest → t ≡ u
 same_tally e f g = λ i. record { products = e i; sums = f i; largest_rest = g i }

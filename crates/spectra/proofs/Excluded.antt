@@ -14,15 +14,17 @@ use Rattle.ffct.specs.Transforms.{dct_by, cosine_dft, dct, spectrum, pair}
 use Rattle.refusals.specs.Refusals.{first_beyond, number, place}
 use Rattle.refusals.specs.Calls.{tests}
 use Rattle.refusals.proofs.Exclusion.{differ, code, words_differ, done_of, stays}
-use Rattle.spectra.specs.declared.Answer.{Answer}
-use Rattle.spectra.specs.declared.CountsAnswer.{CountsAnswer}
-use Rattle.spectra.specs.declared.marks.MarkAnswer.{MarkAnswer}
+use Rattle.std.specs.Prelude.{Result}
+use Rattle.counts.specs.declared.tally.Tally.{Tally}
+use Rattle.counts.specs.declared.Counts.{Counts}
+use Rattle.refusals.specs.declared.refusal.Refusal.{Refusal}
+use Rattle.spectra.specs.declared.marks.Marked.{Marked}
 use Rattle.spectra.specs.Answers.{mark_number}
 use Rattle.spectra.specs.Marks.{all, some, mark}
 use Rattle.spectra.specs.Promises.{Buffers, PairBuffers}
 use Rattle.spectra.specs.Excluded.{CosineExcluded, SpectrumExcluded, PairExcluded, CountsExcluded, MarkExcluded}
 
-pub cosine_excluded : (coefficients scratch : List ℤ) (answer : Answer) → CosineExcluded coefficients scratch answer
+pub cosine_excluded : (coefficients scratch : List ℤ) (answer : Result Tally Refusal) → CosineExcluded coefficients scratch answer
 unfolding code nearest round rest largest root_of halved unit_step step stepped first_quarter on_half on_circle K T
     alternate rearranged cosine_beyond sine_beyond dct_beyond apart unrounded rotated rotation_rest dct_by cosine_dft dct
     is_length level first_beyond tests
@@ -43,7 +45,7 @@ cosine_excluded _ _ _ = record {
   four_first = λ p w. differ (ap number p.verdict) w tt;
 }
 
-pub spectrum_excluded : (lent : Buffers) (answer : Answer) → SpectrumExcluded lent answer
+pub spectrum_excluded : (lent : Buffers) (answer : Result Tally Refusal) → SpectrumExcluded lent answer
 unfolding code nearest round root_of halved unit_step step stepped first_quarter on_half on_circle K T
     alternate rearranged cosine_beyond sine_beyond dct_beyond apart unrounded rotated dct_by cosine_dft spectrum
     is_length level first_beyond tests
@@ -57,7 +59,7 @@ spectrum_excluded _ _ = record {
   touched = λ p w. words_differ (ap (λ l. word l.cosine 0) (stays p tt)) w tt;
 }
 
-pub pair_excluded : (lent : PairBuffers) (answer : Answer) → PairExcluded lent answer
+pub pair_excluded : (lent : PairBuffers) (answer : Result Tally Refusal) → PairExcluded lent answer
 unfolding code cosine_beyond sine_beyond dct_beyond apart alternate dct_by cosine_dft spectrum pair is_length level first_beyond tests
 pair_excluded _ _ = record {
   sign_turned = λ p w. words_differ ((done_of p).imaginary_words.new 1 (lit< tt)) w tt;
@@ -66,7 +68,7 @@ pair_excluded _ _ = record {
   b_first = λ p w. differ (ap place p.verdict) w tt;
 }
 
-pub counts_excluded : (answer : CountsAnswer) → CountsExcluded answer
+pub counts_excluded : (answer : Result Counts Refusal) → CountsExcluded answer
 unfolding is_length level dct_by cosine_dft dct spectrum
 counts_excluded _ = record {
   counts_of_two = λ p w. differ ((p.counted p.verdict).0.of_dct.products (λ n. pos 0)) w tt;
@@ -74,7 +76,7 @@ counts_excluded _ = record {
   any_length = λ p w. differ (ap number p.verdict) w tt;
 }
 
-pub mark_excluded : (lent : Buffers) (answer : MarkAnswer) → MarkExcluded lent answer
+pub mark_excluded : (lent : Buffers) (answer : Result Marked Refusal) → MarkExcluded lent answer
 unfolding code alternate cosine_beyond sine_beyond dct_beyond apart dct_by cosine_dft spectrum
     is_length level first_beyond tests all some mark
 mark_excluded _ _ = record {

@@ -1,3 +1,4 @@
+pub mod Tested
 pub mod Accepted
 pub mod Determined
 pub mod MarkRules

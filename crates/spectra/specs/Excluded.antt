@@ -1,14 +1,16 @@
 -- Wrong outcomes that the promises of the calls exclude, each at one named input, with buffers that just suffice: among them document 01's
 -- "Plausible programs that are wrong" and its "Worthless versions".
-use Rattle.std.specs.Prelude.{List, [], ◌∷◌, ℕ, ℤ, pos, negsuc, replicate}
+use Rattle.std.specs.Prelude.{List, [], ◌∷◌, ℕ, ℤ, pos, negsuc, replicate, Result}
 use Rattle.words.specs.Words.{word}
 use Rattle.lengths.specs.Block.{spectrum_yields}
 use Rattle.refusals.specs.Refusals.{scratch_words, number, place}
 use Rattle.refusals.specs.Exclusion.{nines, Never}
-use Rattle.spectra.specs.declared.Answer.{Answer}
-use Rattle.spectra.specs.declared.CountsAnswer.{CountsAnswer}
-use Rattle.spectra.specs.declared.marks.MarkAnswer.{MarkAnswer}
-use Rattle.spectra.specs.Answers.{verdict_of, spent, verdict_of_counts, counts_of, verdict_of_mark, mark_number}
+use Rattle.counts.specs.declared.tally.Tally.{Tally}
+use Rattle.counts.specs.declared.Counts.{Counts}
+use Rattle.refusals.specs.declared.refusal.Refusal.{Refusal}
+use Rattle.refusals.specs.Answers.{answered}
+use Rattle.spectra.specs.declared.marks.Marked.{Marked}
+use Rattle.spectra.specs.Answers.{spent, counts_of, mark_number}
 use Rattle.spectra.specs.Promises.{Buffers, buffers, PairBuffers, pair_buffers}
 use Rattle.spectra.specs.Promises.{CosinePromise, SpectrumPromise, PairPromise, CountsPromise, MarkPromise}
 
@@ -26,7 +28,7 @@ abbrev nones : ℕ → List ℤ
 nones n = replicate n (pos 0)
 
 -- ---- Cosine. What it leaves in its buffers, and its answer, may be anything
-module _ (coefficients scratch : List ℤ) (answer : Answer) where
+module _ (coefficients scratch : List ℤ) (answer : Result Tally Refusal) where
   abbrev Cosine : List ℤ → (start N allowance : ℕ) → Type 0
   Cosine recording start N allowance =
       CosinePromise recording start N allowance (nines N) (nines (scratch_words N)) coefficients scratch answer
@@ -43,22 +45,22 @@ module _ (coefficients scratch : List ℤ) (answer : Answer) where
     -- "the first block transformed and repeated for later ones": −1, of P5, for 1, of P4 behind it
     pub first_again : Never (Cosine (pos 0 ∷ pos 1 ∷ P4) 2 2 1) (word coefficients 1) (negsuc 0)
     -- "allowance called too small before it is compared": it just suffices; and "a refusal each time"
-    pub refused_by_five : Never (Cosine P5 0 2 1) (number (verdict_of answer)) 5
-    pub refused_by_one : Never (Cosine P5 0 2 1) (number (verdict_of answer)) 1
+    pub refused_by_five : Never (Cosine P5 0 2 1) (number (answered answer)) 5
+    pub refused_by_one : Never (Cosine P5 0 2 1) (number (answered answer)) 1
     -- no rest is told: 0.7 times 2^30 is rounded
     pub rest_forgotten : Never (Cosine (pos 1 ∷ pos 0 ∷ []) 0 2 1) (spent answer).largest_rest 0
     -- the last of the words that are cleared
     pub scratch_left : Never (Cosine P5 0 2 1) (word scratch 79) (pos 9)
     -- the range of samples: a limit that is itself refused, one that is not tested below, and the place counted in the block, or lost
-    pub limit_refused : Never (Cosine (pos 1000000 ∷ []) 0 1 0) (number (verdict_of answer)) 6
-    pub low_accepted : Never (Cosine (negsuc 1000000 ∷ []) 0 1 0) (number (verdict_of answer)) 0
-    pub place_in_block : Never (Cosine (pos 0 ∷ pos 1 ∷ pos 0 ∷ pos 1000001 ∷ []) 2 2 1) (place (verdict_of answer)) 1
-    pub place_lost : Never (Cosine (pos 0 ∷ pos 1000001 ∷ []) 0 2 1) (place (verdict_of answer)) 0
+    pub limit_refused : Never (Cosine (pos 1000000 ∷ []) 0 1 0) (number (answered answer)) 6
+    pub low_accepted : Never (Cosine (negsuc 1000000 ∷ []) 0 1 0) (number (answered answer)) 0
+    pub place_in_block : Never (Cosine (pos 0 ∷ pos 1 ∷ pos 0 ∷ pos 1000001 ∷ []) 2 2 1) (place (answered answer)) 1
+    pub place_lost : Never (Cosine (pos 0 ∷ pos 1000001 ∷ []) 0 2 1) (place (answered answer)) 0
     -- the order: 4 before 3, with no word of either
-    pub four_first : Never (CosinePromise P4 0 2 1 [] [] coefficients scratch answer) (number (verdict_of answer)) 4
+    pub four_first : Never (CosinePromise P4 0 2 1 [] [] coefficients scratch answer) (number (answered answer)) 4
 
 -- ---- Spectrum
-module _ (lent : Buffers) (answer : Answer) where
+module _ (lent : Buffers) (answer : Result Tally Refusal) where
   abbrev Spectrum : List ℤ → (start N allowance : ℕ) → Type 0
   Spectrum recording start N allowance =
       let results = nines (spectrum_yields N) in
@@ -80,7 +82,7 @@ module _ (lent : Buffers) (answer : Answer) where
     pub touched : Never (Spectrum (pos 1000001 ∷ []) 0 1 0) (word lent.cosine 0) (pos 1000001)
 
 -- ---- Pair
-module _ (lent : PairBuffers) (answer : Answer) where
+module _ (lent : PairBuffers) (answer : Result Tally Refusal) where
   abbrev Pair : (a b : List ℤ) → (start N allowance : ℕ) → Type 0
   Pair a b start N allowance =
       PairPromise a b start N allowance (pair_buffers (nines N) (nines N) (nines (scratch_words N))) lent answer
@@ -93,18 +95,18 @@ module _ (lent : PairBuffers) (answer : Answer) where
     -- the closed form at N = 1: one product
     pub form_at_one : Never (Pair (pos 3 ∷ []) (pos 5 ∷ []) 0 1 0) (spent answer).products 1
     -- "in Pair a before b": b is out of range at place 0, a at place 1
-    pub b_first : Never (Pair (pos 0 ∷ pos 1000001 ∷ []) (pos 1000001 ∷ pos 0 ∷ []) 0 2 0) (place (verdict_of answer)) 0
+    pub b_first : Never (Pair (pos 0 ∷ pos 1000001 ∷ []) (pos 1000001 ∷ pos 0 ∷ []) 0 2 0) (place (answered answer)) 0
 
 -- ---- the count query
-module _ (answer : CountsAnswer) where
+module _ (answer : Result Counts Refusal) where
   pub record CountsExcluded : Type 0 where
     -- the DCT's products of N = 2 for those of N = 4; Spectrum's sums by the closed form at N = 1; a length that is none
     pub counts_of_two : Never (CountsPromise 4 answer) (counts_of answer).dct.products 1
     pub form_at_one : Never (CountsPromise 1 answer) (counts_of answer).spectrum.sums 1
-    pub any_length : Never (CountsPromise 3 answer) (number (verdict_of_counts answer)) 0
+    pub any_length : Never (CountsPromise 3 answer) (number (answered answer)) 0
 
 -- ---- the mark of a block
-module _ (lent : Buffers) (answer : MarkAnswer) where
+module _ (lent : Buffers) (answer : Result Marked Refusal) where
   abbrev Mark : List ℤ → (start N : ℕ) → (flat_limit clip_level : ℤ) → Type 0
   Mark recording start N flat_limit clip_level =
       let results = nines (spectrum_yields N) in
@@ -121,6 +123,6 @@ module _ (lent : Buffers) (answer : MarkAnswer) where
     pub level_plain : Never (Mark (pos 1 ∷ negsuc 0 ∷ []) 0 2 (pos 0) (pos 1)) (mark_number answer) 3
     pub before_block : Never (Mark (pos 5 ∷ pos 1 ∷ negsuc 0 ∷ []) 1 2 (pos 0) (pos 5)) (mark_number answer) 2
     -- "Order: 1 to 6, then 12.": 12 before 1; figures told as 6; a refusal by 12 that has cleared scratch
-    pub twelve_first : Never (Mark P4 0 3 (negsuc 0) (pos 1)) (number (verdict_of_mark answer)) 12
-    pub told_as_six : Never (Mark (pos 7 ∷ []) 0 1 (negsuc 0) (pos 1)) (number (verdict_of_mark answer)) 6
+    pub twelve_first : Never (Mark P4 0 3 (negsuc 0) (pos 1)) (number (answered answer)) 12
+    pub told_as_six : Never (Mark (pos 7 ∷ []) 0 1 (negsuc 0) (pos 1)) (number (answered answer)) 6
     pub scratch_cleared : Never (Mark (pos 7 ∷ []) 0 1 (negsuc 0) (pos 1)) (word lent.scratch 0) (pos 0)

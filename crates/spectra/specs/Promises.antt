@@ -1,20 +1,20 @@
 -- What the calls promise, for every input: the verdict, what stays after a refusal, and all that an accepted call leaves behind.
 -- N is the length, x the samples of the block, x(0) being the sample at the start. What a buffer holds after the call is marked '.
-use Rattle.std.specs.Prelude.{not, cond, List, [], ◌∷◌, ◌≡◌, ℕ, ◌/◌, ◌≤◌, ◌<◌, ℤ, pos, length}
+use Rattle.std.specs.Prelude.{not, cond, List, [], ◌∷◌, ◌≡◌, ℕ, ◌/◌, ◌≤◌, ◌<◌, ℤ, pos, length, Result, Ok}
 use Rattle.words.specs.Words.{Samples, word, Written}
 use Rattle.lengths.specs.Block.{AcceptedBlock, is_length, level, spectrum_yields}
 use Rattle.ffct.specs.Exact.{exact_cosine, exact_sine, exact_dct, exact_real, exact_imaginary, eighth, quarter_of_next, quarter, Within}
 use Rattle.ffct.specs.Transforms.{dct as dct_of, spectrum as spectrum_of, pair as pair_of}
 use Rattle.ffct.specs.Counts.{dct_products, dct_sums, spectrum_products, spectrum_sums, pair_products, pair_sums}
 use Rattle.counts.specs.declared.tally.Tally.{Tally}
+use Rattle.counts.specs.declared.Counts.{Counts}
 use Rattle.counts.specs.Counts.{SixCounts, SixPublished}
 use Rattle.refusals.specs.Refusals.{scratch_words, block, refused, accepted, Promise}
 use Rattle.refusals.specs.Calls.{Call, verdict}
-use Rattle.spectra.specs.declared.Answer.{Answer}
-use Rattle.spectra.specs.declared.CountsAnswer.{CountsAnswer}
-use Rattle.spectra.specs.declared.marks.MarkAnswer.{MarkAnswer}
-use Rattle.spectra.specs.declared.marks.MarkAnswer.TheVariants.{Marked}
-use Rattle.spectra.specs.Answers.{verdict_of, spent, verdict_of_counts, counts_of, verdict_of_mark, spent_marking}
+use Rattle.refusals.specs.declared.refusal.Refusal.{Refusal}
+use Rattle.refusals.specs.Answers.{answered}
+use Rattle.spectra.specs.declared.marks.Marked.{Marked}
+use Rattle.spectra.specs.Answers.{spent, counts_of, spent_marking}
 use Rattle.spectra.specs.Marks.{mark, mark_verdict}
 
 -- ---- what every accepted call spends and clears. Products, sums and the largest rest are those that the definition of its coefficients
@@ -62,9 +62,9 @@ pub record SpectrumDone (N : ℕ) (x : Samples) (allowance : ℕ) (lent lent' : 
   pub spends : let t = spectrum_of (level N) x in Spends N allowance t.products t.sums t.largest_rest
       2 (spectrum_products (level N)) (spectrum_sums (level N)) lent.scratch lent'.scratch spent
 
-abbrev pub SpectrumPromise : List ℤ → (start N allowance : ℕ) → (lent lent' : Buffers) → Answer → Type 0
+abbrev pub SpectrumPromise : List ℤ → (start N allowance : ℕ) → (lent lent' : Buffers) → Result Tally Refusal → Type 0
 SpectrumPromise recording start N allowance lent lent' answer =
-    Promise (verdict_of answer) (verdict (spectrum_call recording start N allowance lent))
+    Promise (answered answer) (verdict (spectrum_call recording start N allowance lent))
     (lent' ≡ lent)
     (SpectrumDone N (block recording start) allowance lent lent' (spent answer))
 
@@ -91,9 +91,9 @@ pub record CosineDone (N : ℕ) (x : Samples) (allowance : ℕ)
   pub spends : let t = dct_of (level N) x in Spends N allowance t.products t.sums t.largest_rest
       1 (dct_products (level N)) (dct_sums (level N)) scratch scratch' spent
 
-abbrev pub CosinePromise : List ℤ → ℕ → ℕ → ℕ → (coefficients scratch coefficients' scratch' : List ℤ) → Answer → Type 0
+abbrev pub CosinePromise : List ℤ → ℕ → ℕ → ℕ → (coefficients scratch coefficients' scratch' : List ℤ) → Result Tally Refusal → Type 0
 CosinePromise recording start N allowance coefficients scratch coefficients' scratch' answer =
-    Promise (verdict_of answer) (verdict (cosine_call recording start N allowance coefficients scratch))
+    Promise (answered answer) (verdict (cosine_call recording start N allowance coefficients scratch))
     ((coefficients' ≡ coefficients) × (scratch' ≡ scratch))
     (CosineDone N (block recording start) allowance coefficients scratch coefficients' scratch' (spent answer))
 
@@ -130,27 +130,30 @@ pub record PairDone (N : ℕ) (x y : Samples) (allowance : ℕ) (lent lent' : Pa
   pub spends : let t = pair_of (level N) x y in Spends N allowance t.products t.sums t.largest_rest
       2 (pair_products (level N)) (pair_sums (level N)) lent.scratch lent'.scratch spent
 
-abbrev pub PairPromise : (a b : List ℤ) → (start N allowance : ℕ) → (lent lent' : PairBuffers) → Answer → Type 0
+abbrev pub PairPromise : (a b : List ℤ) → (start N allowance : ℕ) → (lent lent' : PairBuffers) → Result Tally Refusal → Type 0
 PairPromise a b start N allowance lent lent' answer =
-    Promise (verdict_of answer) (verdict (pair_call a b start N allowance lent))
+    Promise (answered answer) (verdict (pair_call a b start N allowance lent))
     (lent' ≡ lent)
     (PairDone N (block a start) (block b start) allowance lent lent' (spent answer))
 
 -- ---- the count query: it tests 1 alone, and gives all six counts, by the definitions and by the closed forms
-pub record CountsPromise (N : ℕ) (answer : CountsAnswer) : Type 0 where
-  pub verdict : verdict_of_counts answer ≡ cond (not (is_length N)) (refused 1) accepted
-  pub counted : verdict_of_counts answer ≡ accepted → SixCounts (level N) (counts_of answer) × SixPublished N (counts_of answer)
+pub record CountsPromise (N : ℕ) (answer : Result Counts Refusal) : Type 0 where
+  pub verdict : answered answer ≡ cond (not (is_length N)) (refused 1) accepted
+  pub counted : answered answer ≡ accepted → SixCounts (level N) (counts_of answer) × SixPublished N (counts_of answer)
 
 -- ---- the mark of a block. "A new call takes these two signed 32-bit figures beside all that Spectrum takes, and returns the mark with
 -- Spectrum's full answer."
-pub record MarkDone (flat_limit clip_level : ℤ) (N : ℕ) (x : Samples) (allowance : ℕ) (lent lent' : Buffers) (answer : MarkAnswer)
-    : Type 0 where
+pub record MarkDone (flat_limit clip_level : ℤ) (N : ℕ) (x : Samples) (allowance : ℕ) (lent lent' : Buffers)
+    (answer : Result Marked Refusal) : Type 0 where
   pub spectrum : SpectrumDone N x allowance lent lent' (spent_marking answer)
-  pub marked : answer ≡ Marked (mark flat_limit clip_level N x (spectrum_of (level N) x).cosine (spectrum_of (level N) x).sine)
-      (spent_marking answer)
+  pub marked : let t = spectrum_of (level N) x in answer ≡ Ok (record {
+    mark = mark flat_limit clip_level N x t.cosine t.sine;
+    spent = spent_marking answer;
+  })
 
-abbrev pub MarkPromise : List ℤ → (start N allowance : ℕ) → (flat_limit clip_level : ℤ) → (lent lent' : Buffers) → MarkAnswer → Type 0
+abbrev pub MarkPromise : List ℤ → (start N allowance : ℕ) → (flat_limit clip_level : ℤ) → (lent lent' : Buffers)
+    → Result Marked Refusal → Type 0
 MarkPromise recording start N allowance flat_limit clip_level lent lent' answer =
-    Promise (verdict_of_mark answer) (mark_verdict (spectrum_call recording start N allowance lent) flat_limit clip_level)
+    Promise (answered answer) (mark_verdict (spectrum_call recording start N allowance lent) flat_limit clip_level)
     (lent' ≡ lent)
     (MarkDone flat_limit clip_level N (block recording start) allowance lent lent' answer)

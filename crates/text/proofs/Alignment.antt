@@ -1,20 +1,20 @@
 -- Texts in columns: the width of a right-aligned text, and what each call of `put_right` and `put_column` asks, and what they come to.
 -- Assumes nothing.
-use mathlib.Core.Path.{◌≡◌, refl, sym, ap, ◌∙◌}
-use mathlib.Core.List.{List, [], ◌∷◌, ◌++◌, append-nil}
-use Prim.Native.Nat.{ℕ, zero, suc, ◌+◌, ◌-◌, ◌≤◌}
+use mathlib.Core.Path.{◌≡◌, ◌∙◌}
+use mathlib.Core.List.{List, [], ◌++◌, append-nil}
+use Prim.Native.Nat.{ℕ, ◌+◌, ◌-◌, ◌≤◌}
 use native.Mathlib.Omega.{arith}
 use lib.IntN.{ℤ}
 use lib.ListN.{length, take, length-append, length-replicate}
 use mir.Syntax.{w32}
 use mir.Val.{SFits}
+use borrow.Rule.Slice.PartMut.{put_mid, mid_of, mid_len}
 use mir.Facts.{to_z-of_z}
 use Rattle.words.specs.Put.{Put}
 use Rattle.words.proofs.Putting.{◌then◌}
 use Rattle.text.specs.Decimal.{decimal}
 use Rattle.text.specs.Alignment.{spaces, right_aligned}
-use Rattle.text.proofs.Spelling.{decimal_length}
-use Rattle.text.proofs.Runs.{held}
+use Rattle.text.proofs.Runs.{held, part_put}
 
 spaces_length : (n : ℕ) → length (spaces n) ≡ n
 spaces_length n = length-replicate {A = ℕ} n 32
@@ -28,38 +28,18 @@ pub column_length :
     (width : ℕ) (text end : List ℕ) → length text ≤ width → length (right_aligned width text ++ end) ≡ width + length end
 column_length width text end short = length-append (right_aligned width text) end ∙ rw (aligned_length width text short)
 
--- ---- the spaces before a text, of those of the widest column
-take_spaces : (k n : ℕ) → k ≤ n → take k (spaces n) ≡ spaces k
-take_spaces zero n h = refl
-take_spaces (suc k) zero h = absurd (omega arith)
-take_spaces (suc k) (suc n) h = ap (λ (r : List ℕ). 32 ∷ r) (take_spaces k n (omega arith))
-
-module _ (width at : ℕ) (text page : List ℕ) (short : length text ≤ width) (narrow : width ≤ 12) (room : at + width ≤ length page) where
-  abbrev blank : List ℕ
-  blank = take (width - length text) (spaces 12)
-
-  is_blank : blank ≡ spaces (width - length text)
-  is_blank = take_spaces (width - length text) 12 (omega arith)
-
-  pub spaces_count : width - length text ≡ length blank
-  spaces_count = rw is_blank (sym (spaces_length (width - length text)))
-
-  pub spaces_ready : at + length blank ≤ length page
-  spaces_ready = omega (arith, spaces_count)
-
-  module _ (r : ℕ) (page₁ : List ℕ) (put : Put page at blank r page₁) where
-    pub text_ready : r + length text ≤ length page₁
-    text_ready = omega (arith, spaces_count)
-
-    pub right_put : {q : ℕ} {page₂ : List ℕ} → Put page₁ r text q page₂ → Put page at (right_aligned width text) q page₂
-    unfolding right_aligned
-    right_put e = (rw is_blank at put) then e
+-- ---- the spaces before a text, put as a part of the page up to the place `behind`
+pub right_put : (width at behind : ℕ) (text page blank : List ℕ) → behind ≡ at + (width - length text) → behind ≤ length page
+    → blank ≡ spaces (length (mid_of at (behind - at) page)) → {next : ℕ} {page₁ : List ℕ}
+    → Put (put_mid at (behind - at) page blank) behind text next page₁ → Put page at (right_aligned width text) next page₁
+unfolding right_aligned
+right_put width at behind text page blank ends room are put =
+    let long : length (mid_of at (behind - at) page) ≡ width - length text = mid_len at behind page room ∙ omega arith in
+    part_put page _ blank at _ behind (rw long at are) (omega (arith, spaces_length (width - length text)))
+    (omega (arith, spaces_length (width - length text))) room then put
 
 -- ---- a number in a column: its digits in a buffer of their own, then the column, and what ends it
 module _ (x : ℤ) (f : SFits w32 x) where
-  pub digits_ready : 0 + length (decimal (held x) ++ []) ≤ 12
-  digits_ready = rw (to_z-of_z f, append-nil) (omega (arith, decimal_length x f))
-
   module _ (n : ℕ) (buffer digits : List ℕ) (put : Put buffer 0 (decimal (held x) ++ []) n digits) where
     are_digits : take n digits ≡ decimal x
     are_digits = put.front ∙ rw (to_z-of_z f) (append-nil (decimal x))

@@ -11,12 +11,11 @@ const WIDEST: usize = 12;
 
 // A text in a column of this width, right aligned.
 fn put_right(text: &[u8], width: usize, page: &mut [u8], at: usize) -> usize
-    requires { (length text.now ≤ width) × (width ≤ 12) × (at + width ≤ length page.old) }
+    requires { (length text.now ≤ width) × (at + width ≤ length page.old) }
     ensures { Put page.old at (right_aligned width text.now) result page.new }
 {
-    let spaces = [b' '; WIDEST];
-    let blank = &spaces[..width - text.len()];
-    let behind = put(blank, page, at);
+    let behind = at + (width - text.len());
+    page[at..behind].fill(b' ');
     put(text, page, behind)
 }
 

@@ -1,34 +1,29 @@
--- Where the recursion ends: the transforms of one and two samples, and what four samples need of them.
+-- Where the recursion ends: the transforms of one and two samples.
 -- Assumes nothing.
 use mathlib.Core.Path.{◌≡◌, refl, sym, ap, ◌∙◌}
 use mathlib.Core.List.{List}
-use mathlib.Core.Logic.{⊎_elim}
-use Prim.Native.Nat.{ℕ, zero, suc, ◌+◌, ◌-◌, ◌*◌, ◌/◌, ◌≤◌, ◌<◌}
+use Prim.Native.Nat.{ℕ, zero, suc, ◌+◌, ◌-◌, ◌*◌, ◌/◌, ◌≤◌}
 use native.Mathlib.Nat.{le_refl}
 use native.Mathlib.Omega.{arith}
 use lib.IntN.{ℤ, pos, nat_abs, ◌+ℤ◌, ◌-ℤ◌, ◌*ℤ◌}
-use lib.ListN.{length, set}
-use lib.Seq.{set-set}
-use Rattle.whole.proofs.Cases.{le_or_lt}
+use lib.ListN.{set}
 use Rattle.whole.proofs.Size.{size_within, within_size, within_le, within_sub}
 use Rattle.whole.specs.Round.{round, rest_size}
 use Rattle.whole.specs.Largest.{largest}
 use Rattle.words.specs.Words.{Samples, word, Written}
-use Rattle.words.proofs.Writing.{ends_none, written_one, written_more, written_same}
-use Rattle.words.proofs.Parts.{part, part_at}
+use Rattle.words.proofs.Writing.{written_one, written_more, written_same}
 use Rattle.circle.specs.Circle.{T}
 use Rattle.lengths.specs.Block.{level, largest_sum}
-use Rattle.ffct.specs.Transforms.{Transform, dct_by, cosine_dft, sine_dft, dct, alternate, folded_differences, rearranged}
+use Rattle.ffct.specs.Transforms.{Transform, dct_by, cosine_dft, sine_dft, dct, rearranged}
 use Rattle.ffct.specs.Transforms.{unrounded, rotated, rotation_rest}
 use Rattle.lengths.proofs.Lengths.{len, len_pos}
 use Rattle.lengths.proofs.ElevenLengths.{as_len}
 use Rattle.counts.specs.declared.tally.Tally.{Tally}
 use Rattle.counts.specs.Tally.{Tallied, TalliedAs, Summed}
 use Rattle.transforms.specs.Pairs.{paired}
-use Rattle.transforms.specs.Steps.{Gives, DftReady, DftDone, DctReady, DctDone, FoldReady, Folded, DifferenceReady, DifferencePut}
-use Rattle.transforms.proofs.Pairs.{paired_near, paired_far, paired_odd, paired_mirror}
+use Rattle.transforms.specs.Steps.{Gives, DftReady, DftDone, DctReady, DctDone}
+use Rattle.transforms.proofs.Pairs.{paired_near, paired_far}
 use Rattle.transforms.proofs.Levels.{sample_le}
-use Rattle.transforms.proofs.Folding.{beside_ready}
 
 -- words written are the coefficients
 pub gives : {t : Transform} {at m : ℕ} {before after : List ℤ} {spent total : Tally} → Written at m t.at before after →
@@ -83,46 +78,12 @@ dct_one {w = w} r e = rw e (record {
   len = refl;
 })
 
-pub dct_single : {b : ℕ} {w : List ℤ} {spent : Tally} → Gives (dct (level 1) (word (part b w))) b 1 w w spent spent
-unfolding level dct dct_by
-dct_single {b} {w} = record {
-  coefficients = λ k h. ap (word w) {x = b + k} {y = b + 0} (omega arith) ∙ sym (part_at b w 0);
-  front = λ k h. refl;
-  tallied = omega arith;
-  len = refl;
-}
-
 -- ---- the DCT of two
 pub dct_two : {w : List ℤ} {u v : ℤ} {spent total : Tally} → DctReady 2 w spent → u ≡ word w 0 +ℤ word w 1 →
     v ≡ round (T 512 *ℤ (word w 0 -ℤ word w 1)) →
     Tallied 1 2 (rest_size (T 512 *ℤ (word w 0 -ℤ word w 1))) spent total → DctDone 2 w (set (set w 0 u) 1 v) spent total
 unfolding level dct dct_by cosine_dft unrounded rotated rotation_rest largest rearranged
 dct_two r e d t = gives (written_more (written_one (omega (arith, r.fits)) e) (omega (arith, r.fits)) d) (omega (arith, t))
-
--- ---- four samples: the one difference of the fold
-module _ {s b : ℕ} {w : List ℤ} {spent : Tally} (r : FoldReady 4 s b w spent) where
-  first : 2 * s * (2 * 0 + 1) ≡ 2 * s
-  first = omega arith
-
-  pub four_ready : DifferenceReady (2 * s) (2 * s - 1) b w spent
-  four_ready =
-      let here : b + 0 ≡ b = omega arith in
-      rw here at (beside_ready r {i = 0} (omega arith) {f = λ k. pos 0} {c = 0} {m = 0} ends_none r.room (omega (arith, r.fits))
-      (2 * s) (2 * s - 1) (omega (arith, r.stride)) (omega (arith, r.stride)))
-
-  pub four_folded : {v : List ℤ} {total : Tally} → DifferencePut (2 * s) (2 * s - 1) b w v spent total →
-      Folded folded_differences 4 s b w v spent total
-  unfolding alternate
-  four_folded p = record {
-    words = written_same p.words refl (λ k h. let zeroth : k ≡ 0 = omega arith in rw (zeroth, x, y));
-    tallied = p.tallied;
-  }
-    where
-      x : paired 4 s (word w) 1 ≡ word w (2 * s)
-      x = rw first at (paired_odd 4 s (word w) refl 0 (omega arith))
-
-      y : paired 4 s (word w) 3 ≡ word w (2 * s - 1)
-      y = rw first at (paired_mirror 4 s (word w) refl 0 (omega arith))
 
 -- ---- the sizes of two samples
 pub dft_pair_small : {transform : ℕ → Samples → Transform} {s at : ℕ} {w : List ℤ} {spent : Tally} → DftReady transform 2 s at w spent →
@@ -141,16 +102,3 @@ dct_pair_small {w} r =
       omega arith,
       within_size (within_le (within_sub (size_within (word w 0) (le_refl _)) (size_within (word w 1) (le_refl _))) (omega arith)),
     )
-
--- ---- zeros at one or two places
-pub zeros : (w : List ℤ) (n at : ℕ) → n ≤ 2 → at + n / 2 < length w →
-    Written at (n / 2 + 1) (λ k. pos 0) w (set (set w at (pos 0)) (at + n / 2) (pos 0))
-zeros w n at h l = ⊎_elim (λ o. two (omega arith)) (λ o. one (omega arith)) (le_or_lt 2 n)
-  where
-    two : n / 2 ≡ 1 → Written at (n / 2 + 1) (λ k. pos 0) w (set (set w at (pos 0)) (at + n / 2) (pos 0))
-    two e = rw e (written_more (written_one (omega arith) refl) (omega arith) refl)
-
-    one : n / 2 ≡ 0 → Written at (n / 2 + 1) (λ k. pos 0) w (set (set w at (pos 0)) (at + n / 2) (pos 0))
-    one e =
-        let here : at + 0 ≡ at = omega arith in
-        rw (e, here, set-set w at (pos 0) (pos 0)) (written_one (omega arith) refl)

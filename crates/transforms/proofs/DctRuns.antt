@@ -2,21 +2,19 @@
 --     cosine-ready       the cosine-DFT may be taken of the samples as they stand, which are the rearranged block in pairs
 --     sine-ready         then the sine-DFT
 --     rotation-ready     then both may be rotated
---     fourths            two pairs at a time
 --     dct-ends           what the rotation leaves is the transform
 -- Assumes nothing.
 use mathlib.Core.Path.{◌≡◌, sym, ap, ◌∙◌, subst}
-use mathlib.Core.Bool.{true}
 use mathlib.Core.List.{List}
 use Prim.Native.Nat.{ℕ, ◌+◌, ◌-◌, ◌*◌, ◌/◌, ◌≤◌, ◌<◌, max}
 use native.Mathlib.Omega.{arith}
 use lib.IntN.{ℤ}
 use Rattle.whole.proofs.Size.{within_size}
 use Rattle.words.specs.Words.{Samples, word}
-use Rattle.lengths.specs.Block.{is_length, level}
+use Rattle.lengths.specs.Block.{level}
 use Rattle.ffct.specs.Transforms.{Transform, rearranged, rotated, rotation_rest, cosine_dft, sine_dft, dct}
 use Rattle.lengths.proofs.Lengths.{len, per, len_per}
-use Rattle.lengths.proofs.ElevenLengths.{as_len, level_le, Half, half, quarter}
+use Rattle.lengths.proofs.ElevenLengths.{as_len, level_le, Half, half}
 use Rattle.ffct.proofs.Sizes.{dft_size}
 use Rattle.ffct.proofs.Blocks.{Same, dft_same, rotated_same, rotation_rest_same}
 use Rattle.ffct.proofs.Steps.{dct_step, dct_products, dct_sums, dct_rest}
@@ -158,7 +156,3 @@ module _ {n : ℕ} {w₀ : List ℤ} {spent : Tally} (start : DctReady n w₀ sp
 
           rest_is : rotation_rest n (cosine_at n w₂) (sine_at n w₂) ≡ rotation_rest n C.at S.at
           rest_is = rw even at (rotation_rest_same (n / 2) (per (level n)) _ _ _ _ per_is cosine_at_lem sine_at_lem)
-
--- two pairs are rotated at a time, where a block is not short
-pub fourths : {n : ℕ} → is_length n ≡ true → 16 < n → 4 * (n / 4) ≡ n
-fourths {n} ok h = omega (arith, (quarter n ok (omega arith)).four)

@@ -8,7 +8,6 @@
 --     lent-..               the same where the DCT was taken of a tail that was lent
 -- Assumes nothing.
 use mathlib.Core.Path.{◌≡◌, sym, ap, ap₂, ◌∙◌, subst}
-use mathlib.Core.Bool.{true}
 use mathlib.Core.List.{List}
 use Prim.Native.Nat.{ℕ, suc, ◌+◌, ◌-◌, ◌*◌, ◌/◌, ◌≤◌, ◌<◌, max}
 use native.Mathlib.Nat.{le_refl, mul-le-mul_left, mul-le-mul_right}
@@ -18,10 +17,10 @@ use lib.ListN.{length}
 use Rattle.whole.proofs.Size.{within_size, size_add, within_sub, size_within}
 use Rattle.words.specs.Words.{Samples, word}
 use Rattle.words.proofs.Parts.{part, back, part_length, part_at}
-use Rattle.lengths.specs.Block.{is_length, level, largest_sum}
+use Rattle.lengths.specs.Block.{level, largest_sum}
 use Rattle.ffct.specs.Transforms.{Transform, evens, folded_sums, folded_differences, alternate, cosine_dft, sine_dft, dct}
 use Rattle.lengths.proofs.Lengths.{len}
-use Rattle.lengths.proofs.ElevenLengths.{as_len, half, Quarter, quarter}
+use Rattle.lengths.proofs.ElevenLengths.{as_len, Quarter, quarter}
 use Rattle.ffct.proofs.Near.{alternate_within, apart_le}
 use Rattle.ffct.proofs.Sizes.{Inner, dft_size, dct_within}
 use Rattle.ffct.proofs.Blocks.{Same, dft_same, dct_same, sine_first, sine_last, cosine_beyond_same, sine_beyond_same, dct_beyond_same}
@@ -286,13 +285,3 @@ module _ {n s at : ℕ} {w₀ : List ℤ} {spent : Tally} (start : DftReady sine
   lent_sine_ready done =
       let z = sine_zeros (whole_odd sine_kind start many evened folded done) in
       (lent_join_ready sine_kind start many evened folded done, z.0, z.1)
-
--- two differences are put at a time, where a block is not short
-multiple : (n k : ℕ) → n ≡ 8 * k → 8 * (n / 8) ≡ n
-multiple n k e = omega arith
-
-pub eighths : {n : ℕ} → is_length n ≡ true → 32 < n → 8 * (n / 8) ≡ n
-eighths {n} ok h =
-    let q = quarter n ok (omega arith) in
-    let e = half (n / 4) q.ok (omega arith) in
-    multiple n (len (level (n / 4 / 2))) (omega (arith, e.twice, q.four, as_len (n / 4) q.ok))

@@ -1,19 +1,14 @@
 -- The joins of (12) and (15), from the coefficients E of the even samples and D of the DCT: coefficient by coefficient, and what a turn
--- of their loops computes.
+-- of their loops reads.
 -- Assumes nothing.
 use mathlib.Core.Path.{◌≡◌, refl}
 use mathlib.Core.List.{List}
-use Prim.Native.Nat.{ℕ, ◌+◌, ◌-◌, ◌*◌, ◌/◌, ◌^◌, ◌≤◌, ◌<◌}
+use Prim.Native.Nat.{ℕ, ◌+◌, ◌-◌, ◌*◌, ◌/◌, ◌≤◌, ◌<◌}
 use native.Mathlib.Omega.{arith}
-use lib.IntN.{ℤ, pos, neg_ℤ, ◌+ℤ◌, ◌-ℤ◌, +ℤ_idl, +ℤ_idr, +ℤ_comm}
-use lib.Signed.{mag}
-use mir.Syntax.{w64}
-use mir.Val.{of_z}
-use Rattle.whole.proofs.Words.{held}
-use Rattle.whole.proofs.Operations.{Computes}
+use lib.IntN.{ℤ, pos, neg_ℤ, nat_abs, ◌+ℤ◌, ◌-ℤ◌, +ℤ_idl, +ℤ_idr, +ℤ_comm}
+use Rattle.lengths.specs.Block.{largest_sum}
 use Rattle.words.proofs.Writing.{Ends}
 use Rattle.ffct.specs.Transforms.{apart}
-use Rattle.ffct.proofs.Sizes.{added, subtracted}
 use Rattle.ffct.proofs.Steps.{cosine_low, cosine_high, sine_low, sine_high, dct_low, dct_middle, dct_high}
 use Rattle.counts.specs.declared.tally.Tally.{Tally}
 use Rattle.transforms.specs.Steps.{even_at, odd_at, cosine_join, sine_join, JoinReady}
@@ -63,19 +58,17 @@ module _ (n : ℕ) (q : 4 * (n / 4) ≡ n) (E D : ℕ → ℤ) where
       let e : n / 2 - n / 2 ≡ 0 = omega arith in
       rw (sine_high (n / 2) E (n / 2) (omega arith), e, none, dct_middle (n / 4) D (n / 4 - n / 2 + (n / 2 - n / 4)) (omega arith))
 
--- what a turn makes of E(i) and D(j), which it reads from `after`
+-- E(i) and D(j) as a turn reads them from `after`: they are as they were, and small
 pub record JoinTurn (n at i j : ℕ) (before after : List ℤ) : Type 0 where
-  pub sum : Computes ◌+ℤ◌ (of_z w64 (even_at at after i)) (of_z w64 (odd_at n at after j)) (even_at at before i) (odd_at n at before j)
-  pub difference : Computes ◌-ℤ◌ (of_z w64 (even_at at after i)) (of_z w64 (odd_at n at after j))
-      (even_at at before i) (odd_at n at before j)
-  pub reversed : Computes ◌-ℤ◌ (of_z w64 (odd_at n at after j)) (of_z w64 (even_at at after i)) (odd_at n at before j) (even_at at before i)
+  pub even_is : even_at at after i ≡ even_at at before i
+  pub odd_is : odd_at n at after j ≡ odd_at n at before j
+  pub even_small : nat_abs (even_at at after i) ≤ 2 * largest_sum
+  pub odd_small : nat_abs (odd_at n at after j) ≤ 2 * largest_sum
 
 pub join_turn : {sums n at a c m : ℕ} {f : ℕ → ℤ} {before after : List ℤ} {spent : Tally} → JoinReady sums n at before spent
     → Ends (pos 0) at a c m f before after → (i j : ℕ) → (a ≤ i) × (i + c < m) × (m ≤ n / 2 + 1) × (i < n / 4) × (j < n / 4)
-    → mag (even_at at after i) < 2 ^ 63 → mag (odd_at n at after j) < 2 ^ 63 → JoinTurn n at i j before after
-join_turn {n = n} {at} r run i j h u v =
-    let E = held u (run.between i h.0 h.1) in
-    let D = held v (run.high (at + n / 2 + 1 + j) (omega arith)) in
-    let e = r.even_small i (omega arith) in
-    let d = r.odd_small j h.4 in
-    record { sum = added E D e d; difference = subtracted E D e d; reversed = subtracted D E d e }
+    → JoinTurn n at i j before after
+join_turn {n = n} {at} r run i j h =
+    let e = run.between i h.0 h.1 in
+    let d = run.high (at + n / 2 + 1 + j) (omega arith) in
+    record { even_is = e; odd_is = d; even_small = rw e (r.even_small i (omega arith)); odd_small = rw d (r.odd_small j h.4) }

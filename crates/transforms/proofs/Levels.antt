@@ -2,21 +2,24 @@
 -- is lent to a transform.
 -- Assumes nothing.
 use mathlib.Core.Path.{◌≡◌, sym, ap, ◌∙◌}
+use mathlib.Core.Bool.{true}
 use mathlib.Core.List.{List}
+use mathlib.Core.Logic.{⊎_elim}
 use Prim.Native.Nat.{ℕ, suc, ◌+◌, ◌/◌, ◌^◌, ◌≤◌, ◌<◌}
 use native.Mathlib.Nat.{mul-le-mul_right}
 use native.Mathlib.Omega.{arith}
 use lib.IntN.{ℤ, nat_abs}
 use lib.ListN.{length}
+use Rattle.whole.proofs.Cases.{le_or_lt}
 use Rattle.words.specs.Words.{Samples, word}
 use Rattle.words.proofs.Parts.{part, back, back_length, back_front, back_at}
-use Rattle.lengths.specs.Block.{level, largest_sum}
+use Rattle.lengths.specs.Block.{is_length, level, largest_sum}
 use Rattle.ffct.specs.Transforms.{Transform}
 use Rattle.lengths.proofs.Lengths.{len}
 use Rattle.lengths.proofs.ElevenLengths.{as_len, level_le, length_pos, next_length}
 use Rattle.ffct.proofs.Sizes.{Inner, share_inner}
 use Rattle.counts.specs.declared.tally.Tally.{Tally}
-use Rattle.transforms.specs.Steps.{Ready, Gives, DftReady, DftDone, DctReady, DctDone}
+use Rattle.transforms.specs.Steps.{Ready, Gives}
 
 module _ {n : ℕ} {x : Samples} (r : Ready n x) where
   -- the inner transform of ffct's laws
@@ -43,20 +46,17 @@ lent {b = b} {before = before} {p = p} h g = record {
   len = back_length b before p h g.len;
 }
 
--- ---- the branches over short lengths: a length above 2^L and at most the next is the next, and a transform at that numeral is the one
--- that is asked for
-module _ (L : ℕ) {n : ℕ} {w : List ℤ} {spent : Tally} (above : 2 ^ L < n) (below : n ≤ 2 ^ suc L) where
-  module _ {transform : ℕ → Samples → Transform} {s at : ℕ} (r : DftReady transform n s at w spent) where
-    pub dft_branch : DftReady transform (2 ^ suc L) s at w spent
-    dft_branch = rw (next_length L n r.ready.length_ok above below) at r
+-- ---- a length up to 32 that is none of the first five is 32
+longer : {n : ℕ} (L : ℕ) → is_length n ≡ true → (n ≡ 2 ^ L → ⊥) → 2 ^ L ≤ n → 2 ^ suc L ≤ n
+longer {n} L ok other h = ⊎_elim
+    (λ above. above)
+    (λ below. let next = next_length L n ok (omega arith) (omega arith) in omega arith)
+    (le_or_lt (2 ^ suc L) n)
 
-    pub dft_branch_done : {v : List ℤ} {total : Tally} → DftDone transform (2 ^ suc L) s at w v spent total →
-        DftDone transform n s at w v spent total
-    dft_branch_done d = rw (next_length L n r.ready.length_ok above below) d
+abbrev pub NoneOfFive : ℕ → Type 0
+NoneOfFive n = (n ≡ 1 → ⊥) × (n ≡ 2 → ⊥) × (n ≡ 4 → ⊥) × (n ≡ 8 → ⊥) × (n ≡ 16 → ⊥)
 
-  module _ (r : DctReady n w spent) where
-    pub dct_branch : DctReady (2 ^ suc L) w spent
-    dct_branch = rw (next_length L n r.ready.length_ok above below) at r
-
-    pub dct_branch_done : {v : List ℤ} {total : Tally} → DctDone (2 ^ suc L) w v spent total → DctDone n w v spent total
-    dct_branch_done d = rw (next_length L n r.ready.length_ok above below) d
+pub sixth : (n : ℕ) → is_length n ≡ true → n ≤ 32 → NoneOfFive n → n ≡ 32
+sixth n ok h o =
+    let above : 32 ≤ n = longer 4 ok o.4 (longer 3 ok o.3 (longer 2 ok o.2 (longer 1 ok o.1 (longer 0 ok o.0 (length_pos n ok))))) in
+    omega arith

@@ -5,3 +5,4 @@ pub mod Levels
 pub mod DftRuns
 pub mod DctRuns
 pub mod Bases
+pub mod Halves

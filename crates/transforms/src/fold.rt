@@ -1,49 +1,37 @@
 // The samples of which the steps of (12) and (15) take a DCT, made of a block in pairs and put behind it. In pairs, sample 2 i + 1 and
 // its mirror image are neighbours.
-ghost use Rattle.std.specs.Prelude.{◌+◌, ◌*◌, ◌/◌, ◌≡◌};
-ghost use Rattle.ffct.specs.Transforms.{folded_sums, folded_differences};
-ghost use Rattle.transforms.specs.Steps.{FoldReady, Folded, DifferenceReady, DifferencePut};
+ghost use Rattle.std.specs.Prelude.{◌≡◌, ◌≤◌, ◌+◌, ◌*◌, ◌/◌, nat_abs};
+ghost use Rattle.lengths.specs.Block.{largest_sum};
+ghost use Rattle.ffct.specs.Transforms.{alternate, folded_sums, folded_differences};
+ghost use Rattle.transforms.specs.Steps.{FoldReady, Folded};
 
 use counts::tally::Tally;
 
-// x2 of (12): each odd sample and its mirror image added.
+// x2 of (12): each odd sample and its mirror image added. (By index, here and below: the samples stand in strides of w itself.)
 pub fn put_folded_sums(w: &mut [i64], n: usize, stride: usize, b: usize, spent: Tally) -> Tally
     requires { FoldReady n stride b w.old spent }
     ensures { Folded folded_sums n stride b w.old w.new spent result }
 {
     let mut sums = spent.sums;
-    let mut i = 0;
-    while i < n / 4 {
+    for i in 0..n / 4 {
         let p = 2 * stride * (2 * i + 1);
-        let x = w[p];
-        let y = w[p - 1];
-        w[b + i] = x + y;
+        w[b + i] = w[p] + w[p - 1];
         sums += 1;
-        i += 1;
     }
-    Tally {
-        products: spent.products,
-        sums: sums,
-        largest_rest: spent.largest_rest,
-    }
+    Tally { sums, ..spent }
 }
 
-// The word at x less the word at y.
-pub fn put_difference(w: &mut [i64], x: usize, y: usize, place: usize, spent: Tally) -> Tally
-    requires { DifferenceReady x y place w.old spent }
-    ensures { DifferencePut x y place w.old w.new spent result }
+// (-1)^n z.
+#[tactic(auto, using(ffct::proofs::Alternate::alternate_even, ffct::proofs::Alternate::alternate_odd))]
+fn alternate(n: usize, z: i64) -> i64
+    requires { nat_abs z ≤ 2 * largest_sum }
+    ensures { result ≡ alternate n z }
 {
-    let first = w[x];
-    let second = w[y];
-    w[place] = first - second;
-    Tally {
-        products: spent.products,
-        sums: spent.sums + 1,
-        largest_rest: spent.largest_rest,
-    }
+    if n % 2 == 0 { z } else { -z }
 }
 
-// x3 of (15): each odd sample less its mirror image, with alternating sign; two at a time, n being a multiple of 8.
+// x3 of (15): each odd sample less its mirror image, with alternating sign. One loop for both folds, with a closure for what it makes of
+// two samples, would have a contract longer than the loop.
 pub fn put_folded_differences(
     w: &mut [i64],
     n: usize,
@@ -51,18 +39,17 @@ pub fn put_folded_differences(
     b: usize,
     spent: Tally,
 ) -> Tally
-    requires { FoldReady n stride b w.old spent × (8 * (n / 8) ≡ n) }
+    requires { FoldReady n stride b w.old spent }
     ensures { Folded folded_differences n stride b w.old w.new spent result }
 {
-    let mut tally = spent;
-    let mut i = 0;
-    while i < n / 4 {
+    let mut differences = 0;
+    for i in 0..n / 4 {
         let p = 2 * stride * (2 * i + 1);
-        let even = put_difference(w, p, p - 1, b + i, tally);
-        let j = i + 1;
-        let q = 2 * stride * (2 * j + 1);
-        tally = put_difference(w, q - 1, q, b + j, even);
-        i += 2;
+        w[b + i] = alternate(i, w[p] - w[p - 1]);
+        differences += 1;
     }
-    tally
+    Tally {
+        sums: spent.sums + differences,
+        ..spent
+    }
 }

@@ -1,5 +1,6 @@
 // The joins: the coefficients of a cosine- or sine-DFT of n samples at `at`, from those of its even samples, E, at the same place and
-// those of the DCT, D, behind the result. A sum with a term that is zero for every block is not made.
+// those of the DCT, D, behind the result. A sum with a term that is zero for every block is not made. (The loops go by index: what they
+// read and write stands in one w, from both ends.)
 ghost use Rattle.std.specs.Prelude.{◌≡◌, ◌-◌, ◌/◌, pos};
 ghost use Rattle.transforms.specs.Steps.{even_at, cosine_join, sine_join, JoinReady, Joined};
 
@@ -13,21 +14,15 @@ pub fn join_cosine(w: &mut [i64], n: usize, at: usize, spent: Tally) -> Tally
     let h = n / 2;
     let b = at + h + 1;
     let mut sums = spent.sums;
-    let mut k = 0;
-    while k < n / 4 {
+    for k in 0..n / 4 {
         let e = w[at + k];
         let d = w[b + k];
         w[at + k] = e + d;
         sums += 1;
         w[at + (h - k)] = e - d;
         sums += 1;
-        k += 1;
     }
-    Tally {
-        products: spent.products,
-        sums: sums,
-        largest_rest: spent.largest_rest,
-    }
+    Tally { sums, ..spent }
 }
 
 // (15): E(k) + D(n / 4 - k) at k and D(n / 4 - k) - E(k) at n / 2 - k. The coefficients 0 and n / 2 are zero, and E has no part in the
@@ -40,22 +35,15 @@ pub fn join_sine(w: &mut [i64], n: usize, at: usize, spent: Tally) -> Tally
     let h = n / 2;
     let b = at + h + 1;
     let mut sums = spent.sums;
-    let mut k = 1;
-    while k < q {
+    for k in 1..q {
         let e = w[at + k];
         let d = w[b + (q - k)];
         w[at + k] = e + d;
         sums += 1;
         w[at + (h - k)] = d - e;
         sums += 1;
-        k += 1;
     }
-    let d = w[b];
-    w[at + q] = d;
+    w[at + q] = w[b];
     w[at + h] = 0;
-    Tally {
-        products: spent.products,
-        sums: sums,
-        largest_rest: spent.largest_rest,
-    }
+    Tally { sums, ..spent }
 }

@@ -1,7 +1,7 @@
 #![tactic(auto)]
 
-// Whole numbers: the rounding of documents 01 and 02, and sizes. The laws over whole numbers that the other crates cite are in proofs/.
-ghost use Rattle.std.specs.Prelude.{◌≡◌, ◌^◌, ◌≤◌, max, nat_abs};
+// Whole numbers: the rounding of documents 01 and 02. The laws over whole numbers that the other crates cite are in proofs/.
+ghost use Rattle.std.specs.Prelude.{◌≡◌, ◌^◌, ◌≤◌, nat_abs};
 ghost use Rattle.whole.specs.Round.{round as rounded, rest as rest_of};
 
 // A rounded number and its rest.
@@ -19,35 +19,7 @@ pub fn round(v: i64) -> Rounded
 {
     let value = (v + 536870912) >> 30;
     Rounded {
-        value: value,
+        value,
         rest: v - 1073741824 * value,
     }
-}
-
-// The size of a number, without sign.
-pub fn size_of(z: i64) -> u64
-    requires { nat_abs z ≤ 2 ^ 62 }
-    ensures { result ≡ nat_abs z }
-{
-    if z < 0 {
-        return (-z) as u64;
-    }
-    z as u64
-}
-
-// The same of a number of 32 bits.
-pub fn size_of_small(x: i32) -> u64
-    ensures { result ≡ nat_abs x }
-{
-    size_of(x as i64)
-}
-
-// The larger of two numbers.
-pub fn larger(a: u64, b: u64) -> u64
-    ensures { result ≡ max a b }
-{
-    if a < b {
-        return b;
-    }
-    a
 }

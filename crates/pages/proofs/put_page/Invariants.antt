@@ -1,11 +1,7 @@
 -- When the loop of `pages::put_page` comes to k, the lines before it are put behind the heading.
-use Prim.Native.Nat.{◌-◌, ◌≤◌}
 use Rattle.words.specs.Words.{word}
 use Rattle.pages.proofs.Lines.{LinesPut}
 use Rattle.pages.proofs.put_page.Given as goal
 
 abbrev pub invariant-loop-k : goal.invariant-loop-k
-invariant-loop-k l = (l.k ≤ l.yields) × LinesPut (word l.cosine) (word l.sine) l.k l.initial.page l.initial.next l.next l.page
-
-abbrev pub decreases-loop-k : goal.decreases-loop-k
-decreases-loop-k l = l.yields - l.k
+invariant-loop-k l = LinesPut (word l.cosine) (word l.sine) l.k l.initial.page l.initial.next l.next l.page

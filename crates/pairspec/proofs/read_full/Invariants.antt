@@ -1,9 +1,9 @@
 -- `pairspec::read_full` ends, since each turn leaves less room.
-use Rattle.std.proofs.Common.{◌-◌, ◌≤◌, length}
+use Rattle.std.proofs.Common.{◌≤◌, length}
 use Rattle.pairspec.proofs.read_full.Given as goal
 
-abbrev pub invariant-loop-done : goal.invariant-loop-done
-invariant-loop-done g l = l.done ≤ length l.buffer
+abbrev pub invariant-loop-input : goal.invariant-loop-input
+invariant-loop-input g l = length l.rest ≤ l.size
 
-abbrev pub decreases-loop-done : goal.decreases-loop-done
-decreases-loop-done g l = length l.buffer - l.done
+abbrev pub decreases-loop-input : goal.decreases-loop-input
+decreases-loop-input g l = length l.rest

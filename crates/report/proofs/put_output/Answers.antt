@@ -5,26 +5,13 @@ use Rattle.report.proofs.put_output.Goals as goal
 pub put_spectra-requires : goal.put_spectra-requires
 put_spectra-requires c =
     let (of_a, of_b, real, imaginary, scratch, room) = c.requires in
-    let r = c.read-answer.ensures in
-    let is = c.in-Read.is in
+    let r = c.read.ensures in
+    let is = c.in-Ok.is in
     (spectra_ready _ _ _ _ _ _ r of_a of_b _ is real imaginary scratch, spectra_room _ _ _ _ _ _ r of_a of_b _ is _ room)
 
-pub returns-in-Refused : goal.returns-in-Refused
-returns-in-Refused c =
-    refusal_put
-    _
-    _
-    _
-    _
-    _
-    _
-    c.read-answer.ensures
-    c.requires.0
-    c.requires.1
-    c.in-Refused.is
-    c.number_of.ensures
-    c.put_refusal.ensures
+pub returns-in-Err : goal.returns-in-Err
+returns-in-Err c =
+    refusal_put _ _ _ _ _ _ c.read.ensures c.requires.0 c.requires.1 c.in-Err.is c.from.ensures c.put_refusal.ensures
 
-pub returns-in-Read : goal.returns-in-Read
-returns-in-Read c =
-    spectra_put _ _ _ _ _ _ c.read-answer.ensures c.requires.0 c.requires.1 _ c.in-Read.is c.put_spectra.ensures
+pub returns-in-Ok : goal.returns-in-Ok
+returns-in-Ok c = spectra_put _ _ _ _ _ _ c.read.ensures c.requires.0 c.requires.1 _ c.in-Ok.is c.put_spectra.ensures

@@ -1,9 +1,6 @@
 -- `text::columns::put_column` meets its contract: the digits of the number, in their column. Assumes nothing.
-use Rattle.text.proofs.Alignment.{digits_ready, end_ready, column_put}
+use Rattle.text.proofs.Alignment.{end_ready, column_put}
 use Rattle.text.proofs.columns.put_column.Goals as goal
-
-pub put_decimal-count-requires : goal.put_decimal-count-requires
-put_decimal-count-requires c = digits_ready c.args.x c.ranges.x
 
 pub put-requires : goal.put-requires
 put-requires c =

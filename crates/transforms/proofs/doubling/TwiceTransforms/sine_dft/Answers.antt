@@ -1,0 +1,33 @@
+use Rattle.std.proofs.Common.{arith}
+use Rattle.lengths.proofs.ElevenLengths.{length_le}
+use Rattle.transforms.proofs.DftRuns.{sine_kind}
+use Rattle.transforms.proofs.Halves.{stride_below, even_ready, fold_ready, odd_ready, dft_ends, sine_join_ready}
+use Rattle.transforms.proofs.doubling.TwiceTransforms.sine_dft.Goals as goal
+
+pub length-n-requires : goal.length-n-requires
+length-n-requires g c = length_le _ c.requires.ready.length_ok
+
+pub overflow_mul-stride : goal.overflow_mul-stride
+overflow_mul-stride g c = omega (arith, stride_below c.requires c.length-n.ensures g.met.H.Transforms.some sine_kind)
+
+pub sine_dft-even-requires : goal.sine_dft-even-requires
+sine_dft-even-requires g c = even_ready c.requires c.length-n.ensures g.met.H.Transforms.some sine_kind
+
+pub put_folded_differences-folded-requires : goal.put_folded_differences-folded-requires
+put_folded_differences-folded-requires g c =
+    fold_ready c.requires c.length-n.ensures g.met.H.Transforms.some sine_kind c.sine_dft-even.ensures
+
+pub half_dct-odd-requires : goal.half_dct-odd-requires
+half_dct-odd-requires g c =
+    odd_ready c.requires c.length-n.ensures g.met.H.Transforms.some sine_kind c.sine_dft-even.ensures
+    c.put_folded_differences-folded.ensures
+
+pub join_sine-requires : goal.join_sine-requires
+join_sine-requires g c =
+    sine_join_ready c.requires c.length-n.ensures g.met.H.Transforms.some c.sine_dft-even.ensures
+    c.put_folded_differences-folded.ensures c.half_dct-odd.ensures
+
+pub returns : goal.returns
+returns g c =
+    dft_ends c.requires c.length-n.ensures g.met.H.Transforms.some sine_kind c.sine_dft-even.ensures c.put_folded_differences-folded.ensures
+    c.half_dct-odd.ensures c.join_sine.ensures

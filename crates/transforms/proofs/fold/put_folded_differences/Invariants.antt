@@ -1,0 +1,12 @@
+use Rattle.std.proofs.Common.{◌/◌, ◌≡◌, pos}
+use Rattle.words.specs.Words.{word}
+use Rattle.words.proofs.Writing.{Ends}
+use Rattle.ffct.specs.Transforms.{folded_differences}
+use Rattle.transforms.specs.Pairs.{paired}
+use Rattle.transforms.proofs.fold.put_folded_differences.Given as goal
+
+-- the first i differences are put and tallied, and the block is as it was
+abbrev pub invariant-loop-i : goal.invariant-loop-i
+invariant-loop-i l =
+    (l.differences ≡ l.i)
+    × Ends (pos 0) l.b l.i 0 (l.n / 4) (folded_differences l.n (paired l.n l.stride (word l.initial.w))) l.initial.w l.w
