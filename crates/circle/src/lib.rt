@@ -9,7 +9,7 @@ ghost use Rattle.circle.specs.Circle.{T, IsQuarterWave};
 use crate::table::QUARTER_WAVE;
 
 // The whole quarter wave: made once by a call and lent to what reads it, since a constant array is built anew wherever it is indexed.
-#[derive(Drop)]
+#[derive(Clone, Copy)]
 pub struct QuarterWave {
     pub entries: [i32; 1025],
     pub ghost is_quarter_wave: { IsQuarterWave entries },

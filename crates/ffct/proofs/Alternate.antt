@@ -1,9 +1,11 @@
 -- The sign (-1)^n: `alternate n z` is z where n is even and -z where n is odd.
 -- Assumes nothing.
-use mathlib.Core.Path.{◌≡◌, refl, ◌∙◌}
+use mathlib.Core.Path.{◌≡◌, refl, sym, ◌∙◌}
 use Prim.Native.Nat.{ℕ, zero, suc, ◌%◌}
 use native.Mathlib.Omega.{arith}
-use lib.IntN.{ℤ, neg_ℤ, neg_ℤ-neg_ℤ}
+use lib.IntN.{ℤ, neg_ℤ, neg_ℤ-neg_ℤ, ◌-ℤ◌}
+use Rattle.whole.proofs.Difference.{parts, diff}
+use Rattle.whole.proofs.Size.{near}
 use Rattle.ffct.specs.Transforms.{alternate}
 
 pub alternate_even : (n : ℕ) (z : ℤ) → n % 2 ≡ 0 → alternate n z ≡ z
@@ -17,3 +19,10 @@ unfolding alternate
 alternate_odd zero z o = absurd (o refl)
 alternate_odd (suc zero) z o = refl
 alternate_odd (suc (suc n)) z o = neg_ℤ-neg_ℤ (alternate n z) ∙ alternate_odd n z (omega arith)
+
+-- at odd n it turns a difference round
+pub alternate_turned : (n : ℕ) (x y : ℤ) → n % 2 ≡ 1 → y -ℤ x ≡ alternate n (x -ℤ y)
+alternate_turned n x y o = opposite ∙ sym (alternate_odd n (x -ℤ y) (λ e. omega arith))
+  where
+    opposite : y -ℤ x ≡ neg_ℤ (x -ℤ y)
+    opposite = rw (parts x, parts y) (simp diff (omega near))

@@ -173,7 +173,14 @@ unfolding int
 orthogonal L m n l hm hn =
     record { same = λ e. within_size (same_near L m n l hm hn e); other = λ o. within_size (other_near L m n l hm hn (λ e. omega arith)) }
 
--- ---- the inverse of exact sums is additive
+-- ---- exact sums are additive, and so is their inverse
+pub dct_sub : (N : ℕ) (x y : Samples) (k : ℕ) → exact_dct N (λ n. x n -ℤ y n) k ≡ exact_dct N x k -ℤ exact_dct N y k
+unfolding exact_dct
+dct_sub N x y k = sum_cong N _ _ (λ n h. out (x n) (y n) (K ((2 * n + 1) * k * 1024 / N))) ∙ sum_sub N _ _
+  where
+    out : (x y z : ℤ) → (x -ℤ y) *ℤ z ≡ x *ℤ z -ℤ y *ℤ z
+    out x y z = simp expand
+
 pub inverse_add : (N : ℕ) (E e : ℕ → ℤ) (n : ℕ) → exact_inverse N (λ k. E k +ℤ e k) n ≡ exact_inverse N E n +ℤ exact_inverse N e n
 unfolding exact_inverse
 inverse_add N E e n =

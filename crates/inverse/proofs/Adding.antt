@@ -1,7 +1,7 @@
 -- Sums that are kept in two words. Of a product that is added the floor over 2^30 goes to the high word and the rest to the low one; all
 -- fit. Then the sum of every other product, as a loop makes it, with the place that goes on by a step.
 -- Assumes nothing.
-use mathlib.Core.Path.{◌≡◌, refl, sym, ap, ap₂, ◌∙◌}
+use mathlib.Core.Path.{◌≡◌, refl, sym, ap, ap₂, subst, ◌∙◌}
 use mathlib.Core.List.{List, ◌++◌}
 use Prim.Native.Nat.{ℕ, zero, suc, ◌+◌, ◌*◌, ◌/◌, ◌%◌, ◌^◌, ◌≤◌, ◌<◌}
 use native.Mathlib.Numerals.{add-one}
@@ -195,6 +195,9 @@ module _ {first turn : ℕ} {cs : List ℤ} where
     pub sum_more : {sum' : Sum} → Added sum x y sum' → SumMade (i + 1) first turn cs sum'
     unfolding total
     sum_more a = record { is = rw add-one (a.is ∙ ap₂ ◌+ℤ◌ made.is (ap₂ ◌*ℤ◌ c t)); size = a.grows i made.size }
+
+  pub sum_all : {i m : ℕ} {sum : Sum} → SumMade i first turn cs sum → i ≡ m → SumMade m first turn cs sum
+  sum_all {sum = sum} made e = subst (λ n. SumMade n first turn cs sum) e made
 
 -- ---- the coefficients in pairs: i pairs are gone, the rest is to come, and its first pair is next
 pub record Turned (i : ℕ) (cs pair rest : List ℤ) : Type 0 where

@@ -18,6 +18,13 @@ pub len_pos : (L : ℕ) → 0 < len L
 len_pos zero = omega arith
 len_pos (suc L) = omega (arith, len_pos L)
 
+-- the level of a length
+pub len_injective : (L M : ℕ) → len L ≡ len M → L ≡ M
+len_injective zero zero e = refl
+len_injective zero (suc M) e = absurd (omega (arith, len_pos M))
+len_injective (suc L) zero e = absurd (omega (arith, len_pos L))
+len_injective (suc L) (suc M) e = ap suc (len_injective L M (omega arith))
+
 -- 1,024 is a multiple of each length
 unfoldable pub per : ℕ → ℕ
 per L = len (top_level - L)

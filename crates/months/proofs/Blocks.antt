@@ -20,6 +20,22 @@ pub record BothAdded (N : ℕ) (c s account account' : List ℤ) : Type 0 where
   pub long : length account ≡ account_words
   pub len : length account' ≡ length account
 
+pub both_added : {N : ℕ} {c s account between account' : List ℤ} → length account ≡ account_words → N ≤ 1024
+    → Written 1 (N / 2 + 1) (λ k. plus (word account (1 + k)) (word c k)) account between
+    → Written 514 (N / 2 + 1) (λ k. plus (word between (514 + k)) (word s k)) between account'
+    → BothAdded N c s account account'
+both_added {s = s} long short cosines sines = record {
+  number = sines.low 0 (omega arith) ∙ cosines.low 0 (omega arith);
+  cosine = λ k h. sines.low (1 + k) (omega arith) ∙ cosines.new k (omega arith);
+  sine = λ k h. sines.new k (omega arith) ∙ ap (λ z. plus z (word s k)) (cosines.high (514 + k) (omega arith));
+  beyond = λ k h l. (
+    sines.low (1 + k) (omega arith) ∙ cosines.high (1 + k) (omega arith),
+    sines.high (514 + k) (omega arith) ∙ cosines.high (514 + k) (omega arith),
+  );
+  long = long;
+  len = sines.len ∙ cosines.len;
+}
+
 -- the first m of the coefficients, as they are lent
 lent_added : {at m : ℕ} (c : List ℤ) {before after : List ℤ} → m ≤ length c
     → Written at (length (take m c)) (λ k. plus (word before (at + k)) (word (take m c) k)) before after
@@ -27,25 +43,13 @@ lent_added : {at m : ℕ} (c : List ℤ) {before after : List ℤ} → m ≤ len
 lent_added {at} {m} c {before} h w =
     written_same w (sym (length-take-le m c h)) (λ k l. ap (plus (word before (at + k))) (get_or-take m c k (pos 0) l))
 
-pub both_added : {N : ℕ} {c s account between account' : List ℤ} → length account ≡ account_words → N ≤ 1024
+pub both_lent : {N : ℕ} {c s account between account' : List ℤ} → length account ≡ account_words → N ≤ 1024
     → N / 2 + 1 ≤ length c → N / 2 + 1 ≤ length s
     → Written 1 (length (take (N / 2 + 1) c)) (λ k. plus (word account (1 + k)) (word (take (N / 2 + 1) c) k)) account between
     → Written 514 (length (take (N / 2 + 1) s)) (λ k. plus (word between (514 + k)) (word (take (N / 2 + 1) s) k)) between account'
     → BothAdded N c s account account'
-both_added {c = c} {s = s} long short c-long s-long c-added s-added =
-    let cosines = lent_added c c-long c-added in
-    let sines = lent_added s s-long s-added in
-    record {
-      number = sines.low 0 (omega arith) ∙ cosines.low 0 (omega arith);
-      cosine = λ k h. sines.low (1 + k) (omega arith) ∙ cosines.new k (omega arith);
-      sine = λ k h. sines.new k (omega arith) ∙ ap (λ z. plus z (word s k)) (cosines.high (514 + k) (omega arith));
-      beyond = λ k h l. (
-        sines.low (1 + k) (omega arith) ∙ cosines.high (1 + k) (omega arith),
-        sines.high (514 + k) (omega arith) ∙ cosines.high (514 + k) (omega arith),
-      );
-      long = long;
-      len = sines.len ∙ cosines.len;
-    }
+both_lent {c = c} {s = s} long short c-long s-long c-added s-added =
+    both_added long short (lent_added c c-long c-added) (lent_added s s-long s-added)
 
 -- ---- and the block number
 module _ {N : ℕ} {c s account account' : List ℤ} (b : BothAdded N c s account account') where

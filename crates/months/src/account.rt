@@ -84,7 +84,7 @@ fn add_sums(account: &mut [i64], at: usize, coefficients: &[i32])
 }
 
 // A block of which Spectrum has yielded the coefficients.
-#[tactic(auto, using(crate::proofs::Blocks::both_added, crate::proofs::Blocks::block_added))]
+#[tactic(auto, using(crate::proofs::Blocks::both_lent, crate::proofs::Blocks::block_added))]
 fn add_block(account: &mut [i64], length: usize, cosine: &[i32], sine: &[i32])
     requires { (List·length account.old ≡ account_words) × (length ≤ 1024)
         × (length / 2 + 1 ≤ List·length cosine.now) × (length / 2 + 1 ≤ List·length sine.now) × (full account.old ≡ false) }

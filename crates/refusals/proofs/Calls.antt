@@ -1,8 +1,8 @@
 -- The tests of a call: what is known of a call that passes them, and back; those on several recordings, from those on the first; the
 -- promise of a call that they turn down; and the same of a stored block.
 -- Assumes nothing.
-use mathlib.Core.Path.{◌≡◌, subst}
-use mathlib.Core.Bool.{true, not}
+use mathlib.Core.Path.{◌≡◌, refl, subst, ◌∙◌}
+use mathlib.Core.Bool.{Bool, true, false, not, cond}
 use mathlib.Core.List.{List, [], ◌∷◌}
 use Prim.Native.Nat.{ℕ, ◌+◌, min, ◌≤◌}
 use lib.Dec.{ltb}
@@ -54,18 +54,24 @@ is_accepted {call} p rest =
     (in_verdict call.start call.N rest call.samples p.range)
 
 -- ---- the tests of a call on several recordings, from those on the first; `shortest` stands for the lengths of its recordings, `room` for
--- those of its result buffers
+-- those of its result buffers, and the products need be the call's only where N is a length
+of_length : (b : Bool) (u v w : Verdict) → (b ≡ true → v ≡ w) → cond (not b) u v ≡ cond (not b) u w
+of_length true u v w e = e refl
+of_length false u v w e = refl
+
 module _ (call : Call) {x : Samples} {others : List Samples} (is : call.samples ≡ x ∷ others) (shortest room products : ℕ)
     (below : (n : ℕ) → some_below n call.lengths ≡ some_below n (shortest ∷ []))
     (short : (n : ℕ) → some_below n call.results ≡ some_below n (room ∷ []))
-    (spends : products ≡ call.products) where
+    (spends : is_length call.N ≡ true → products ≡ call.products) where
   pub by_first : {tested : Result ⊤ Refusal}
       → Tells (tests (one_recording x shortest call.start call.N call.allowance room call.yields call.scratch products))
       tested
       → (rest : Verdict) → tests call rest ≡ behind tested (first_out_in others call.start call.N rest)
   unfolding tests
   by_first t rest =
-      rw (below (call.start + call.N), short call.yields, is, ← spends) (t.verdict (first_out_in others call.start call.N rest))
+      rw (below (call.start + call.N), short call.yields, is)
+      (of_length (is_length call.N) _ _ _ (λ h. rw (spends h)))
+      ∙ t.verdict (first_out_in others call.start call.N rest)
 
 -- a call that its tests accept passes them
 pub accepted_by : {call : Call} {u : ⊤} → Tells (tests call) (Ok u) → Passes call

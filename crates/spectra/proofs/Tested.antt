@@ -34,7 +34,7 @@ module _ (start N allowance : ℕ) {counts : Counts} (p : CountsPromise N (Ok co
       → Tells (tests (cosine_call recording start N allowance coefficients scratch)) tested
   cosine_tested recording coefficients scratch t =
       let call = cosine_call recording start N allowance coefficients scratch in
-      record { verdict = by_first call refl _ _ _ (λ n. refl) (λ n. refl) ((p.counted refl).0.of_dct.products _) t }
+      record { verdict = by_first call refl _ _ _ (λ n. refl) (λ n. refl) (λ h. (p.counted refl).0.of_dct.products _) t }
 
   pub spectrum_tested : (recording cosine sine scratch : List ℤ) {room : ℕ} {tested : Result ⊤ Refusal}
       → room ≡ min (length cosine) (length sine)
@@ -43,7 +43,7 @@ module _ (start N allowance : ℕ) {counts : Counts} (p : CountsPromise N (Ok co
       → Tells (tests (spectrum_call recording start N allowance (buffers cosine sine scratch))) tested
   spectrum_tested recording cosine sine scratch room t =
       let call = spectrum_call recording start N allowance (buffers cosine sine scratch) in
-      record { verdict = by_first call refl _ _ _ (λ n. refl) (two_below _ _ room) ((p.counted refl).0.of_spectrum _).0 t }
+      record { verdict = by_first call refl _ _ _ (λ n. refl) (two_below _ _ room) (λ h. ((p.counted refl).0.of_spectrum _).0) t }
 
   -- ---- Pair: behind the tests on a, 6 on b
   module _ (a b real imaginary scratch : List ℤ) {shortest room : ℕ}
@@ -58,7 +58,7 @@ module _ (start N allowance : ℕ) {counts : Counts} (p : CountsPromise N (Ok co
         → tests on_both rest ≡ behind tested (first_out_or (word b) start N rest)
     told t =
         by_first on_both refl _ _ _ (two_below _ _ is-shortest) (two_below _ _ is-room)
-        ((p.counted refl).0.of_pair _ _).0 t
+        (λ h. ((p.counted refl).0.of_pair _ _).0) t
 
     pub pair_refused : {refusal : Refusal} → Tells (tests on_a) (Err refusal) → Tells (tests on_both) (Err refusal)
     pair_refused t = record { verdict = told t }

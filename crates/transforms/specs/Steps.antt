@@ -1,7 +1,7 @@
 -- What the functions of this crate ask and promise: each step its values, its counts and its largest rest together, by the definitions of
 -- the crate ffct.
 -- `spent` is the tally that a function is handed, `total` the one that it gives back.
-use Rattle.std.specs.Prelude.{true, List, ◌≡◌, ℕ, ◌+◌, ◌-◌, ◌*◌, ◌/◌, ◌≤◌, ◌<◌, min, ℤ, nat_abs, ◌+ℤ◌, length}
+use Rattle.std.specs.Prelude.{true, List, ◌≡◌, ℕ, ◌+◌, ◌-◌, ◌*◌, ◌/◌, ◌≤◌, ◌<◌, min, ℤ, nat_abs, ◌+ℤ◌, ◌-ℤ◌, length}
 use Rattle.words.specs.Words.{Samples, word, Written}
 use Rattle.lengths.specs.Block.{is_length, level, largest_sum}
 use Rattle.ffct.specs.Transforms.{Transform, dct, cosine_beyond, sine_beyond, dct_beyond, apart}
@@ -71,6 +71,19 @@ pub record FoldReady (n s b : ℕ) (words : List ℤ) (spent : Tally) : Type 0 w
 pub record Folded (fold : ℕ → Samples → Samples) (n s b : ℕ) (before after : List ℤ) (spent total : Tally) : Type 0 where
   pub words : Written b (n / 4) (fold n (paired n s (word before))) before after
   pub tallied : Summed (n / 4) spent total
+
+-- the word at x less the word at y, put at a place behind them
+pub record DifferenceReady (x y place : ℕ) (words : List ℤ) (spent : Tally) : Type 0 where
+  pub x_below : x < place
+  pub y_below : y < place
+  pub fits : place < length words
+  pub x_small : nat_abs (word words x) ≤ largest_sum
+  pub y_small : nat_abs (word words y) ≤ largest_sum
+  pub room : HasRoom 0 1 spent
+
+pub record DifferencePut (x y place : ℕ) (before after : List ℤ) (spent total : Tally) : Type 0 where
+  pub words : Written place 1 (λ k. word before x -ℤ word before y) before after
+  pub tallied : Summed 1 spent total
 
 -- ---- the joins of (12) and (15): the coefficients E of the even samples stand at `at` .. at + n/4, those of the DCT, D, from at + n/2 +
 -- 1 on; what they make stands at `at` .. at + n/2

@@ -3,7 +3,7 @@
 ghost use Rattle.std.specs.Prelude.{◌≡◌, ◌≤◌, ◌+◌, ◌*◌, ◌/◌, nat_abs};
 ghost use Rattle.lengths.specs.Block.{largest_sum};
 ghost use Rattle.ffct.specs.Transforms.{alternate, folded_sums, folded_differences};
-ghost use Rattle.transforms.specs.Steps.{FoldReady, Folded};
+ghost use Rattle.transforms.specs.Steps.{FoldReady, Folded, DifferenceReady, DifferencePut};
 
 use counts::tally::Tally;
 
@@ -19,6 +19,19 @@ pub fn put_folded_sums(w: &mut [i64], n: usize, stride: usize, b: usize, spent: 
         sums += 1;
     }
     Tally { sums, ..spent }
+}
+
+// The word at x less the word at y, put at a place behind them: one difference alone. (The loop below makes n / 4, with their sign.)
+#[tactic(auto, using(words::proofs::Writing::written_one))]
+pub fn put_difference(w: &mut [i64], x: usize, y: usize, place: usize, spent: Tally) -> Tally
+    requires { DifferenceReady x y place w.old spent }
+    ensures { DifferencePut x y place w.old w.new spent result }
+{
+    w[place] = w[x] - w[y];
+    Tally {
+        sums: spent.sums + 1,
+        ..spent
+    }
 }
 
 // (-1)^n z.

@@ -1,17 +1,17 @@
 -- Signed machine words. A local of a signed type holds bits, `of_z w x`, and an operation reads them, `to_z w p`: what comes out
 -- of an operation whose result fits is the result on the numbers.
 -- Assumes nothing.
-use mathlib.Core.Path.{◌≡◌, ◌∙◌}
+use mathlib.Core.Path.{◌≡◌, refl, ◌∙◌}
 use mathlib.Core.Bool.{true, false, true≢false}
 use Prim.Native.Nat.{ℕ, suc, ◌+◌, ◌-◌, ◌^◌, ◌<◌}
 use native.Mathlib.Nat.{lt_of_le_of_lt}
 use native.Mathlib.Omega.{arith}
-use lib.Dec.{T}
+use lib.Dec.{T, leb}
 use lib.IntN.{ℤ, pos, negsuc, nat_abs, neg_ℤ, ◌-ℤ◌, +ℤ_idl}
 use lib.Signed.{shr_z, lt_z, non_neg, mag, mag_shr}
 use mir.Syntax.{Width, w32, w64}
-use mir.Val.{SFits, to_z, of_z}
-use mir.Facts.{to_z-of_z}
+use mir.Val.{SFits, hbits, to_z, of_z}
+use mir.Facts.{to_z-of_z, sfits_widen}
 use borrow.Author.Rules.{sfits_of}
 use borrow.Author.Tests.{ltb-true, lt-ltb}
 
@@ -52,6 +52,14 @@ module _ {w : Width} {p : ℕ} {x : ℤ} (a : Word w p x) (f : SFits w (neg_ℤ 
 pub shifted : {w : Width} {p : ℕ} {x : ℤ} (m : ℕ) → Word w p x → Word w (of_z w (shr_z (to_z w p) m)) (shr_z x m)
 shifted {x = x} m a = rw a.is (word (record { sfits = lt_of_le_of_lt (mag_shr x m) a.fits.sfits }))
 
+-- a cast to a wider word: what it asks, and what it gives
+module _ {w w' : Width} (t : T (leb (hbits w) (hbits w'))) {p : ℕ} {x : ℤ} (a : Word w p x) where
+  pub widens : SFits w' (to_z w p)
+  widens = rw a.is (sfits_widen t a.fits)
+
+  pub widened : Word w' (of_z w' (to_z w p)) x
+  widened = rw a.is (word (sfits_widen t a.fits))
+
 -- a cast of 64 bits that hold a number which fits 32
 module _ {p : ℕ} {x : ℤ} (a : Word w64 p x) (f : SFits w32 x) where
   pub narrows : SFits w32 (to_z w64 p)
@@ -60,10 +68,26 @@ module _ {p : ℕ} {x : ℤ} (a : Word w64 p x) (f : SFits w32 x) where
   pub narrowed : to_z w32 (of_z w32 (to_z w64 p)) ≡ x
   narrowed = rw a.is (to_z-of_z f)
 
+-- a cast of 32 bits that were read to 64
+module _ (x : ℤ) (l : mag x < 2 ^ 31) where
+  half_word : Word w32 (of_z w32 x) x
+  half_word = word (sfits_of l)
+
+  pub read_widens : SFits w64 (to_z w32 (of_z w32 x))
+  read_widens = widens tt half_word
+
+  pub read_widened : Word w64 (of_z w64 (to_z w32 (of_z w32 x))) x
+  read_widened = widened tt half_word
+
 -- a test of the sign, as a cast to an unsigned word asks it (`Fits-nat_abs` of the library has the rest)
 pub not_negative : (x : ℤ) → lt_z x (pos 0) ≡ false → T (non_neg x)
 not_negative (pos n) e = tt
 not_negative (negsuc n) e = true≢false e
+
+-- a negative number turned round is its size
+pub negative_turned : (x : ℤ) → lt_z x (pos 0) ≡ true → neg_ℤ x ≡ pos (nat_abs x)
+negative_turned (pos n) h = absurd (omega (arith, ltb-true n 0 h))
+negative_turned (negsuc n) h = refl
 
 -- the complement of the bits of a negative number is one less than its size
 abbrev pub Turned : ℤ → Type 0

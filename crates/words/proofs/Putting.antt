@@ -1,17 +1,28 @@
 -- Bytes put into a lent buffer (`Put` of specs/Put): none, one, some behind others, and texts that are joined. Assumes nothing.
 use mathlib.Core.Path.{◌≡◌, refl, sym, ap₂, ◌∙◌}
-use mathlib.Core.List.{List, [], ◌++◌, append-nil, append_assoc}
+use mathlib.Core.List.{List, [], ◌∷◌, ◌++◌, append-nil, append_assoc}
 use Prim.Native.Nat.{ℕ, zero, suc, ◌+◌, ◌*◌, ◌≤◌, ◌<◌}
 use native.Mathlib.Omega.{arith}
 use native.Mathlib.Nat.{mul-suc}
 use native.Mathlib.Numerals.{add-one}
-use lib.ListN.{length, drop, length-append}
-use lib.Seq.{length-take-le, drop-drop}
+use lib.ListN.{length, drop, set, length-append, length-set}
+use lib.Seq.{length-take-le, take-suc-set, drop-set-lt, drop-drop}
 use Rattle.words.specs.Put.{Put, joined}
 
 pub put_none : {page : List ℕ} {at : ℕ} → at ≤ length page → Put page at [] at page
 put_none {page} {at} h =
     record { next_is = omega arith; front = sym (append-nil _); rest = refl; len = refl; room = h; counts = sym (length-take-le at page h) }
+
+pub put_byte : (page : List ℕ) (at byte : ℕ) → at < length page → Put page at (byte ∷ []) (at + 1) (set page at byte)
+put_byte page at byte h =
+    record {
+      next_is = refl;
+      front = rw (add-one, take-suc-set page at byte h);
+      rest = drop-set-lt (at + 1) page at byte (omega arith);
+      len = length-set page at byte;
+      room = omega (arith, length-set page at byte);
+      counts = sym (length-take-le (at + 1) (set page at byte) (omega (arith, length-set page at byte)));
+    }
 
 -- the rest behind a place is the rest behind a later one
 rest_later : (a b : List ℕ) (r m q : ℕ) → q ≡ r + m → drop r b ≡ drop r a → drop q b ≡ drop q a

@@ -4,6 +4,7 @@
 --     ends-front      one store more at the front; `ends_back` at the back
 --     ends-turn       one store more at each end
 --     ends-both       one element more at each end, which a call has written
+--     ends_more       one element more at the front, which a call has written
 --     ends-pass       one element more at the front, which held what it is to hold
 --     ends-all        when all are stored
 -- And of what is written:
@@ -45,6 +46,21 @@ ends_none = record {
   low = λ k h. refl;
   high = λ k h. refl;
   len = refl;
+}
+
+-- one element more at the front, which a call has written
+pub ends_more : {A : Type 0} {d : A} {b a c m i : ℕ} {f g : ℕ → A} {before between after : List A}
+    → (i ≡ b + a) × (a + c < m) → g 0 ≡ f a → Ends d b a c m f before between → WrittenOf d i 1 g between after →
+    Ends d b (a + 1) c m f before after
+ends_more {d = d} {b = b} {a = a} {i = i} {after = after} h e p w = record {
+  front = below_more _ _
+      (λ k l. w.low (b + k) (omega arith) ∙ p.front k l)
+      (ap (λ j. get_or after j d) {x = b + a} {y = i + 0} (omega arith) ∙ w.new 0 (omega arith) ∙ e);
+  back = λ k l o. w.high (b + k) (omega arith) ∙ p.back k l o;
+  between = λ k l o. w.high (b + k) (omega arith) ∙ p.between k (omega arith) o;
+  low = λ k l. w.low k (omega arith) ∙ p.low k l;
+  high = λ k l. w.high k (omega arith) ∙ p.high k l;
+  len = w.len ∙ p.len;
 }
 
 module _ {A : Type 0} {d : A} {b a c m : ℕ} {f : ℕ → A} {before after : List A} (p : Ends d b a c m f before after) where
